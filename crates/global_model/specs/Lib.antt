@@ -1,0 +1,10 @@
+pub mod Words
+pub mod Spelling
+pub mod Scenario
+pub mod Facts
+pub mod Space
+pub mod Refusals
+pub mod Due
+pub mod Lawful
+pub mod History
+pub mod Examples

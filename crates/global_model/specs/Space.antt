@@ -1,0 +1,68 @@
+-- The space of a process, the frames that are mapped, and those that are unused.
+use Rattle.std.specs.Prelude.{◌≡◌, ◌*◌, ◌/◌, ℕ, List, Bool, true, not, ◌&&◌, ◌==◌, Option, Some, filter, find, map, false}
+use Rattle.std.specs.List.{range_with_len, list_any}
+use Rattle.std.specs.Option.{option_map}
+use Rattle.xm_num.specs.declared.Frame.{Frame}
+use Rattle.xm_num.specs.declared.Block.{Block}
+use Rattle.xm_num.specs.declared.Access.{Access}
+use Rattle.xm_num.specs.declared.Access.TheVariants as accesses
+use Rattle.xm_num.specs.declared.Want.{Want}
+use Rattle.xm_num.specs.declared.Want.TheVariants as wants
+use Rattle.global_model.specs.Facts.{Facts, OwnPage, lives, is_living_enclave, is_free, is_lent_to}
+
+-- what a page is mapped to: a machine frame, and what it may be used for
+pub record Mapping : Type 0 where
+  pub frame : Frame
+  pub access : Access
+
+abbrev pub is_page_of : ℕ → ℕ → ℕ → OwnPage → Bool
+is_page_of e p page own = (own.enclave.0 == e) && (own.pid.0 == p) && (own.page == page)
+
+-- an own page may be read and written
+abbrev pub own_mapping : OwnPage → Mapping
+own_mapping own = record { frame = own.frame; access = accesses.ReadWrite }
+
+-- the space of a process: what each page is mapped to
+abbrev pub space_of : Facts → ℕ → ℕ → ℕ → Option Mapping
+space_of G e p page = option_map own_mapping (find (is_page_of e p page) G.own)
+
+-- the access allows what is wanted
+abbrev pub allows : Access → Want → Bool
+allows accesses.ReadOnly wants.Read = true
+allows accesses.ReadOnly wants.Write = false
+allows accesses.ReadWrite want = true
+
+-- some living process maps the frame
+pub record IsMapped (G : Facts) (frame : Frame) : Type 0 where
+  pub enclave : ℕ
+  pub pid : ℕ
+  pub page : ℕ
+  pub access : Access
+  pub living : lives G enclave pid ≡ true
+  pub mapped : space_of G enclave pid page ≡ Some (record { frame = frame; access = access })
+
+abbrev pub IsUnmapped : Facts → Frame → Type 0
+IsUnmapped G frame = IsMapped G frame → ⊥
+
+-- an own page of the enclave has the frame
+abbrev pub is_own_frame : Facts → ℕ → ℕ → Bool
+is_own_frame G e frame = list_any (λ own. (own.enclave.0 == e) && (own.frame.0 == frame)) G.own
+
+-- the enclave lives, the frame's block is lent to it, and no own page of it has the frame
+abbrev pub is_unused : Facts → ℕ → ℕ → Bool
+is_unused G e frame = is_living_enclave (G.enclave e) && is_lent_to e (G.block (frame / 64)) && not (is_own_frame G e frame)
+
+abbrev pub frame_list : List ℕ → List Frame
+frame_list frames = map (λ f. record { 0 = f }) frames
+
+-- the unused frames of an enclave, ascending
+abbrev pub unused_frames : Facts → ℕ → List Frame
+unused_frames G e = frame_list (filter (is_unused G e) (range_with_len 0 (64 * G.pool)))
+
+-- the frames of a block
+abbrev pub block_frames : Block → List Frame
+block_frames block = frame_list (range_with_len (64 * block.0) 64)
+
+-- the free blocks, ascending
+abbrev pub free_blocks : Facts → List Block
+free_blocks G = map (λ b. record { 0 = b }) (filter (λ b. is_free (G.block b)) (range_with_len 0 G.pool))

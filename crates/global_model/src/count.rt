@@ -1,0 +1,30 @@
+ghost use Rattle.std.specs.Prelude.{◌≡◌, ◌<◌, ◌^◌, length};
+ghost use Rattle.global_model.specs.Spelling.{command_words, line_words};
+
+use crate::{Command, Line};
+
+// How many words spell the command.
+fn count_of_command(command: &Command) -> u32
+    ensures { result ≡ length (command_words command.now) }
+{
+    match command {
+        Command::Pool { .. } => 2,
+        Command::Host { ns, .. } => if *ns { 3 } else { 2 },
+        Command::Proc { .. } => 4,
+        Command::Alloc { .. } | Command::Touch { .. } => 5,
+    }
+}
+
+/// How many words a line's spelling has.
+pub fn words(line: &Line) -> u32
+    requires { length (line_words line.now) < 2 ^ 32 }
+    ensures { result ≡ length (line_words line.now) }
+{
+    match line {
+        Line::Do { command } => 1 + count_of_command(command),
+        Line::Refused { .. } | Line::Admitted { .. } => 2,
+        Line::Born { blocks, .. } => 5 + blocks.len() as u32,
+        Line::Proc { .. } | Line::Touched { .. } => 5,
+        Line::Alloc { frames, .. } => 4 + frames.len() as u32,
+    }
+}

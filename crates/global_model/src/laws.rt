@@ -1,0 +1,35 @@
+// Laws of the definitions: each is the contract of a function with an empty body, which a crate above calls to have it.
+ghost use Rattle.std.specs.Prelude.{◌≡◌, ℕ, List, [], ◌∷◌, None, Some, codes};
+ghost use Rattle.global_model.specs.Examples.{Gives, text, smallest, smallest_journal, refused, refused_journal};
+ghost use Rattle.global_model.specs.declared.command.Command.{Command as Commands};
+ghost use Rattle.global_model.specs.declared.line.Line.{Line as JournalLine};
+ghost use Rattle.global_model.specs.Scenario.{IsPlaced, scenario_of};
+ghost use Rattle.global_model.specs.Due.{journal_of};
+ghost use Rattle.global_model.specs.History.{do_commands, IsLegal, IsTold, IsWhole};
+
+/// Exactly one journal is told and whole and has given commands in its `do` lines.
+pub fn one_journal()
+    ensures told { (commands : List Commands) → IsTold (journal_of commands) }
+    ensures whole { (commands : List Commands) → IsWhole (journal_of commands) }
+    ensures commands { (commands : List Commands) → do_commands (journal_of commands) ≡ commands }
+    ensures only { (journal : List JournalLine) → IsTold journal → IsWhole journal
+        → journal ≡ journal_of (do_commands journal) }
+{}
+
+/// The journal of commands, each of which may stand after those before it, is legal.
+pub fn journals_are_legal()
+    ensures { (commands : List Commands) → IsPlaced commands → IsLegal (journal_of commands) }
+{}
+
+/// Each command of a scenario may stand after those before it.
+pub fn scenarios_are_placed()
+    ensures { (bytes : List ℕ) → IsPlaced (scenario_of bytes).commands }
+{}
+
+/// The worked scenarios come out as they were wanted, byte for byte.
+pub fn worked_examples()
+    ensures smallest { Gives (text smallest) None (text smallest_journal) }
+    ensures refused { Gives (text refused) None (text refused_journal) }
+    ensures comment { Gives (codes "# nothing") None [] }
+    ensures unbuilt { Gives (text (codes "pool 2" ∷ codes "  # a comment" ∷ codes "host 3 ns" ∷ [])) (Some 3) (text (codes "do pool 2" ∷ [])) }
+{}

@@ -1,0 +1,14 @@
+//! Commands, journal lines, and what a lawful history is.
+#![tactic(auto)]
+
+mod command;
+mod count;
+mod laws;
+mod line;
+mod lines;
+
+pub use command::Command;
+pub use count::words;
+pub use laws::{journals_are_legal, one_journal, scenarios_are_placed, worked_examples};
+pub use line::Line;
+pub use lines::Lines;
