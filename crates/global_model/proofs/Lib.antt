@@ -1,2 +1,4 @@
 pub mod Pasts
 pub mod Told
+pub mod Placed
+pub mod Legal

@@ -1,0 +1,324 @@
+-- The journal of commands that stand where they may is legal.
+use Rattle.std.proofs.Common.{◌≡◌, ◌+◌, ◌*◌, ◌/◌, ◌%◌, ◌<◌, ◌≤◌, ℕ, zero, suc, List, [], ◌∷◌, ◌++◌, length, take, get_or, map, filter, find, Bool, true, false, cond, eqb, ltb, not, ◌&&◌, ◌||◌, Option, None, Some, is_some, is_none, refl, sym, ap, ◌∙◌, subst, inl, inr, arith}
+use Rattle.std.specs.List.{All, range_with_len, list_any, flat_map}
+use Rattle.std.specs.Option.{option_map, option_map_or}
+use Rattle.std.proofs.lemmas.Bool.{cases_Bool, eqb-true, eq-eqb, and_parts}
+use Rattle.std.proofs.lemmas.List.{take_min, length-take}
+use Rattle.std.proofs.lemmas.List.Elements.{All-nil, All-map, All-take, filter_passes, All-filter, All-append, All-from_recursion}
+use Rattle.xm_num.specs.declared.Enclave.{Enclave}
+use Rattle.xm_num.specs.declared.Pid.{Pid}
+use Rattle.xm_num.specs.declared.Vpn.{Vpn}
+use Rattle.xm_num.specs.declared.Frame.{Frame}
+use Rattle.xm_num.specs.declared.Block.{Block}
+use Rattle.xm_num.specs.declared.Want.{Want}
+use Rattle.xm_num.specs.declared.Cause.{Cause}
+use Rattle.xm_num.specs.declared.Access.{Access}
+use Rattle.xm_num.specs.declared.Access.TheVariants as accesses
+use Rattle.global_model.specs.declared.command.Command.{Command}
+use Rattle.global_model.specs.declared.command.Command.TheVariants as commands
+use Rattle.global_model.specs.declared.line.Line.{Line}
+use Rattle.global_model.specs.declared.line.Line.TheVariants as lines
+use Rattle.global_model.specs.Facts.{Facts, BlockFact, Absent, Free, Lent, OwnPage, after_line, after_lines, facts_at, no_facts, own_from, is_listed, with_lent, is_free, is_lent_to, is_living_enclave, lives}
+use Rattle.global_model.specs.Space.{Mapping, IsMapped, IsUnmapped, is_page_of, own_mapping, space_of, is_own_frame, is_unused, frame_list, unused_frames, block_frames, free_blocks}
+use Rattle.global_model.specs.Refusals.{refusal_of}
+use Rattle.global_model.specs.Scenario.{may_stand, IsPlacedAfter}
+use Rattle.global_model.specs.Due.{host, touched_lines, acts_of, command_lines, step_lines, journal_from}
+use Rattle.global_model.specs.Lawful.{LawfulRefusal, IsLegalAt, cause_of}
+use Rattle.global_model.specs.History.{Follows, onto}
+use Rattle.global_model.proofs.Pasts.{onto-append, facts_at-onto, Follows-append}
+
+-- ---- lists
+
+All-head : {X : Type 0} (P : X → Type 0) (x : X) (xs : List X) → All P (x ∷ xs) → P x
+All-head P x xs all = all 0 x (omega arith)
+
+All-tail : {X : Type 0} (P : X → Type 0) (x : X) (xs : List X) → All P (x ∷ xs) → All P xs
+All-tail P x xs all = λ k d lt. all (suc k) d (omega arith)
+
+All-cons : {X : Type 0} (P : X → Type 0) (x : X) (xs : List X) → P x → All P xs → All P (x ∷ xs)
+All-cons {X = X} P x xs p all = by
+  where
+    by : (k : ℕ) (d : X) → k < length (x ∷ xs) → P (get_or (x ∷ xs) k d)
+    by zero d lt = p
+    by (suc k) d lt = all k d (omega arith)
+
+All-weaker : {X : Type 0} (P Q : X → Type 0) → ((x : X) → P x → Q x) → (xs : List X) → All P xs → All Q xs
+All-weaker P Q h xs all = λ k d lt. h _ (all k d lt)
+
+-- an element that was found has what all have
+found_has : {X : Type 0} (P : X → Type 0) (q : X → Bool) (xs : List X) (x : X) → All P xs → find q xs ≡ Some x → P x
+found_has P q [] x all is = cc
+found_has P q (y ∷ ys) x all is = by (λ e. found_has P q ys x (All-tail P y ys all) e) (q y) is
+  where
+    by : (find q ys ≡ Some x → P x) → (b : Bool) → cond b (Some y) (find q ys) ≡ Some x → P x
+    by more true e = let same : y ≡ x = cc in subst P same (All-head P y ys all)
+    by more false e = more e
+
+-- and it passes a test that some element then passes
+found_any : {X : Type 0} (q r : X → Bool) (xs : List X) (x : X) → find q xs ≡ Some x → r x ≡ true → list_any r xs ≡ true
+found_any q r [] x is passes = cc
+found_any q r (y ∷ ys) x is passes = by (λ e. found_any q r ys x e passes) (q y) is
+  where
+    or_left : (a b : Bool) → a ≡ true → (a || b) ≡ true
+    or_left a b e = rw e refl
+    or_right : (a b : Bool) → b ≡ true → (a || b) ≡ true
+    or_right true b e = refl
+    or_right false b e = e
+    by : (find q ys ≡ Some x → list_any r ys ≡ true) → (b : Bool) → cond b (Some y) (find q ys) ≡ Some x → list_any r (y ∷ ys) ≡ true
+    by more true e = let same : y ≡ x = cc in or_left (r y) (list_any r ys) (ap r same ∙ passes)
+    by more false e = or_right (r y) (list_any r ys) (more e)
+
+take-length-take : {X : Type 0} (n : ℕ) (xs : List X) → take n xs ≡ take (length (take n xs)) xs
+take-length-take n xs = sym (take_min n xs) ∙ ap (λ k. take k xs) (sym (length-take n xs))
+
+-- ---- what is kept of the facts: each own page is a frame of a block that is lent to its enclave
+
+abbrev pub IsOwned : Facts → OwnPage → Type 0
+IsOwned G own = G.block (own.frame.0 / 64) ≡ Lent own.enclave.0
+
+pub record IsSound (G : Facts) : Type 0 where
+  pub owned : All (IsOwned G) G.own
+
+-- the own page behind a mapping
+pub record Behind (G : Facts) (frame : Frame) : Type 0 where
+  pub own : OwnPage
+  pub owned : IsOwned G own
+  pub frame_is : own.frame ≡ frame
+  pub listed : (r : OwnPage → Bool) → r own ≡ true → list_any r G.own ≡ true
+
+behind_found : (G : Facts) → IsSound G → (e p page : ℕ) (frame : Frame) (access : Access) → space_of G e p page ≡ Some (record { frame = frame; access = access }) → Behind G frame
+behind_found G sound e p page frame access is = by (find (is_page_of e p page) G.own) refl is
+  where
+    the_frame : (m n : Mapping) → Some m ≡ Some n → m.frame ≡ n.frame
+    the_frame m n same = let inner : m ≡ n = cc in ap (λ x. x.frame) inner
+    by : (o : Option OwnPage) → find (is_page_of e p page) G.own ≡ o → option_map own_mapping o ≡ Some (record { frame = frame; access = access }) → Behind G frame
+    by None found same = cc
+    by (Some own) found same =
+        record {
+          own = own;
+          owned = found_has (IsOwned G) (is_page_of e p page) G.own own sound.owned found;
+          frame_is = the_frame (own_mapping own) (record { frame = frame; access = access }) same;
+          listed = λ r passes. found_any (is_page_of e p page) r G.own own found passes;
+        }
+
+lent_is : (e : ℕ) (b : BlockFact) → is_lent_to e b ≡ true → b ≡ Lent e
+lent_is e Absent h = cc
+lent_is e Free h = cc
+lent_is e (Lent o) h = ap Lent (eqb-true o e h)
+
+free_is : (b : BlockFact) → is_free b ≡ true → b ≡ Free
+free_is Absent h = cc
+free_is Free h = refl
+free_is (Lent o) h = cc
+
+-- ---- unused frames are unmapped, and so are those of free blocks
+
+unused_unmapped : (G : Facts) → IsSound G → (e : ℕ) (frame : Frame) → is_unused G e frame.0 ≡ true → IsUnmapped G frame
+unused_unmapped G sound e frame unused mapped =
+    let b = behind_found G sound mapped.enclave mapped.pid mapped.page frame mapped.access mapped.mapped in
+    let tests = and_parts _ _ unused in
+    let first = and_parts _ _ tests.0 in
+    let lent : G.block (frame.0 / 64) ≡ Lent e = lent_is e _ first.1 in
+    let number : b.own.frame.0 ≡ frame.0 = ap (λ f. f.0) b.frame_is in
+    let owners : Lent b.own.enclave.0 ≡ Lent e = sym b.owned ∙ ap (λ n. G.block (n / 64)) number ∙ lent in
+    let same : b.own.enclave.0 ≡ e = cc in
+    let test : (eqb b.own.enclave.0 e && eqb b.own.frame.0 frame.0) ≡ true = rw (eq-eqb _ _ same, eq-eqb _ _ number) refl in
+    let some : is_own_frame G e frame.0 ≡ true = b.listed (λ own. eqb own.enclave.0 e && eqb own.frame.0 frame.0) test in
+    let none : not (is_own_frame G e frame.0) ≡ true = tests.1 in
+    clash _ some none
+  where
+    clash : (x : Bool) → x ≡ true → not x ≡ true → ⊥
+    clash true a c = cc
+    clash false a c = cc
+
+free_unmapped : (G : Facts) → IsSound G → (frame : Frame) → is_free (G.block (frame.0 / 64)) ≡ true → IsUnmapped G frame
+free_unmapped G sound frame free mapped =
+    let b = behind_found G sound mapped.enclave mapped.pid mapped.page frame mapped.access mapped.mapped in
+    let number : b.own.frame.0 ≡ frame.0 = ap (λ f. f.0) b.frame_is in
+    let states : Lent b.own.enclave.0 ≡ Free = sym b.owned ∙ ap (λ n. G.block (n / 64)) number ∙ free_is _ free in
+    cc
+
+-- ---- frames and blocks that are drawn
+
+-- an element that passes a test, and what all have
+pub record Passing {X : Type 0} (P : X → Type 0) (q : X → Bool) : Type 0 where
+  pub item : X
+  pub passes : q item ≡ true
+  pub has : P item
+
+any_has : {X : Type 0} (P : X → Type 0) (q : X → Bool) (xs : List X) → All P xs → list_any q xs ≡ true → Passing P q
+any_has P q [] all is = cc
+any_has P q (x ∷ xs) all is = by (λ e. any_has P q xs (All-tail P x xs all) e) (q x) refl is
+  where
+    by : (list_any q xs ≡ true → Passing P q) → (b : Bool) → q x ≡ b → (b || list_any q xs) ≡ true → Passing P q
+    by more true passes e = record { item = x; passes = passes; has = All-head P x xs all }
+    by more false passes e = more e
+
+All-range : (a n : ℕ) → All (λ k. (a ≤ k) × (k < a + n)) (range_with_len a n)
+All-range a zero = All-nil _
+All-range a (suc n) =
+    let first : (a ≤ a) × (a < a + suc n) = (omega arith, omega arith) in
+    All-cons (λ k. (a ≤ k) × (k < a + suc n)) a (range_with_len (a + 1) n) first (All-weaker (λ k. (a + 1 ≤ k) × (k < (a + 1) + n)) (λ k. (a ≤ k) × (k < a + suc n)) (λ k h. (omega (arith, h.0), omega (arith, h.1))) (range_with_len (a + 1) n) (All-range (a + 1) n))
+
+-- the unused frames are unused
+frames_unused : (G : Facts) (e : ℕ) → All (λ f. is_unused G e f.0 ≡ true) (unused_frames G e)
+frames_unused G e = All-map (λ (f : Frame). is_unused G e f.0 ≡ true) (λ n. record { 0 = n }) _ (filter_passes (is_unused G e) (range_with_len 0 (64 * G.pool)))
+
+blocks_free : (G : Facts) → All (λ b. is_free (G.block b.0) ≡ true) (free_blocks G)
+blocks_free G = All-map (λ (b : Block). is_free (G.block b.0) ≡ true) (λ n. record { 0 = n }) _ (filter_passes (λ b. is_free (G.block b)) (range_with_len 0 G.pool))
+
+-- the frames of a block lie in it
+frame_of_block : (b n : ℕ) → 64 * b ≤ n → n < 64 * b + 64 → n / 64 ≡ b
+frame_of_block b n low high = omega arith
+
+frames_of_block : (b : Block) → All (λ f. f.0 / 64 ≡ b.0) (block_frames b)
+frames_of_block b = All-map (λ (f : Frame). f.0 / 64 ≡ b.0) (λ n. record { 0 = n }) (range_with_len (64 * b.0) 64) (All-weaker (λ n. (64 * b.0 ≤ n) × (n < 64 * b.0 + 64)) (λ n. n / 64 ≡ b.0) (λ n h. frame_of_block b.0 n h.0 h.1) (range_with_len (64 * b.0) 64) (All-range (64 * b.0) 64))
+
+block_unmapped : (G : Facts) → IsSound G → (b : Block) → is_free (G.block b.0) ≡ true → All (IsUnmapped G) (block_frames b)
+block_unmapped G sound b free = All-weaker (λ f. f.0 / 64 ≡ b.0) (IsUnmapped G) (λ f at. free_unmapped G sound f (ap (λ n. is_free (G.block n)) at ∙ free)) (block_frames b) (frames_of_block b)
+
+-- ---- what is kept stays kept
+
+own_from-owned : (G : Facts) (e : Enclave) (p : Pid) (page : ℕ) (frames : List Frame) → All (λ f. G.block (f.0 / 64) ≡ Lent e.0) frames → All (IsOwned G) (own_from e p page frames)
+own_from-owned G e p page [] all = All-nil _
+own_from-owned G e p page (f ∷ frames) all =
+    let P : Frame → Type 0 = λ x. G.block (x.0 / 64) ≡ Lent e.0 in
+    All-cons (IsOwned G) _ _ (All-head P f frames all) (own_from-owned G e p (page + 1) frames (All-tail P f frames all))
+
+unused_lent : (G : Facts) (e : ℕ) (frame : Frame) → is_unused G e frame.0 ≡ true → G.block (frame.0 / 64) ≡ Lent e
+unused_lent G e frame unused = lent_is e _ (and_parts _ _ (and_parts _ _ unused).0).1
+
+-- lending free blocks leaves what is lent
+lent_stays : (G : Facts) (blocks : List Block) (e : Enclave) (own : OwnPage) → All (λ b. is_free (G.block b.0) ≡ true) blocks → IsOwned G own → with_lent blocks e G.block (own.frame.0 / 64) ≡ Lent own.enclave.0
+lent_stays G blocks e own free owned = by (is_listed blocks (own.frame.0 / 64)) refl
+  where
+    by : (b : Bool) → is_listed blocks (own.frame.0 / 64) ≡ b → cond b (Lent e.0) (G.block (own.frame.0 / 64)) ≡ Lent own.enclave.0
+    by true is =
+        let one = any_has (λ (b : Block). is_free (G.block b.0) ≡ true) (λ b. eqb b.0 (own.frame.0 / 64)) blocks free is in
+        let number : one.item.0 ≡ own.frame.0 / 64 = eqb-true _ _ one.passes in
+        let state : Free ≡ Lent own.enclave.0 = sym (free_is _ one.has) ∙ ap G.block number ∙ owned in
+        cc
+    by false is = owned
+
+-- ---- one command
+
+abbrev pub IsClosed : List Line → Type 0
+IsClosed past = (line : Line) → cause_of line ≡ None → LawfulRefusal past line
+
+pub record IsLegalUpTo (past journal : List Line) : Type 0 where
+  pub legal : Follows IsLegalAt past journal
+  pub sound : IsSound (facts_at (onto journal past))
+  pub closed : IsClosed (onto journal past)
+
+-- a command whose acts are legal where it isn't refused
+with_refusal : (c : Command) (past : List Line) → IsClosed past → IsSound (facts_at (lines.Do c ∷ past)) → (refusal_of (facts_at past) c ≡ None → IsLegalUpTo (lines.Do c ∷ past) (acts_of (facts_at past) c))
+    → IsLegalUpTo past (step_lines (facts_at past) c)
+with_refusal c past closed sound acts = by (refusal_of (facts_at past) c) refl
+  where
+    by : (o : Option Cause) → refusal_of (facts_at past) c ≡ o → IsLegalUpTo past (lines.Do c ∷ option_map_or (λ cause. lines.Refused cause ∷ []) o (acts_of (facts_at past) c))
+    by None is = let more = acts is in record { legal = (record { lending = tt; act = tt; refusal = closed (lines.Do c) refl }, more.legal); sound = more.sound; closed = more.closed }
+    by (Some cause) is = record {
+      legal = (record { lending = tt; act = tt; refusal = closed (lines.Do c) refl }, (record { lending = tt; act = tt; refusal = sym is }, tt));
+      sound = record { owned = sound.owned };
+      closed = λ line h. h;
+    }
+
+legal_pool : (blocks : ℕ) (past : List Line) → (facts_at past).own ≡ [] → IsClosed past → IsLegalUpTo past (step_lines (facts_at past) (commands.Pool blocks))
+legal_pool blocks past none closed =
+    let G = after_line (facts_at past) (lines.Do (commands.Pool blocks)) in
+    record {
+      legal = (record { lending = tt; act = tt; refusal = closed (lines.Do (commands.Pool blocks)) refl }, tt);
+      sound = record { owned = subst (All (IsOwned G)) (sym none) (All-nil (IsOwned G)) };
+      closed = λ line h. h;
+    }
+
+legal_host : (blocks : ℕ) (ns : Bool) (past : List Line) → IsSound (facts_at past) → IsClosed past → IsLegalUpTo past (step_lines (facts_at past) (commands.Host blocks ns))
+legal_host blocks ns past sound closed =
+    let G = facts_at past in
+    let drawn = take blocks (free_blocks G) in
+    let free : All (λ b. is_free (G.block b.0) ≡ true) drawn = All-take (λ (b : Block). is_free (G.block b.0) ≡ true) blocks (free_blocks G) (blocks_free G) in
+    let unmapped : All (λ b. All (IsUnmapped G) (block_frames b)) drawn = All-weaker (λ b. is_free (G.block b.0) ≡ true) (λ b. All (IsUnmapped G) (block_frames b)) (block_unmapped G sound) drawn free in
+    let lowest : drawn ≡ take (length drawn) (free_blocks G) = take-length-take blocks (free_blocks G) in
+    let stays : All (λ own. with_lent drawn host G.block (own.frame.0 / 64) ≡ Lent own.enclave.0) G.own = All-weaker (IsOwned G) (λ own. with_lent drawn host G.block (own.frame.0 / 64) ≡ Lent own.enclave.0) (λ own owned. lent_stays G drawn host own free owned) G.own sound.owned in
+    by lowest unmapped stays ns
+  where
+    by : let G = facts_at past in let drawn = take blocks (free_blocks G) in drawn ≡ take (length drawn) (free_blocks G) → All (λ b. All (IsUnmapped G) (block_frames b)) drawn
+        → All (λ own. with_lent drawn host G.block (own.frame.0 / 64) ≡ Lent own.enclave.0) G.own → (n : Bool) → IsLegalUpTo past (step_lines (facts_at past) (commands.Host blocks n))
+    by lowest unmapped stays true = record {
+      legal = (record { lending = tt; act = tt; refusal = closed (lines.Do (commands.Host blocks true)) refl }, (record { lending = (lowest, unmapped); act = tt; refusal = refl }, (record { lending = tt; act = tt; refusal = refl }, tt)));
+      sound = record { owned = stays };
+      closed = λ line h. h;
+    }
+    by lowest unmapped stays false = record {
+      legal = (record { lending = tt; act = tt; refusal = closed (lines.Do (commands.Host blocks false)) refl }, (record { lending = (lowest, unmapped); act = tt; refusal = refl }, tt));
+      sound = record { owned = stays };
+      closed = λ line h. h;
+    }
+
+legal_proc : (e : Enclave) (uid gid : ℕ) (past : List Line) → IsSound (facts_at past) → IsClosed past → IsLegalUpTo past (step_lines (facts_at past) (commands.Proc e uid gid))
+legal_proc e uid gid past sound closed = record {
+  legal = (record { lending = tt; act = tt; refusal = closed (lines.Do (commands.Proc e uid gid)) refl }, (record { lending = tt; act = tt; refusal = refl }, tt));
+  sound = record { owned = sound.owned };
+  closed = λ line h. h;
+}
+
+legal_alloc : (e : Enclave) (p : Pid) (at : Vpn) (pages : ℕ) (past : List Line) → IsSound (facts_at past) → IsClosed past → IsLegalUpTo past (step_lines (facts_at past) (commands.Alloc e p at pages))
+legal_alloc e p at pages past sound closed =
+    let G = facts_at past in
+    let drawn = take pages (unused_frames G e.0) in
+    let unused : All (λ f. is_unused G e.0 f.0 ≡ true) drawn = All-take (λ (f : Frame). is_unused G e.0 f.0 ≡ true) pages (unused_frames G e.0) (frames_unused G e.0) in
+    let lent : All (λ f. G.block (f.0 / 64) ≡ Lent e.0) drawn = All-weaker (λ f. is_unused G e.0 f.0 ≡ true) (λ f. G.block (f.0 / 64) ≡ Lent e.0) (unused_lent G e.0) drawn unused in
+    with_refusal (commands.Alloc e p at pages) past closed sound (λ none. record {
+      legal = (record { lending = (take-length-take pages (unused_frames G e.0), All-weaker (λ f. is_unused G e.0 f.0 ≡ true) (IsUnmapped G) (unused_unmapped G sound e.0) drawn unused); act = tt; refusal = sym none }, tt);
+      sound = record { owned = All-append (IsOwned G) G.own (own_from e p at.0 drawn) sound.owned (own_from-owned G e p at.0 drawn lent) };
+      closed = λ line h. h;
+    })
+
+-- every mapping is an own page's
+mapping_of_own : (G : Facts) (e p page : ℕ) (m : Mapping) → space_of G e p page ≡ Some m → m.access ≡ accesses.ReadWrite
+mapping_of_own G e p page m is = by (find (is_page_of e p page) G.own) is
+  where
+    by : (o : Option OwnPage) → option_map own_mapping o ≡ Some m → m.access ≡ accesses.ReadWrite
+    by None same = cc
+    by (Some own) same = let inner : own_mapping own ≡ m = cc in sym (ap (λ x. x.access) inner)
+
+legal_touch : (e : Enclave) (p : Pid) (addr : ℕ) (want : Want) (past : List Line) → IsSound (facts_at past) → IsClosed past → IsLegalUpTo past (step_lines (facts_at past) (commands.Touch e p addr want))
+legal_touch e p addr want past sound closed =
+    with_refusal (commands.Touch e p addr want) past closed sound (λ none. by none (space_of (facts_at past) e.0 p.0 (addr / 4096)) refl)
+  where
+    by : refusal_of (facts_at past) (commands.Touch e p addr want) ≡ None → (o : Option Mapping) → space_of (facts_at past) e.0 p.0 (addr / 4096) ≡ o
+        → IsLegalUpTo (lines.Do (commands.Touch e p addr want) ∷ past) (touched_lines e p (record { 0 = addr / 4096 }) o)
+    by none None is = record { legal = tt; sound = sound; closed = λ line h. h ∙ sym none }
+    by none (Some m) is =
+        let access : m.access ≡ accesses.ReadWrite = mapping_of_own (facts_at past) e.0 p.0 (addr / 4096) m is in
+        record {
+          legal = (record { lending = tt; act = (m.access, is, rw access refl); refusal = sym none }, tt);
+          sound = record { owned = sound.owned };
+          closed = λ line h. h;
+        }
+
+-- ---- whole journals
+
+pub record IsReady (before : List Command) (past : List Line) : Type 0 where
+  pub sound : IsSound (facts_at past)
+  pub closed : IsClosed past
+  pub fresh : length before ≡ 0 → (facts_at past).own ≡ []
+
+legal_step : (before : List Command) (c : Command) (past : List Line) → IsReady before past → may_stand before c ≡ true → IsLegalUpTo past (step_lines (facts_at past) c)
+legal_step before (commands.Pool blocks) past ready may = legal_pool blocks past (ready.fresh (eqb-true _ _ may)) ready.closed
+legal_step before (commands.Host blocks ns) past ready may = legal_host blocks ns past ready.sound ready.closed
+legal_step before (commands.Proc e uid gid) past ready may = legal_proc e uid gid past ready.sound ready.closed
+legal_step before (commands.Alloc e p at pages) past ready may = legal_alloc e p at pages past ready.sound ready.closed
+legal_step before (commands.Touch e p addr want) past ready may = legal_touch e p addr want past ready.sound ready.closed
+
+legal_journal : (cs before : List Command) (G : Facts) (past : List Line) → G ≡ facts_at past → IsReady before past → IsPlacedAfter before cs → Follows IsLegalAt past (journal_from G cs)
+legal_journal [] before G past is ready placed = tt
+legal_journal (c ∷ cs) before G past is ready placed =
+    let ls = step_lines G c in
+    let one : IsLegalUpTo past ls = rw is (legal_step before c past ready placed.0) in
+    let facts : after_lines G ls ≡ facts_at (onto ls past) = ap (λ H. after_lines H ls) is ∙ sym (facts_at-onto ls past) in
+    let next : IsReady (c ∷ before) (onto ls past) = record { sound = one.sound; closed = one.closed; fresh = λ none. absurd (omega (arith, none)) } in
+    Follows-append IsLegalAt ls (journal_from (after_lines G ls) cs) past one.legal (legal_journal cs (c ∷ before) (after_lines G ls) (onto ls past) facts next placed.1)
+
+pub journal_of-legal : (cs : List Command) → IsPlacedAfter [] cs → Follows IsLegalAt [] (journal_from no_facts cs)
+journal_of-legal cs placed = legal_journal cs [] no_facts [] refl (record { sound = record { owned = All-nil _ }; closed = λ line h. h; fresh = λ none. refl }) placed
