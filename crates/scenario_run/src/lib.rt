@@ -1,0 +1,6 @@
+//! A scenario from bytes to the journal.
+#![tactic(auto)]
+
+mod machine;
+mod pages;
+mod stage;
