@@ -1,0 +1,10 @@
+//! A scenario from bytes to the journal.
+#![tactic(auto)]
+
+mod print;
+mod read;
+mod status;
+#[cfg(test)]
+mod text_tests;
+
+pub use status::{Status, Which, exit_number, status_text};
