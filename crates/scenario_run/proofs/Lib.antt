@@ -1,3 +1,5 @@
 pub mod RowLemmas
 pub mod Runs
 pub mod Tables
+pub mod PrintLemmas
+pub mod ReadLemmas

@@ -1,3 +1,7 @@
 pub mod Rows
 pub mod Machine
 pub mod Stage
+pub mod Digits
+pub mod Reading
+pub mod Text
+pub mod Status

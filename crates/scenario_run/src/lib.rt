@@ -3,4 +3,11 @@
 
 mod machine;
 mod pages;
+mod print;
+mod read;
 mod stage;
+mod status;
+#[cfg(test)]
+mod text_tests;
+
+pub use status::{Status, Which, exit_number, status_text};

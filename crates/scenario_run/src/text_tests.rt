@@ -1,0 +1,324 @@
+// The forms at the ends of their ranges, and the texts of all lines and statuses.
+use crate::print::print_lines;
+use crate::read::{Reading, first_line, read_line};
+use crate::{Status, Which, exit_number, status_text};
+use global_model::{Command, Line};
+use std::alloc::{AllocError, Global};
+use xm_num::{Block, BlockList, Cause, Enclave, Frame, FrameList, Kind, Pid, Vpn, Want};
+
+fn pool(blocks: u16) -> Reading {
+    Reading::Command(Command::Pool { blocks })
+}
+
+fn host(blocks: u16, ns: bool) -> Reading {
+    Reading::Command(Command::Host { blocks, ns })
+}
+
+fn proc(enclave: u16, uid: u32, gid: u32) -> Reading {
+    let enclave = Enclave(enclave);
+    Reading::Command(Command::Proc { enclave, uid, gid })
+}
+
+fn alloc(enclave: u16, pid: u32, at: u32, pages: u32) -> Reading {
+    Reading::Command(Command::Alloc {
+        enclave: Enclave(enclave),
+        pid: Pid(pid),
+        at: Vpn(at),
+        pages,
+    })
+}
+
+fn touch(enclave: u16, pid: u32, addr: u64, want: Want) -> Reading {
+    Reading::Command(Command::Touch {
+        enclave: Enclave(enclave),
+        pid: Pid(pid),
+        addr,
+        want,
+    })
+}
+
+#[test]
+fn reads_each_form_within_its_ranges(rt: HostRuntime) {
+    for (line, reading) in [
+        ("pool 1", pool(1)),
+        ("pool 4096", pool(4096)),
+        ("host 1", host(1, false)),
+        ("host 4096 ns", host(4096, true)),
+        ("proc 0 0 0", proc(0, 0, 0)),
+        (
+            "proc 65534 4294967295 4294967295",
+            proc(65_534, 4_294_967_295, 4_294_967_295),
+        ),
+        ("alloc 0 0 1 1", alloc(0, 0, 1, 1)),
+        (
+            "alloc 65534 4294967295 16777215 4096",
+            alloc(65_534, 4_294_967_295, 16_777_215, 4096),
+        ),
+        ("touch 0 0 0 r", touch(0, 0, 0, Want::Read)),
+        (
+            "touch 65534 4294967295 18446744073709551615 w",
+            touch(65_534, 4_294_967_295, u64::MAX, Want::Write),
+        ),
+        (" \t pool\t\t 7 \t", pool(7)),
+    ] {
+        assert_eq!(rt; read_line(line.as_bytes()), reading, "of {line}");
+    }
+}
+
+#[test]
+fn takes_nothing_else_for_a_command(rt: HostRuntime) {
+    for line in [
+        "pool 0",
+        "pool 4097",
+        "host 0",
+        "host 4097",
+        "host 0 ns",
+        "host 4097 ns",
+        "proc 65535 0 0",
+        "proc 0 4294967296 0",
+        "proc 0 0 4294967296",
+        "alloc 65535 1 1 1",
+        "alloc 0 4294967296 1 1",
+        "alloc 0 1 0 1",
+        "alloc 0 1 16777216 1",
+        "alloc 0 1 1 0",
+        "alloc 0 1 1 4097",
+        "touch 65535 1 0 r",
+        "touch 0 4294967296 0 r",
+        "touch 0 1 18446744073709551616 r",
+        "touch 0 1 0 x",
+        "touch 0 1 0 rw",
+        "pool 01",
+        "pool 00",
+        "proc 00 0 0",
+        "pool +1",
+        "pool -1",
+        "pool 1\r",
+        "pool 0x1",
+        "pool",
+        "pool 1 1",
+        "host",
+        "host 1 NS",
+        "host 1 ns ns",
+        "proc 0 0",
+        "proc 0 0 0 0",
+        "alloc 0 1 1",
+        "alloc 0 1 1 1 1",
+        "touch 0 1 0",
+        "touch 0 1 0 r r",
+        "Pool 1",
+        "boot 1",
+        "pool #1",
+        "pool é",
+        "é",
+        "a b c d e f g h i j",
+    ] {
+        assert_eq!(rt; read_line(line.as_bytes()), Reading::Unknown, "of {line}");
+    }
+}
+
+#[test]
+fn takes_a_line_for_a_comment_by_its_first_byte(rt: HostRuntime) {
+    for line in [
+        "",
+        " \t ",
+        "#",
+        "\t# pool 1",
+        "#pool 1",
+        "# a b c d e f g h i j",
+    ] {
+        assert_eq!(rt; read_line(line.as_bytes()), Reading::Comment, "of {line}");
+    }
+}
+
+#[test]
+fn ends_a_line_at_its_line_feed(rt: HostRuntime) {
+    let (line, after) = first_line(b"pool 1\n\nhost 1");
+    assert_eq!(rt; line, b"pool 1".as_slice());
+    assert!(rt; !after.is_empty());
+    let (line, after) = first_line(after);
+    assert!(rt; line.is_empty());
+    assert!(rt; !after.is_empty());
+    let (line, after) = first_line(after);
+    assert_eq!(rt; line, b"host 1".as_slice());
+    assert!(rt; after.is_empty());
+}
+
+// What the lines are printed as, behind a byte that stood there.
+fn printed(alloc: Global, lines: &[Line]) -> Result<Vec<u8>, AllocError> {
+    let mut out = Vec::from_slice(alloc, b">")?;
+    print_lines(lines, &mut out)?;
+    Ok(out)
+}
+
+#[test]
+fn spells_each_line(rt: HostRuntime) -> Result<(), AllocError> {
+    let (enclave, pid) = (Enclave(65_534), Pid(7));
+    let mut blocks = BlockList::new(rt.alloc());
+    blocks.push(Block(0))?;
+    blocks.push(Block(4095))?;
+    let mut frames = FrameList::new(rt.alloc());
+    frames.push(Frame(262_143))?;
+    frames.push(Frame(5))?;
+    let lines = [
+        Line::Do {
+            command: Command::Pool { blocks: 4096 },
+        },
+        Line::Do {
+            command: Command::Host {
+                blocks: 1,
+                ns: false,
+            },
+        },
+        Line::Do {
+            command: Command::Host {
+                blocks: 1,
+                ns: true,
+            },
+        },
+        Line::Do {
+            command: Command::Proc {
+                enclave,
+                uid: 0,
+                gid: 4_294_967_295,
+            },
+        },
+        Line::Do {
+            command: Command::Alloc {
+                enclave,
+                pid,
+                at: Vpn(16),
+                pages: 2,
+            },
+        },
+        Line::Do {
+            command: Command::Touch {
+                enclave,
+                pid,
+                addr: u64::MAX,
+                want: Want::Read,
+            },
+        },
+        Line::Do {
+            command: Command::Touch {
+                enclave,
+                pid,
+                addr: 10,
+                want: Want::Write,
+            },
+        },
+        Line::Born {
+            enclave,
+            kind: Kind::Cokernel,
+            parent: Enclave(0),
+            ns: false,
+            blocks,
+        },
+        Line::Born {
+            enclave,
+            kind: Kind::Vm,
+            parent: Enclave(3),
+            ns: true,
+            blocks: BlockList::new(rt.alloc()),
+        },
+        Line::Born {
+            enclave: Enclave(0),
+            kind: Kind::Host,
+            parent: Enclave(0),
+            ns: true,
+            blocks: BlockList::new(rt.alloc()),
+        },
+        Line::Admitted { enclave },
+        Line::Proc {
+            enclave,
+            pid,
+            uid: 1,
+            gid: 2,
+        },
+        Line::Alloc {
+            enclave,
+            pid,
+            at: Vpn(16),
+            frames,
+        },
+        Line::Touched {
+            enclave,
+            pid,
+            page: Vpn(16),
+            frame: Frame(262_143),
+        },
+    ];
+    let want =
+        ">do pool 4096\ndo host 1\ndo host 1 ns\ndo proc 65534 0 4294967295\ndo alloc 65534 7 16 2\ndo touch 65534 7 18446744073709551615 r\ndo touch 65534 7 10 w\nborn 65534 cokernel 0 - 0 4095\nborn 65534 vm 3 ns\nborn 0 host 0 ns\nadmitted 65534\nproc 65534 7 1 2\nalloc 65534 7 16 262143 5\ntouched 65534 7 16 262143\n";
+    assert_eq!(rt; printed(rt.alloc(), &lines)?.as_slice(), want.as_bytes());
+    Ok(())
+}
+
+#[test]
+fn spells_each_cause(rt: HostRuntime) -> Result<(), AllocError> {
+    for (cause, want) in [
+        (Cause::NotReady, ">refused NotReady\n"),
+        (Cause::NoProcess, ">refused NoProcess\n"),
+        (Cause::Busy, ">refused Busy\n"),
+        (Cause::BadAlign, ">refused BadAlign\n"),
+        (Cause::BadRange, ">refused BadRange\n"),
+        (Cause::NoSegment, ">refused NoSegment\n"),
+        (Cause::Denied, ">refused Denied\n"),
+        (Cause::NoPermit, ">refused NoPermit\n"),
+        (Cause::Taken, ">refused Taken\n"),
+        (Cause::OwnerDied, ">refused OwnerDied\n"),
+        (Cause::NoFrames, ">refused NoFrames\n"),
+        (Cause::NoBlocks, ">refused NoBlocks\n"),
+        (Cause::TooLarge, ">refused TooLarge\n"),
+        (Cause::NotOwner, ">refused NotOwner\n"),
+        (Cause::NotMapped, ">refused NotMapped\n"),
+        (Cause::NoEnclave, ">refused NoEnclave\n"),
+        (Cause::BadParent, ">refused BadParent\n"),
+        (Cause::NameServerHeld, ">refused NameServerHeld\n"),
+        (Cause::NameServerTaken, ">refused NameServerTaken\n"),
+        (Cause::TooMany, ">refused TooMany\n"),
+        (Cause::NoLink, ">refused NoLink\n"),
+    ] {
+        assert_eq!(rt;
+            printed(rt.alloc(), &[Line::Refused { cause }])?.as_slice(),
+            want.as_bytes()
+        );
+    }
+    Ok(())
+}
+
+#[test]
+fn numbers_and_spells_each_status(rt: HostRuntime) -> Result<(), AllocError> {
+    for (status, number, want) in [
+        (Status::Ok, 0, ">"),
+        (
+            Status::Usage,
+            1,
+            ">usage: xemem run | xemem load SEED CALLS",
+        ),
+        (Status::ReadFault, 3, ">read fault"),
+        (Status::WriteFault, 4, ">write fault"),
+        (
+            Status::Limit {
+                which: Which::Scenario,
+                number: 4_194_304,
+            },
+            5,
+            ">limit Scenario 4194304",
+        ),
+        (Status::Memory, 6, ">out of memory"),
+        (
+            Status::Unbuilt {
+                line: 4_294_967_295,
+            },
+            8,
+            ">line 4294967295: not built yet",
+        ),
+    ] {
+        let mut out = Vec::from_slice(rt.alloc(), b">")?;
+        status_text(&status, &mut out)?;
+        assert_eq!(rt; out.as_slice(), want.as_bytes());
+        assert_eq!(rt; exit_number(&status), number);
+    }
+    Ok(())
+}
