@@ -2,7 +2,6 @@
 ghost use Rattle.std.specs.Prelude.{◌≡◌, ◌<◌, None, is_some, length, IfOk};
 ghost use Rattle.std.specs.Io.{ReadsAtMost, WritesAtMost};
 ghost use Rattle.std.specs.Io.KnownBytes.{ReadConsumes, WriteAppends};
-ghost use Rattle.xm_edge.specs.Ends.{GivesNoneAtEnd};
 ghost use Rattle.xm_edge.specs.Faults.{HasCause, CountsErrors};
 
 use crate::{ReadFailed, Sink, Source, WriteFailed};
@@ -44,7 +43,6 @@ impl<R: Read> Source for StdSource<R> {
     fn take(&mut self, into: &mut [u8]) -> Result<usize, ReadFailed>
         requires { 0 < length into.old }
         ensures bound { ReadsAtMost result into.new }
-        ensures bytes { ReadConsumes None None result into.new }
         ensures cause { HasCause self.old.faults self.new.faults result }
         ensures passed { ReadConsumes (R.remaining self.old.inner) (R.remaining self.new.inner) result into.new }
         ensures counts { CountsErrors self.old.faults self.new.faults result }
