@@ -8,7 +8,8 @@ use crate::{ReadFailed, Sink, Source, WriteFailed};
 use std::io::{Read, Write};
 use std::marker::Model;
 
-/// A reader of std as a source. Its count of faults rises at each `Err`, up to the last value of a u64.
+/// A reader of std as a source. Its count of faults rises at each `Err`, up to the last value of a u64. A call that
+/// was interrupted is such an `Err`, and the caller may make it again.
 #[derive(Drop)]
 pub struct StdSource<R> {
     inner: R,
@@ -57,8 +58,8 @@ impl<R: Read> Source for StdSource<R> {
     }
 }
 
-/// A writer of std as a sink. Its count of faults rises at each `Err`, up to the last value of a u64, and a
-/// writer that takes nothing counts as an `Err`.
+/// A writer of std as a sink. Its count of faults rises at each `Err`, up to the last value of a u64, and a writer
+/// that takes nothing counts as an `Err`. It flushes nothing.
 #[derive(Drop)]
 pub struct StdSink<W> {
     inner: W,
