@@ -61,9 +61,11 @@ found_any q r (y ∷ ys) x is passes = by (λ e. found_any q r ys x e passes) (q
   where
     or_left : (a b : Bool) → a ≡ true → (a || b) ≡ true
     or_left a b e = rw e refl
+
     or_right : (a b : Bool) → b ≡ true → (a || b) ≡ true
     or_right true b e = refl
     or_right false b e = e
+
     by : (find q ys ≡ Some x → list_any r ys ≡ true) → (b : Bool) → cond b (Some y) (find q ys) ≡ Some x → list_any r (y ∷ ys) ≡ true
     by more true e = let same : y ≡ x = cc in or_left (r y) (list_any r ys) (ap r same ∙ passes)
     by more false e = or_right (r y) (list_any r ys) (more e)
@@ -91,6 +93,7 @@ behind_found G sound e p page frame access is = by (find (is_page_of e p page) G
   where
     the_frame : (m n : Mapping) → Some m ≡ Some n → m.frame ≡ n.frame
     the_frame m n same = let inner : m ≡ n = cc in ap (λ x. x.frame) inner
+
     by : (o : Option OwnPage) → find (is_page_of e p page) G.own ≡ o → option_map own_mapping o ≡ Some (record { frame = frame; access = access }) → Behind G frame
     by None found same = cc
     by (Some own) found same =

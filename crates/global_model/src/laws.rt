@@ -1,10 +1,11 @@
 // Laws of the definitions: each is the contract of a function with an empty body, which a crate above calls to have it.
-ghost use Rattle.std.specs.Prelude.{◌≡◌, ℕ, List, [], ◌∷◌, None, Some, codes};
+ghost use Rattle.std.specs.Prelude.{◌≡◌, ℕ, List, [], ◌∷◌, ◌++◌, None, Some, codes};
 ghost use Rattle.global_model.specs.Examples.{Gives, text, smallest, smallest_journal, refused, refused_journal};
 ghost use Rattle.global_model.specs.declared.command.Command.{Command as Commands};
 ghost use Rattle.global_model.specs.declared.line.Line.{Line as JournalLine};
 ghost use Rattle.global_model.specs.Scenario.{IsPlaced, scenario_of};
-ghost use Rattle.global_model.specs.Due.{journal_of};
+ghost use Rattle.global_model.specs.Facts.{after_lines, facts_after};
+ghost use Rattle.global_model.specs.Due.{journal_of, step_lines};
 ghost use Rattle.global_model.specs.History.{do_commands, IsLegal, IsTold, IsWhole};
 
 /// Exactly one journal is told and whole and has given commands in its `do` lines.
@@ -14,6 +15,13 @@ pub fn one_journal()
     ensures commands { (commands : List Commands) → do_commands (journal_of commands) ≡ commands }
     ensures only { (journal : List JournalLine) → IsTold journal → IsWhole journal
         → journal ≡ journal_of (do_commands journal) }
+{}
+
+/// The journal of one command more goes on by that command's lines, and the facts after it by what they change.
+pub fn journals_grow()
+    ensures journal { (commands : List Commands) (command : Commands)
+        → journal_of (commands ++ command ∷ []) ≡ journal_of commands ++ step_lines (facts_after (journal_of commands)) command }
+    ensures facts { (journal lines : List JournalLine) → facts_after (journal ++ lines) ≡ after_lines (facts_after journal) lines }
 {}
 
 /// The journal of commands, each of which may stand after those before it, is legal.

@@ -9,6 +9,8 @@ mod lines;
 
 pub use command::Command;
 pub use count::words;
-pub use laws::{journals_are_legal, one_journal, scenarios_are_placed, worked_examples};
+pub use laws::{
+    journals_are_legal, journals_grow, one_journal, scenarios_are_placed, worked_examples,
+};
 pub use line::Line;
 pub use lines::Lines;

@@ -5,9 +5,13 @@ use xm_num::{BlockList, Cause, Enclave, Frame, FrameList, Kind, Pid, Vpn};
 #[derive(Drop)]
 pub enum Line {
     /// The command begins.
-    Do { command: Command },
+    Do {
+        command: Command,
+    },
     /// The command is refused and changes nothing.
-    Refused { cause: Cause },
+    Refused {
+        cause: Cause,
+    },
     /// An enclave is born with these blocks, perhaps with the name server. The host's parent is written 0.
     Born {
         enclave: Enclave,
@@ -17,7 +21,9 @@ pub enum Line {
         blocks: BlockList,
     },
     /// The enclave is ready.
-    Admitted { enclave: Enclave },
+    Admitted {
+        enclave: Enclave,
+    },
     /// A process is started.
     Proc {
         enclave: Enclave,

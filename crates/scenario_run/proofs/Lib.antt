@@ -3,3 +3,7 @@ pub mod Runs
 pub mod Tables
 pub mod PrintLemmas
 pub mod ReadLemmas
+pub mod Shown
+pub mod Steps
+pub mod WriteLemmas
+pub mod RunLemmas

@@ -31,7 +31,7 @@ from_zero : (n f : ℕ) → (leb 0 f && ltb f (0 + n)) ≡ ltb f n
 from_zero n f = grind (arith, nat_tests)
 
 -- a number is in a run
-range_any : (a n f : ℕ) → list_any (λ x. eqb x f) (range_with_len a n) ≡ (leb a f && ltb f (a + n))
+pub range_any : (a n f : ℕ) → list_any (λ x. eqb x f) (range_with_len a n) ≡ (leb a f && ltb f (a + n))
 range_any a zero f = sym (range_end a f)
 range_any a (suc n) f = ap (λ b. eqb a f || b) (range_any (a + 1) n f) ∙ range_step a n f
 
@@ -77,9 +77,9 @@ window_of_run low high all l h =
     let f : 0 + low ≡ low = omega arith in
     let g : low + m ≡ high = omega arith in
     let split : range_with_len 0 all ≡ range_with_len 0 low ++ (range_with_len low m ++ range_with_len high r) =
-        ap (range_with_len 0) e ∙ sym (range-append 0 low (m + r)) ∙ ap (λ k. range_with_len 0 low ++ range_with_len k (m + r)) f ∙ ap (λ xs. range_with_len 0 low ++ xs) (sym (range-append low m r)) ∙ ap (λ k. range_with_len 0 low ++ (range_with_len low m ++ range_with_len k r)) g in
+    ap (range_with_len 0) e ∙ sym (range-append 0 low (m + r)) ∙ ap (λ k. range_with_len 0 low ++ range_with_len k (m + r)) f ∙ ap (λ xs. range_with_len 0 low ++ xs) (sym (range-append low m r)) ∙ ap (λ k. range_with_len 0 low ++ (range_with_len low m ++ range_with_len k r)) g in
     let rest : filter p (range_with_len low m ++ range_with_len high r) ≡ range_with_len low m =
-        filter-append p (range_with_len low m) (range_with_len high r) ∙ ap (λ xs. filter p (range_with_len low m) ++ xs) (none_above low high high r (omega arith)) ∙ ap (λ xs. xs ++ []) (all_inside low high low m (omega arith) (omega arith)) ∙ append_nil (range_with_len low m) in
+    filter-append p (range_with_len low m) (range_with_len high r) ∙ ap (λ xs. filter p (range_with_len low m) ++ xs) (none_above low high high r (omega arith)) ∙ ap (λ xs. xs ++ []) (all_inside low high low m (omega arith) (omega arith)) ∙ append_nil (range_with_len low m) in
     ap (filter p) split ∙ filter-append p (range_with_len 0 low) (range_with_len low m ++ range_with_len high r) ∙ ap (λ xs. xs ++ filter p (range_with_len low m ++ range_with_len high r)) (none_below low high 0 low (omega arith)) ∙ rest
   where
     append_nil : (xs : List ℕ) → xs ++ [] ≡ xs

@@ -27,18 +27,22 @@ module _ {K V : Type 0} {R : K → K → Ordering} (o : IsTotalOrder R) where
       twice : {A : Type 0} (b : Bool) (x y z : A) → cond b x z ≡ cond b x (cond b y z)
       twice true x y z = refl
       twice false x y z = refl
+
       swap : {A : Type 0} (a b : Bool) (x y z : A) → (a ≡ true → b ≡ true → ⊥) → cond a x (cond b y z) ≡ cond b y (cond a x z)
       swap true true x y z no_both = absurd (no_both refl refl)
       swap true false x y z no_both = refl
       swap false b x y z no_both = refl
+
       equal : (r : Ordering) → is_eq r ≡ true → r ≡ Equal
       equal Less is = cc
       equal Equal is = refl
       equal Greater is = cc
+
       apart : R k e.0 ≡ Greater → is_eq (R q e.0) ≡ true → is_eq (R q k) ≡ true → ⊥
       apart is one two =
-        let same : R q e.0 ≡ R k e.0 = o.congr q k e.0 (equal (R q k) two) in
-        let clash : Equal ≡ Greater = sym (equal (R q e.0) one) ∙ same ∙ is in cc
+          let same : R q e.0 ≡ R k e.0 = o.congr q k e.0 (equal (R q k) two) in
+          let clash : Equal ≡ Greater = sym (equal (R q e.0) one) ∙ same ∙ is in cc
+
       by : lookup (is_at (R q)) (insert_entry R es k v) ≡ cond (is_eq (R q k)) (Some v) (lookup (is_at (R q)) es) → (r : Ordering) → R k e.0 ≡ r
           → lookup (is_at (R q)) (match_ordering r ((k, v) ∷ e ∷ es) ((e.0, v) ∷ es) (e ∷ insert_entry R es k v)) ≡ cond (is_eq (R q k)) (Some v) (lookup (is_at (R q)) (e ∷ es))
       by more Less is = refl

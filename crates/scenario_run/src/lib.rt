@@ -1,10 +1,12 @@
 //! A scenario from bytes to the journal.
 #![tactic(auto)]
 
+mod execute;
 mod machine;
 mod pages;
 mod print;
 mod read;
+mod run;
 mod stage;
 mod status;
 #[cfg(test)]
