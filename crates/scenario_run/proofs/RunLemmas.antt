@@ -182,3 +182,18 @@ pub said_no_word : (o : Option (Option Command)) → readings.Unknown ≡ readin
 said_no_word None is = refl
 said_no_word (Some None) is = cc
 said_no_word (Some (Some c)) is = cc
+
+-- ---- nothing done
+
+pub appends_none : (a : Option (List ℕ)) → Appends a a []
+appends_none None = tt
+appends_none (Some xs) = sym (append-nil xs)
+
+pub no_run : (bytes : List ℕ) → IsRunSoFar bytes []
+no_run bytes = record {
+  journal = [];
+  text = refl;
+  commands = record { rest = (scenario_of bytes).commands; is = refl };
+  history = record { legal = tt; told = tt };
+  whole = refl;
+}

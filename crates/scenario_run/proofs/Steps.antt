@@ -149,7 +149,7 @@ step_host pool blocks true test =
     let ls = lines_host pool blocks fits in
     let G = after_line no_facts (lines.Do (commands.Pool pool)) in
     let hosted : IsHosted (after_lines G (step_lines G (commands.Host blocks true))) (after_step unborn (commands.Host blocks true)) =
-        subst (λ more. IsHosted (after_lines G (lines.Do (commands.Host blocks true) ∷ more)) (after_step unborn (commands.Host blocks true))) (sym ls) (hosted_host pool blocks fits) in
+    subst (λ more. IsHosted (after_lines G (lines.Do (commands.Host blocks true) ∷ more)) (after_step unborn (commands.Host blocks true))) (sym ls) (hosted_host pool blocks fits) in
     (refl, ls, (refl, refl, refl, hosted))
 
 step_proc : (before : List Command) (G : Facts) (v : MachineView) (uid gid : ℕ) → IsAt stages.Proc before G v → IsStepped stages.Calls before G v (commands.Proc host uid gid)

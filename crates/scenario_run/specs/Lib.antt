@@ -6,3 +6,4 @@ pub mod Digits
 pub mod Reading
 pub mod Text
 pub mod Status
+pub mod Main

@@ -3,6 +3,7 @@
 
 mod execute;
 mod machine;
+mod main_call;
 mod pages;
 mod print;
 mod read;
@@ -12,4 +13,5 @@ mod status;
 #[cfg(test)]
 mod text_tests;
 
+pub use main_call::xemem_main;
 pub use status::{Status, Which, exit_number, status_text};

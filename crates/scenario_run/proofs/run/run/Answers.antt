@@ -39,16 +39,16 @@ loop-rest-preserved g c =
     let after = c.first_line.result.1.now in
     elim c.match-read_line.branch [
       | in-Comment w ↦
-        record {
-          so_far = rw (w.sink-is, w.machine-is, w.stage-is) (so_far-comment _ _ _ _ _ _ after _ _ c.loop-rest.invariant.so_far c.first_line.ensures.lines (said_nothing _ w.in-Comment.ensures));
-          count = omega (arith, c.first_line.ensures.shorter, c.loop-rest.invariant.count);
-          faults = rw w.sink-is c.loop-rest.invariant.faults;
-        }
+          record {
+            so_far = rw (w.sink-is, w.machine-is, w.stage-is) (so_far-comment _ _ _ _ _ _ after _ _ c.loop-rest.invariant.so_far c.first_line.ensures.lines (said_nothing _ w.in-Comment.ensures));
+            count = omega (arith, c.first_line.ensures.shorter, c.loop-rest.invariant.count);
+            faults = rw w.sink-is c.loop-rest.invariant.faults;
+          }
       | in-Command+in-Some+in-Ok w ↦
-        let command = said_something (line_command c.first_line.result.0.now) w.in-Command.command w.in-Command.ensures in
-        record {
-          so_far = rw (w.sink-is, w.machine-is, w.stage-is, w.in-Ok.ensures.after) (so_far-command laws _ _ _ _ _ _ _ after _ _ _ _ c.loop-rest.invariant.so_far c.first_line.ensures.lines command (sym w.next_stage.ensures ∙ w.in-Some.is) w.in-Ok.ensures.written);
-          count = omega (arith, c.first_line.ensures.shorter, c.loop-rest.invariant.count);
-          faults = rw w.sink-is (w.in-Ok.ensures.kept ∙ c.loop-rest.invariant.faults);
-        }
+          let command = said_something (line_command c.first_line.result.0.now) w.in-Command.command w.in-Command.ensures in
+          record {
+            so_far = rw (w.sink-is, w.machine-is, w.stage-is, w.in-Ok.ensures.after) (so_far-command laws _ _ _ _ _ _ _ after _ _ _ _ c.loop-rest.invariant.so_far c.first_line.ensures.lines command (sym w.next_stage.ensures ∙ w.in-Some.is) w.in-Ok.ensures.written);
+            count = omega (arith, c.first_line.ensures.shorter, c.loop-rest.invariant.count);
+            faults = rw w.sink-is (w.in-Ok.ensures.kept ∙ c.loop-rest.invariant.faults);
+          }
     ]

@@ -1,0 +1,77 @@
+// The top call.
+ghost use Rattle.std.specs.Prelude.{◌≡◌, ◌≤◌, ◌↔◌, ◌⊎◌, ℕ, List, length, None, Some, IsTrue};
+ghost use Rattle.std.specs.Io.KnownBytes.{Keeps};
+ghost use Rattle.xm_edge.specs.Faults.{Rose};
+ghost use Rattle.global_model.specs.Scenario.{scenario_of};
+ghost use Rattle.scenario_run.specs.Main.{most, AsksRun, WritesHistory, StopsUnbuilt, StopsWriting, StopsForMemory, StopsAtLimit, StopsReading};
+
+use crate::run::run;
+use crate::{Status, Which};
+use std::alloc::Global;
+use xm_edge::{ReadAllFault, Sink, Source, read_all};
+
+/// The most bytes of a scenario.
+const MOST: u32 = 4_194_304;
+
+// Whether the words ask for a run.
+fn asks_run(words: &Vec<String>) -> bool
+    ensures { IsTrue result ↔ AsksRun words.now.items }
+{
+    words.len() == 1 && words[0].as_str() == "run"
+}
+
+/// Carries out the words of the command line. `run` executes the scenario that the source gives, and writes its journal
+/// to the sink, each line with its line feed in one piece. All other words are `Usage`.
+pub fn xemem_main<S: Source, K: Sink>(
+    alloc: Global,
+    words: &Vec<String>,
+    source: &mut S,
+    sink: &mut K,
+) -> Status
+    // The headline: for every scenario, the journal that is written is a lawful history.
+    ensures headline { result ≡ Status.Ok
+        → WritesHistory (S.left source.old) (S.left source.new) (K.contents sink.old) (K.contents sink.new) }
+
+    // Usage comes exactly where the words ask for no run, and then nothing is read or written.
+    ensures usage { (result ≡ Status.Usage) ↔ (AsksRun words.now.items → ⊥) }
+    ensures idle { result ≡ Status.Usage
+        → Keeps (S.left source.old) (S.left source.new) × Keeps (K.contents sink.old) (K.contents sink.new) }
+
+    // The first line that isn't built.
+    ensures unbuilt { (line : ℕ) → result ≡ Status.Unbuilt line
+        → StopsUnbuilt line (S.left source.old) (S.left source.new) (K.contents sink.old) (K.contents sink.new) }
+
+    // Too many bytes.
+    ensures limit { (which : _) (number : ℕ) → result ≡ Status.Limit which number
+        → (which ≡ Which.Scenario) × (number ≡ most) × StopsAtLimit (S.left source.old) (S.left source.new) (K.contents sink.old) (K.contents sink.new) }
+
+    // A fault of reading or writing comes only where the count of that side rose, and no count falls.
+    ensures read_fault { result ≡ Status.ReadFault
+        → Rose (S.faults source.old) (S.faults source.new) × StopsReading (S.left source.old) (S.left source.new) (K.contents sink.old) (K.contents sink.new) }
+    ensures write_fault { result ≡ Status.WriteFault
+        → Rose (K.faults sink.old) (K.faults sink.new) × StopsWriting (S.left source.old) (S.left source.new) (K.contents sink.old) (K.contents sink.new) }
+    ensures later { (S.faults source.old ≤ S.faults source.new) × (K.faults sink.old ≤ K.faults sink.new) }
+
+    // Want of memory.
+    ensures memory { result ≡ Status.Memory
+        → StopsForMemory (S.left source.old) (S.left source.new) (K.contents sink.old) (K.contents sink.new) }
+
+    // Where nothing stands against it, the scenario is run to its end, but for want of memory.
+    ensures complete { (bytes : List ℕ) → AsksRun words.now.items → S.left source.old ≡ Some bytes → length bytes ≤ most
+        → (scenario_of bytes).unbuilt ≡ None
+        → (Rose (S.faults source.old) (S.faults source.new) → ⊥) → (Rose (K.faults sink.old) (K.faults sink.new) → ⊥)
+        → (result ≡ Status.Ok) ⊎ (result ≡ Status.Memory) }
+{
+    if !asks_run(words) {
+        return Status::Usage;
+    }
+    match read_all(alloc, source, MOST) {
+        Ok(bytes) => run(alloc, &bytes, sink),
+        Err(ReadAllFault::Read) => Status::ReadFault,
+        Err(ReadAllFault::TooLong) => Status::Limit {
+            which: Which::Scenario,
+            number: MOST,
+        },
+        Err(ReadAllFault::Memory) => Status::Memory,
+    }
+}
