@@ -10,6 +10,8 @@ ghost use Rattle.byte_link.specs.Channel.{fresh, waiting_bytes, boundary_of, sen
 
 mod laws;
 mod queues;
+#[cfg(test)]
+mod tests;
 
 pub use laws::{
     boundaries_end_records, bytes_follow_calls, bytes_leave_in_order, pieces_follow_calls,
