@@ -1,4 +1,4 @@
-use Rattle.std.proofs.Common.{◌≡◌, ℕ, ◌+◌, ◌-◌, ◌<◌, ◌≤◌, List, [], ◌∷◌, ◌++◌, length, take, drop, refl, sym, ap, ◌∙◌, append-nil, append_assoc, length-append, length-drop, arith}
+use Rattle.std.proofs.Common.{min, ◌≡◌, ℕ, ◌+◌, ◌-◌, ◌<◌, ◌≤◌, List, [], ◌∷◌, ◌++◌, length, take, drop, refl, sym, ap, ◌∙◌, append-nil, append_assoc, length-append, length-drop, arith}
 use Rattle.std.specs.List.{concat}
 use Rattle.std.proofs.lemmas.List.{take-append-drop, length-take, drop_all}
 use Rattle.byte_link.specs.Channel.{Channel, waiting_bytes, first_length, filled, first_bytes, later_bytes, sent, taken, ended_less}
@@ -67,15 +67,15 @@ first-left_of (b ∷ before) after first gone h k =
     let rest = first-left_of before after first (gone - length b) (omega arith) (omega arith) in
     rw none (rest ∙ omega arith)
 
-pub first-left_of_cut : (before after : List (List ℕ)) (first : List ℕ) (kept gone : ℕ) → length (concat before) ≤ gone → gone < kept → kept ≤ length (concat before) + length first → first_length (left_of (first_bytes kept (before ++ first ∷ after)) gone) ≡ kept - gone
-first-left_of_cut [] after first kept gone h k l =
+pub first-left_of_cut : (before after : List (List ℕ)) (first : List ℕ) (kept gone : ℕ) → length (concat before) ≤ gone → gone < min kept (length (concat before) + length first) → first_length (left_of (first_bytes kept (before ++ first ∷ after)) gone) ≡ min kept (length (concat before) + length first) - gone
+first-left_of_cut [] after first kept gone h k =
     let long = length-drop gone (take kept first) in
     let short = length-take kept first in
     first-cons (drop gone (take kept first)) (later_bytes (gone - length (take kept first)) (first_bytes (kept - length first) after)) (omega arith) ∙ omega arith
-first-left_of_cut (b ∷ before) after first kept gone h k l =
+first-left_of_cut (b ∷ before) after first kept gone h k =
     let long = length-append b (concat before) in
     let short = length-take kept b in
     let size : length (take kept b) ≡ length b = omega arith in
     let none : drop gone (take kept b) ≡ [] = drop_all gone (take kept b) (omega arith) in
-    let rest = first-left_of_cut before after first (kept - length b) (gone - length b) (omega arith) (omega arith) (omega arith) in
+    let rest = first-left_of_cut before after first (kept - length b) (gone - length b) (omega arith) (omega arith) in
     rw (none, size) (rest ∙ omega arith)

@@ -1,5 +1,5 @@
 // Laws of links, for the layers above. They are proved from the definitions alone.
-ghost use Rattle.std.specs.Prelude.{◌≡◌, ℕ, ◌+◌, ◌-◌, ◌<◌, ◌≤◌, List, [], ◌∷◌, ◌++◌, length, take, drop};
+ghost use Rattle.std.specs.Prelude.{◌≡◌, ℕ, ◌+◌, ◌-◌, ◌<◌, ◌≤◌, List, [], ◌∷◌, ◌++◌, length, take, drop, min};
 ghost use Rattle.std.specs.List.{concat};
 ghost use Rattle.byte_link.specs.Channel.{Channel, fresh, waiting_bytes, boundary_of, first_bytes, sent, taken, ended_less, mark_taken};
 ghost use Rattle.byte_link.specs.Passage.{Carries, left_of};
@@ -47,6 +47,6 @@ pub fn boundaries_end_records()
         boundary_of c ≡ length (concat before) + length first - gone }
     ensures cut { (c : Channel) (before after : List (List ℕ)) (first : List ℕ) (kept gone : ℕ) →
         c.pieces ≡ left_of (first_bytes kept (before ++ first ∷ after)) gone →
-        length (concat before) ≤ gone → gone < kept → kept ≤ length (concat before) + length first →
-        boundary_of c ≡ kept - gone }
+        length (concat before) ≤ gone → gone < min kept (length (concat before) + length first) →
+        boundary_of c ≡ min kept (length (concat before) + length first) - gone }
 {}

@@ -7,5 +7,5 @@ pub returns : goal.returns
 returns c =
     record {
       whole = λ c before after first gone e h k. ap first_length e ∙ first-left_of before after first gone h k;
-      cut = λ c before after first kept gone e h k l. ap first_length e ∙ first-left_of_cut before after first kept gone h k l;
+      cut = λ c before after first kept gone e h k. ap first_length e ∙ first-left_of_cut before after first kept gone h k;
     }
