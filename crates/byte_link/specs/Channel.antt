@@ -1,4 +1,4 @@
-use Rattle.std.specs.Prelude.{ℕ, ◌-◌, Bool, true, false, List, [], ◌∷◌, ◌++◌, length, take, drop, filter}
+use Rattle.std.specs.Prelude.{◌≡◌, ℕ, ◌-◌, Bool, true, false, List, [], ◌∷◌, ◌++◌, length, take, drop, filter}
 use Rattle.std.specs.List.{concat}
 
 -- a link, as it is seen. A piece is what waits of one record: pieces come in the order of their records, and none is empty
@@ -14,6 +14,12 @@ fresh = record { pieces = []; ended = false; end_taken = false }
 -- the bytes that wait, in order
 abbrev pub waiting_bytes : Channel → List ℕ
 waiting_bytes c = concat c.pieces
+
+-- the end mark comes next
+pub record IsAtEnd (c : Channel) : Type 0 where
+  pub marked : c.ended ≡ true
+  pub empty : waiting_bytes c ≡ []
+  pub not_taken : c.end_taken ≡ false
 
 -- how many bytes the first piece has
 abbrev pub first_length : List (List ℕ) → ℕ

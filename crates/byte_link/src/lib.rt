@@ -1,12 +1,12 @@
 //! A byte link: records go in at one end, and their bytes leave at the other, in order.
 //!
-//! Each channel between two enclaves is two links, one a direction. A link knows where its records end, so that a
-//! receiver can take whole records or any part of them. When its sender dies, the last bytes are cut off and the end
-//! mark follows what still waits.
+//! The channel from an enclave to its neighbour is one link. It knows where its records end, so that a receiver can
+//! take whole records or any part of them. When the sender dies, the last bytes are cut off, and the end mark follows
+//! what still waits.
 #![tactic(auto)]
 
-ghost use Rattle.std.specs.Prelude.{◌≡◌, ◌+◌, ◌-◌, ◌^◌, ◌<◌, ◌≤◌, ◌↔◌, false, true, [], ◌++◌, length, take, drop, min, slice_get, IfOk, OnOk, OnErr, IsTrue};
-ghost use Rattle.byte_link.specs.Channel.{fresh, waiting_bytes, boundary_of, sent, taken, ended_less, mark_taken};
+ghost use Rattle.std.specs.Prelude.{◌≡◌, ◌+◌, ◌-◌, ◌^◌, ◌<◌, ◌≤◌, ◌↔◌, false, [], ◌++◌, length, take, drop, min, slice_get, IfOk, OnOk, OnErr, IsTrue};
+ghost use Rattle.byte_link.specs.Channel.{fresh, waiting_bytes, boundary_of, sent, taken, ended_less, mark_taken, IsAtEnd};
 
 mod laws;
 mod queues;
@@ -21,7 +21,7 @@ use std::alloc::{AllocError, Global};
 use std::collections::VecDeque;
 use std::marker::Model;
 
-/// One direction of a channel: the bytes that wait, oldest first, and where their records end.
+/// The channel from an enclave to its neighbour: the bytes that wait, oldest first, and where their records end.
 ///
 /// Contracts see it as a `Channel`: a list of pieces, each what waits of one record, and the two bits of the end mark.
 #[derive(Drop)]
@@ -118,16 +118,14 @@ impl Link {
 
     /// Whether the end mark comes next: it is set, nothing waits before it, and it isn't taken.
     pub fn at_end(&self) -> bool
-        ensures { IsTrue result ↔ ((self.now.ended ≡ true) × (waiting_bytes self.now ≡ []) × (self.now.end_taken ≡ false)) }
+        ensures { IsTrue result ↔ IsAtEnd self.now }
     {
         self.ended && self.bytes.is_empty() && !self.end_taken
     }
 
     /// Takes the end mark. Nothing leaves the link after it.
     pub fn take_end(&mut self)
-        requires ended { self.old.ended ≡ true }
-        requires empty { waiting_bytes self.old ≡ [] }
-        requires not_taken { self.old.end_taken ≡ false }
+        requires { IsAtEnd self.old }
         ensures { self.new ≡ mark_taken self.old }
     {
         self.end_taken = true;
