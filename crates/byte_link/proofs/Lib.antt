@@ -1,0 +1,5 @@
+pub mod Splits
+pub mod PieceLemmas
+pub mod Rows
+pub mod Steps
+pub mod LawLemmas
