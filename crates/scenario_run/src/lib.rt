@@ -11,6 +11,8 @@ mod run;
 mod stage;
 mod status;
 #[cfg(test)]
+mod tests;
+#[cfg(test)]
 mod text_tests;
 
 pub use main_call::xemem_main;
