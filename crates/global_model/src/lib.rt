@@ -6,9 +6,11 @@ mod count;
 mod laws;
 mod line;
 mod lines;
+mod text_laws;
 
 pub use command::Command;
 pub use count::words;
 pub use laws::{journals_are_legal, one_journal, scenarios_are_placed, worked_examples};
 pub use line::Line;
 pub use lines::Lines;
+pub use text_laws::commands_are_read_back;
