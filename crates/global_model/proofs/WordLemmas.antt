@@ -111,6 +111,9 @@ pub record Spells (low high : ℕ) (word : List ℕ) (n : ℕ) : Type 0 where
   pub least : low ≤ n
   pub most : n ≤ high
 
+below : (n high most : ℕ) → n ≤ high → high < most → n < most
+below n high most le lt = omega arith
+
 spells_value : (low high : ℕ) (word : List ℕ) (n : ℕ) → high < 2 ^ 64 → (is_number word && leb low (digits_value 10 word) && leb (digits_value 10 word) high) ≡ true → digits_value 10 word ≡ n → Spells low high word n
 spells_value low high word n fits all value =
     let a = and_parts _ _ all in
@@ -119,7 +122,7 @@ spells_value low high word n fits all value =
     let d = and_parts _ _ c.0 in
     let ge : low ≤ digits_value 10 word = leb-true _ _ b.1 in
     let le : digits_value 10 word ≤ high = leb-true _ _ a.1 in
-    let short_enough : digits_value 10 word < 2 ^ 64 = omega (arith, le, fits) in
+    let short_enough = below _ _ _ le fits in
     let short : get_or word 0 0 ≡ 48 → length word ≡ 1 = λ lead. elim (cases_eq (length word) 1) [ inl one ↦ one | inr more ↦ let some = ltb-true 0 (length word) d.0 in let long : 1 < length word = omega arith in absurd (two_digits _ _ c.1 long lead) ] in
     rw (← value) (record { is = sym (decimal-digits_value own word d.1 (ltb-true _ _ d.0) short (omega arith)); least = ge; most = le })
 

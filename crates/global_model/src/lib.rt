@@ -13,4 +13,4 @@ pub use count::words;
 pub use laws::{journals_are_legal, one_journal, scenarios_are_placed, worked_examples};
 pub use line::Line;
 pub use lines::Lines;
-pub use text_laws::commands_are_read_back;
+pub use text_laws::{commands_are_read_back, journals_are_split_again};
