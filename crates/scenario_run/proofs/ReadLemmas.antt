@@ -48,7 +48,7 @@ blank_behind text n other some =
     let lt : n < length text = omega (arith, length-drop n text) in
     false_from_ne_true _ (rw (get_or-drop, add-zero) (other lt))
 
--- more than eight words spell no command
+-- eight words and more spell no command
 count_is : (first : List ℕ) (count : ℕ) (words : List (List ℕ)) → (length words ≡ count → ⊥) → is_form first count words ≡ false
 count_is first count words ne = and_left _ _ (ne_eqb _ _ ne)
 

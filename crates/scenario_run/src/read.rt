@@ -45,7 +45,7 @@ fn line_length(text: &[u8]) -> usize
     text.len()
 }
 
-/// The first line and what comes after it.
+/// The first line without its line feed, and what comes after it.
 pub fn first_line(text: &[u8]) -> (&[u8], &[u8])
     requires { 0 < length text.now }
     ensures lines { lines_of text.now ≡ result.0.now ∷ lines_of result.1.now }
@@ -104,8 +104,8 @@ fn first_word(text: &[u8]) -> (&[u8], &[u8])
     }
 }
 
-/// The first eight words of a line.
-pub fn words(line: &[u8]) -> ArrayVec<&[u8], 8>
+// The first eight words of a line: no form has as many, and a comment may have any number.
+fn words(line: &[u8]) -> ArrayVec<&[u8], 8>
     ensures { map (λ word. word.now) result.items ≡ take 8 (words_of line.now) }
 {
     let mut words = ArrayVec::new();
@@ -132,8 +132,8 @@ fn digits(word: &[u8]) -> Option<u64>
     text.parse::<u64>().ok()
 }
 
-/// The number that a word is, in a range.
-pub fn number(word: &[u8], low: u64, high: u64) -> Option<u64>
+// The number that a word is, in a range.
+fn number(word: &[u8], low: u64, high: u64) -> Option<u64>
     ensures value { result ≡ number_in low high word.now }
     ensures bounds { IfSome result (λ n. (low ≤ n) × (n ≤ high)) }
 {
