@@ -1,5 +1,5 @@
 -- The lines and the words of a journal's text.
-use Rattle.std.proofs.Common.{◌≡◌, ◌≢◌, ◌<◌, ◌==◌, ◌/◌, ◌%◌, ℕ, zero, suc, List, [], ◌∷◌, ◌++◌, length, map, Bool, true, false, ◌&&◌, ltb, cond, decimal, codes, refl, ap, ◌∙◌, inl, inr, arith, append_assoc, append-nil, if◌then◌else◌}
+use Rattle.std.proofs.Common.{Some, ◌≡◌, ◌≢◌, ◌<◌, ◌==◌, ◌/◌, ◌%◌, ℕ, zero, suc, List, [], ◌∷◌, ◌++◌, length, map, Bool, true, false, ◌&&◌, ltb, cond, decimal, codes, refl, ap, ◌∙◌, inl, inr, arith, append_assoc, append-nil, if◌then◌else◌}
 use Rattle.std.proofs.lemmas.Bool.{ne_eqb, and_parts, lt-ltb, ltb-true, cases_Bool}
 use Rattle.std.specs.Fmt.{digits, digits_onto, digit_glyph}
 use Rattle.std.specs.List.{slice_split, join_with_byte}
@@ -15,8 +15,11 @@ use Rattle.global_model.specs.declared.command.Command.{Command}
 use Rattle.global_model.specs.declared.command.Command.TheVariants as commands
 use Rattle.global_model.specs.declared.line.Line.{Line}
 use Rattle.global_model.specs.declared.line.Line.TheVariants as lines
+use Rattle.global_model.specs.Ranges.{IsInRange}
+use Rattle.global_model.specs.Scenario.{is_comment, line_command}
 use Rattle.global_model.specs.Words.{lines_of, words_of, is_blank, is_filled}
 use Rattle.global_model.specs.Spelling.{ns_word, want_word, kind_word, cause_word, command_words, line_words, text_of}
+use Rattle.global_model.proofs.SpellingLemmas.{command_of-words}
 
 -- no byte is a blank, a line feed or another control
 abbrev IsSolid : List ℕ → Type 0
@@ -150,6 +153,16 @@ words_of-joined (word ∷ next ∷ words) h =
 
 pub words_of-line : (line : Line) → words_of (join_with_byte 32 (line_words line)) ≡ line_words line
 words_of-line line = words_of-joined (line_words line) (line_in_words line)
+
+no_comment : (command : Command) → is_comment (command_words command) ≡ false
+no_comment (commands.Pool blocks) = refl
+no_comment (commands.Host blocks ns) = refl
+no_comment (commands.Proc e uid gid) = refl
+no_comment (commands.Alloc e p at pages) = refl
+no_comment (commands.Touch e p addr want) = refl
+
+pub line_command-words : (command : Command) → IsInRange command → line_command (join_with_byte 32 (command_words command)) ≡ Some (Some command)
+line_command-words command h = rw (words_of-joined (command_words command) (command_in_words command), no_comment command, command_of-words command h) refl
 
 -- ---- the lines of a text
 

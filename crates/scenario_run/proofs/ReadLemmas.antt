@@ -1,21 +1,20 @@
 -- What the reader finds in bytes.
 use Rattle.std.proofs.Common.{◌≡◌, ◌≢◌, ◌<◌, ◌≤◌, ℕ, zero, suc, List, [], ◌∷◌, length, get_or, take, drop, true, false, Option, None, Some, Result, Ok, Err, Bor, MatchResult, refl, sym, ap, ◌∙◌, arith, codes, length-drop, add-zero, inl, inr}
 use Rattle.std.proofs.lemmas.Bool.{ne_eqb, false_from_ne_true, and_left, cases_lt}
-use Rattle.std.proofs.lemmas.Str.Parse.{parse_plain}
 use Rattle.std.proofs.lemmas.Fmt.{IsAscii-from_digits}
-use Rattle.std.proofs.lemmas.Str.{IsUtf8-from_ascii}
 use Rattle.std.proofs.lemmas.List.{length-take-le, get_or-drop, take_all}
-use Rattle.std.specs.Option.{option_map}
-use Rattle.global_model.specs.declared.command.Command.{Command}
-use Rattle.global_model.specs.Scenario.{command_of, is_form, is_comment, line_command}
-use Rattle.scenario_run.specs.Reading.{reading_of}
-use Rattle.std.specs.Option.{SomeIff}
+use Rattle.std.proofs.lemmas.Str.Parse.{parse_plain}
+use Rattle.std.proofs.lemmas.Str.{IsUtf8-from_ascii}
+use Rattle.std.specs.Option.{SomeIff, option_map}
 use Rattle.std.specs.Result.{result_ok}
-use Rattle.std.specs.Str.{all_ascii_digits, IsUtf8}
 use Rattle.std.specs.Str.Parse.{digits_value, ParsesUnsigned}
-use Rattle.global_model.specs.Words.{is_blank, words_of}
+use Rattle.std.specs.Str.{all_ascii_digits, IsUtf8}
 use Rattle.global_model.proofs.WordLemmas.{own}
+use Rattle.global_model.specs.Scenario.{command_of, is_form, is_comment, line_command}
+use Rattle.global_model.specs.Words.{is_blank, words_of}
+use Rattle.global_model.specs.declared.command.Command.{Command}
 use Rattle.scenario_run.specs.Digits.{SpellsDigits}
+use Rattle.scenario_run.specs.Reading.{reading_of}
 
 -- digits are text
 pub IsUtf8-digits : (word : List ℕ) → all_ascii_digits word ≡ true → IsUtf8 word

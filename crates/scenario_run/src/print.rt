@@ -1,5 +1,5 @@
 // Journal lines as text.
-ghost use Rattle.std.specs.Prelude.{◌≡◌, ◌∷◌, ◌++◌, [], ℕ, map, decimal, OnOk, OnErr};
+ghost use Rattle.std.specs.Prelude.{◌≡◌, ◌∷◌, ◌++◌, [], map, decimal, OnOk, OnErr};
 ghost use Rattle.global_model.specs.Spelling.{spaced, cause_word, kind_word, want_word, command_words, line_words, line_text, text_of};
 ghost use Rattle.scenario_run.specs.Text.{joined};
 

@@ -1,13 +1,12 @@
 // Lines, words, numbers and commands out of bytes.
-ghost use Rattle.std.specs.Prelude.{◌≡◌, ◌+◌, ◌<◌, ◌≤◌, ◌^◌, ◌∷◌, ◌&&◌, [], length, map, ℕ, ◌≢◌, slice_index, take, drop, codes, false, true, IfSome, nat_lt, if◌then◌else◌, Some, None, slice_index_or};
-ghost use Rattle.std.specs.Str.{all_ascii_digits, bytes_eq};
+ghost use Rattle.std.specs.Prelude.{◌≡◌, ◌≢◌, ◌<◌, ◌≤◌, ◌∷◌, ℕ, length, map, take, slice_index, false, IfSome};
 ghost use Rattle.std.specs.Str.Parse.{digits_value};
 ghost use Rattle.std.specs.Option.{SomeIff};
+ghost use Rattle.global_model.specs.Scenario as form;
+ghost use Rattle.global_model.specs.Scenario.{command_of, pool_form, host_form, proc_form, alloc_form, touch_form, want_form, line_command};
 ghost use Rattle.global_model.specs.Words as spec;
 ghost use Rattle.global_model.specs.Words.{lines_of, words_of, number_in};
 ghost use Rattle.scenario_run.specs.Digits.{SpellsDigits};
-ghost use Rattle.global_model.specs.Scenario as form;
-ghost use Rattle.global_model.specs.Scenario.{command_of, pool_form, host_form, proc_form, alloc_form, touch_form, want_form, line_command};
 ghost use Rattle.scenario_run.specs.Reading.{reading_of};
 
 use arrayvec::ArrayVec;
