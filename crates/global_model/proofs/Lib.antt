@@ -2,3 +2,6 @@ pub mod Pasts
 pub mod Told
 pub mod Placed
 pub mod Legal
+pub mod SpellingLemmas
+pub mod TextLemmas
+pub mod WordLemmas

@@ -1,6 +1,7 @@
 pub mod Words
 pub mod Spelling
 pub mod Scenario
+pub mod Ranges
 pub mod Facts
 pub mod Space
 pub mod Refusals

@@ -6,6 +6,7 @@ mod count;
 mod laws;
 mod line;
 mod lines;
+mod text_laws;
 
 pub use command::Command;
 pub use count::words;
@@ -14,3 +15,4 @@ pub use laws::{
 };
 pub use line::Line;
 pub use lines::Lines;
+pub use text_laws::{commands_are_read_back, journals_are_split_again};

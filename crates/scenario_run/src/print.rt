@@ -1,5 +1,5 @@
 // Journal lines as text.
-ghost use Rattle.std.specs.Prelude.{◌≡◌, ◌∷◌, ◌++◌, [], ℕ, map, decimal, OnOk};
+ghost use Rattle.std.specs.Prelude.{◌≡◌, ◌∷◌, ◌++◌, [], map, decimal, OnOk, OnErr};
 ghost use Rattle.global_model.specs.Spelling.{spaced, cause_word, kind_word, want_word, command_words, line_words, line_text, text_of};
 ghost use Rattle.scenario_run.specs.Text.{joined};
 
@@ -229,9 +229,9 @@ fn fields(out: &mut Vec<u8>, line: &Line) -> Result<(), AllocError>
     }
 }
 
-/// Appends the text of a line. For want of memory a part of it may stand.
+// Appends the text of a line. For want of memory a part of it may stand.
 #[tactic(auto, using(std::proofs::lemmas::List::append_assoc, crate::proofs::PrintLemmas::join_is))]
-pub fn print_line(line: &Line, out: &mut Vec<u8>) -> Result<(), AllocError>
+fn append_line(out: &mut Vec<u8>, line: &Line) -> Result<(), AllocError>
     ensures { OnOk result (out.new.items ≡ out.old.items ++ line_text line.now) }
 {
     fields(out, line)?;
@@ -239,12 +239,23 @@ pub fn print_line(line: &Line, out: &mut Vec<u8>) -> Result<(), AllocError>
     Ok(())
 }
 
-/// Appends the texts of lines. For want of memory a part of them may stand.
-pub fn print_lines(lines: &[Line], out: &mut Vec<u8>) -> Result<(), AllocError>
+// Appends the texts of lines. For want of memory a part of them may stand.
+fn append_lines(out: &mut Vec<u8>, lines: &[Line]) -> Result<(), AllocError>
     ensures { OnOk result (out.new.items ≡ out.old.items ++ text_of lines.now) }
 {
     for line in lines {
-        print_line(line, out)?;
+        append_line(out, line)?;
     }
+    Ok(())
+}
+
+/// Appends the texts of lines in one piece. For want of memory the buffer stays as it was.
+pub fn print_lines(lines: &[Line], out: &mut Vec<u8>) -> Result<(), AllocError>
+    ensures ok { OnOk result (out.new.items ≡ out.old.items ++ text_of lines.now) }
+    ensures err { OnErr result (out.new.items ≡ out.old.items) }
+{
+    let mut text = Vec::new(*out.allocator());
+    append_lines(&mut text, lines)?;
+    out.extend_from_slice(&text)?;
     Ok(())
 }

@@ -1,13 +1,12 @@
 // Lines, words, numbers and commands out of bytes.
-ghost use Rattle.std.specs.Prelude.{◌≡◌, ◌+◌, ◌<◌, ◌≤◌, ◌^◌, ◌∷◌, ◌&&◌, [], length, map, ℕ, ◌≢◌, slice_index, take, drop, codes, false, true, IfSome, nat_lt, if◌then◌else◌, Some, None, slice_index_or};
-ghost use Rattle.std.specs.Str.{all_ascii_digits, bytes_eq};
+ghost use Rattle.std.specs.Prelude.{◌≡◌, ◌≢◌, ◌<◌, ◌≤◌, ◌∷◌, ℕ, length, map, take, slice_index, false, IfSome};
 ghost use Rattle.std.specs.Str.Parse.{digits_value};
 ghost use Rattle.std.specs.Option.{SomeIff};
+ghost use Rattle.global_model.specs.Scenario as form;
+ghost use Rattle.global_model.specs.Scenario.{command_of, pool_form, host_form, proc_form, alloc_form, touch_form, want_form, line_command};
 ghost use Rattle.global_model.specs.Words as spec;
 ghost use Rattle.global_model.specs.Words.{lines_of, words_of, number_in};
 ghost use Rattle.scenario_run.specs.Digits.{SpellsDigits};
-ghost use Rattle.global_model.specs.Scenario as form;
-ghost use Rattle.global_model.specs.Scenario.{command_of, pool_form, host_form, proc_form, alloc_form, touch_form, want_form, line_command};
 ghost use Rattle.scenario_run.specs.Reading.{reading_of};
 
 use arrayvec::ArrayVec;
@@ -45,7 +44,7 @@ fn line_length(text: &[u8]) -> usize
     text.len()
 }
 
-/// The first line and what comes after it.
+/// The first line without its line feed, and what comes after it.
 pub fn first_line(text: &[u8]) -> (&[u8], &[u8])
     requires { 0 < length text.now }
     ensures lines { lines_of text.now ≡ result.0.now ∷ lines_of result.1.now }
@@ -104,8 +103,8 @@ fn first_word(text: &[u8]) -> (&[u8], &[u8])
     }
 }
 
-/// The first eight words of a line.
-pub fn words(line: &[u8]) -> ArrayVec<&[u8], 8>
+// The first eight words of a line: no form has as many, and a comment may have any number.
+fn words(line: &[u8]) -> ArrayVec<&[u8], 8>
     ensures { map (λ word. word.now) result.items ≡ take 8 (words_of line.now) }
 {
     let mut words = ArrayVec::new();
@@ -132,8 +131,8 @@ fn digits(word: &[u8]) -> Option<u64>
     text.parse::<u64>().ok()
 }
 
-/// The number that a word is, in a range.
-pub fn number(word: &[u8], low: u64, high: u64) -> Option<u64>
+// The number that a word is, in a range.
+fn number(word: &[u8], low: u64, high: u64) -> Option<u64>
     ensures value { result ≡ number_in low high word.now }
     ensures bounds { IfSome result (λ n. (low ≤ n) × (n ≤ high)) }
 {
