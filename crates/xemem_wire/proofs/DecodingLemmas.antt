@@ -135,3 +135,17 @@ after_piece-append d xs ys =
           ap (λ e. after_piece e ys) (after_piece-going d xs f) ∙ after_taken d (d.rest ++ xs) ys
           ∙ ap (taken d) (append_assoc d.rest xs ys) ∙ sym (after_piece-going d (xs ++ ys) f)
     ]
+
+-- no more bytes are counted than have come
+pub after_piece-count : (d : Decoding) (piece : List ℕ) → (after_piece d piece).before + length (after_piece d piece).rest ≤ d.before + length d.rest + length piece
+after_piece-count d piece =
+    let bytes : List ℕ = d.rest ++ piece in
+    let long : length bytes ≡ length d.rest + length piece = length-append d.rest piece in
+    let count = λ (e : Decoding). e.before + length e.rest in
+    elim (cases_Bool (is_some d.bad)) [
+      | inl t ↦ omega (arith, ap count (after_piece-stopped d piece t))
+      | inr f ↦
+          option_cases (first_bad bytes)
+          (λ fine. omega (arith, ap count (after_piece-going d piece f ∙ taken-fine d bytes fine), length-rest_of bytes))
+          (λ bad found. omega (arith, ap count (after_piece-going d piece f ∙ taken-bad d bytes bad found), length-rest_of bytes))
+    ]

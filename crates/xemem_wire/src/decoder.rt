@@ -98,6 +98,7 @@ impl Decoder {
         ensures taken { OnOk result (self.new ≡ after_piece self.old piece.now) }
         ensures fine { OnOk result (self.new.bad ≡ None) }
         ensures refused { IfErr result (λ fault. Leaves fault self.old piece.now self.new) }
+        ensures count { self.new.before + length self.new.rest ≤ self.old.before + length self.old.rest + length piece.now }
         ensures again { IfSome self.old.bad (λ bad. (self.new ≡ self.old) × IsErrOf result (FeedFault.Bad bad.fault bad.place)) }
     {
         if let Some(bad) = self.bad {
