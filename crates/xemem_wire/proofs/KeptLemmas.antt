@@ -12,8 +12,8 @@ use Rattle.xemem_wire.specs.Spelling.{spelling_of, spellings_of}
 use Rattle.xemem_wire.specs.Faults.{first_failed, fault_of}
 use Rattle.xemem_wire.specs.Stream.{record_at, front_record, Reading, onto, after_records, nothing_read, reading_of, records_of, rest_of, moved, first_bad}
 use Rattle.xemem_wire.specs.Decoding.{Decoding, decoded, nothing_taken, IsKept, Takes, taken, after_piece}
-use Rattle.xemem_wire.proofs.SpellingLemmas.{IsBytes, length-spelling_of, u32_at-spelling_of, whole_header}
-use Rattle.xemem_wire.proofs.StreamLemmas.{option_cases, Begins, front_record_begins, front_record_short, front_record-spelling_of, reading_of-none, reading_of-some, reading_of-spellings, reading_of-append, Splits, splits, length-rest_of, front_record-is}
+use Rattle.xemem_wire.proofs.SpellingLemmas.{IsBytes, u32_at-spelling_of, spelling_long, told_length}
+use Rattle.xemem_wire.proofs.StreamLemmas.{option_cases, Begins, front_record_begins, front_record_short, front_record-spelling_of, reading_of-none, reading_of-some, reading_of-spellings, reading_of-append, Splits, splits, length-rest_of, front_record-is, whole_found}
 use Rattle.xemem_wire.proofs.DecodingLemmas.{decoding_equal, taken-fine, taken-bad, going_on, stopped_at, after_piece-going}
 
 pub reading_of-empty : reading_of [] ≡ nothing_read []
@@ -38,16 +38,14 @@ decoded_nothing bytes e =
     ap (λ xs. decoded xs 0 None) e
     ∙ ap (λ reading. let d : Decoding = record { records = reading.records; rest = reading.rest; before = 0; bad = None } in d) reading_of-empty
 
--- bytes without a bad field with which no record begins are shorter than a record
-pub rest_short : (rest : List ℕ) → IsBytes rest → fault_of rest ≡ None → front_record rest ≡ None → length rest < 16
+-- bytes without a bad field with which no record begins are shorter than a longest record
+pub rest_short : (rest : List ℕ) → IsBytes rest → fault_of rest ≡ None → front_record rest ≡ None → length rest < 16404
 rest_short rest h fine none =
-    elim (cases_lt (length rest) 16) [
+    elim (cases_lt (length rest) 16404) [
       | inl lt ↦ lt
       | inr ge ↦
-          let w = whole_header rest h ge fine in
-          let found : front_record rest ≡ Some (record_at rest)
-          = ap front_record w.1 ∙ front_record-spelling_of (record_at rest) (drop 16 rest) w.0 in
-          absurd (none-some (record_at rest) (sym none ∙ found))
+          let long : u32_at rest 0 ≤ length rest = omega (arith, told_length rest (omega arith) fine) in
+          absurd (none-some (record_at rest) (sym none ∙ whole_found rest h (omega arith) long fine))
     ]
 
 -- such bytes are the rest that a decoder keeps
@@ -58,17 +56,15 @@ kept_stops bytes given whole bad k =
 pub kept_fine : (bytes : List ℕ) (given whole : ℕ) (bad : Option BadField) → IsKept bytes given whole bad → fault_of (take (length bytes - whole) (drop whole bytes)) ≡ None
 kept_fine bytes given whole bad k = rw take_rest k.fine
 
--- the next record
-pub record GivesNext (bytes : List ℕ) (given whole : ℕ) (bad : Option BadField) : Type 0 where
+-- the next record, and its length
+pub record GivesNext (bytes : List ℕ) (given whole n : ℕ) (bad : Option BadField) : Type 0 where
   pub long : given + 16 ≤ length bytes
-  pub step : u32_at (drop given bytes) 0 ≡ 16
-  pub within : given + 16 ≤ whole
-  pub kept : IsKept bytes (given + 16) whole bad
-  pub records : records_of (drop given bytes) ≡ record_at (drop given bytes) ∷ records_of (drop (given + 16) bytes)
-  pub rest : rest_of (drop given bytes) ≡ rest_of (drop (given + 16) bytes)
+  pub kept : IsKept bytes (given + n) whole bad
+  pub records : records_of (drop given bytes) ≡ record_at (drop given bytes) ∷ records_of (drop (given + n) bytes)
+  pub rest : rest_of (drop given bytes) ≡ rest_of (drop (given + n) bytes)
 
-pub gives_next : (bytes : List ℕ) (given whole : ℕ) (bad : Option BadField) → IsKept bytes given whole bad → given < whole → GivesNext bytes given whole bad
-gives_next bytes given whole bad k lt =
+pub gives_next : (bytes : List ℕ) (given whole n : ℕ) (bad : Option BadField) → IsKept bytes given whole bad → given < whole → n ≡ u32_at (drop given bytes) 0 → GivesNext bytes given whole n bad
+gives_next bytes given whole n bad k lt told =
     let front : List ℕ = drop given bytes in
     option_cases (front_record front)
     (λ none.
@@ -77,21 +73,20 @@ gives_next bytes given whole bad k lt =
     (λ r found.
     let b : Begins front r = front_record_begins front r found in
     let is_it : record_at front ≡ r = front_record-is front r found in
-    let read : reading_of front ≡ onto r (reading_of (drop (given + 16) bytes))
-    = reading_of-some front r found
-    ∙ ap (λ n. onto r (reading_of (drop n front))) (length-spelling_of r)
-    ∙ ap (λ xs. onto r (reading_of xs)) (drop-drop 16 given bytes) in
-    let rest : rest_of front ≡ rest_of (drop (given + 16) bytes) = ap (λ reading. reading.rest) read in
-    let shorter : length (rest_of (drop (given + 16) bytes)) ≤ length (drop (given + 16) bytes)
-    = omega (arith, length-rest_of (drop (given + 16) bytes)) in
-    let within : given + 16 ≤ whole
-    = omega (arith, b.long, shorter, ap length (sym rest ∙ k.rest), length-drop given bytes, length-drop whole bytes, length-drop (given + 16) bytes, k.within) in
+    let length_is : length (spelling_of r) ≡ n
+    = sym (told ∙ ap (λ xs. u32_at xs 0) b.spelled ∙ u32_at-spelling_of r (drop (length (spelling_of r)) front)) in
+    let read : reading_of front ≡ onto r (reading_of (drop (given + n) bytes))
+    = reading_of-some front r found ∙ ap (λ m. onto r (reading_of (drop m front))) length_is
+    ∙ ap (λ xs. onto r (reading_of xs)) (drop-drop n given bytes) in
+    let rest : rest_of front ≡ rest_of (drop (given + n) bytes) = ap (λ reading. reading.rest) read in
+    let shorter : length (rest_of (drop (given + n) bytes)) ≤ length (drop (given + n) bytes)
+    = omega (arith, length-rest_of (drop (given + n) bytes)) in
+    let within : given + n ≤ whole
+    = omega (arith, length_is, b.fits, shorter, ap length (sym rest ∙ k.rest), length-drop given bytes, length-drop whole bytes, length-drop (given + n) bytes, k.within) in
     record {
       long = omega (arith, b.long, length-drop given bytes);
-      step = ap (λ xs. u32_at xs 0) b.spelled ∙ u32_at-spelling_of r (drop (length (spelling_of r)) front);
-      within = within;
       kept = record { order = within; within = k.within; rest = sym rest ∙ k.rest; fine = k.fine; stopped = k.stopped };
-      records = ap (λ reading. reading.records) read ∙ ap (λ x. x ∷ records_of (drop (given + 16) bytes)) (sym is_it);
+      records = ap (λ reading. reading.records) read ∙ ap (λ x. x ∷ records_of (drop (given + n) bytes)) (sym is_it);
       rest = rest;
     })
 
@@ -217,10 +212,9 @@ without_first d = record { records = drop 1 d.records; rest = d.rest; before = d
 pub without_none : (d : Decoding) → d.records ≡ [] → d ≡ without_first d
 without_none d e = decoding_equal d (without_first d) (e ∙ sym (ap (drop 1) e)) refl refl refl
 
-pub given_next : (bytes : List ℕ) (given whole before n : ℕ) (bad : Option BadField) (now : Decoding) → GivesNext bytes given whole bad → n ≡ 16 → decoded (drop given bytes) before bad ≡ now → decoded (drop (given + n) bytes) before bad ≡ without_first now
-given_next bytes given whole before n bad now g e view =
-    ap (λ k. decoded (drop (given + k) bytes) before bad) e
-    ∙ decoding_equal (decoded (drop (given + 16) bytes) before bad) (without_first (decoded (drop given bytes) before bad)) (sym (ap (drop 1) g.records)) (sym g.rest) refl refl
+pub given_next : (bytes : List ℕ) (given whole before n : ℕ) (bad : Option BadField) (now : Decoding) → GivesNext bytes given whole n bad → decoded (drop given bytes) before bad ≡ now → decoded (drop (given + n) bytes) before bad ≡ without_first now
+given_next bytes given whole before n bad now g view =
+    decoding_equal (decoded (drop (given + n) bytes) before bad) (without_first (decoded (drop given bytes) before bad)) (sym (ap (drop 1) g.records)) (sym g.rest) refl refl
     ∙ ap without_first view
 
 -- after a piece without a bad field

@@ -11,16 +11,18 @@ use Rattle.xemem_wire.specs.Spelling.{spelling_of, spellings_of, is_valid, AreVa
 use Rattle.xemem_wire.specs.Faults.{first_failed, fault_of}
 use Rattle.xemem_wire.specs.Stream.{front_record, after_records, nothing_read, reading_of, records_of, rest_of, moved, first_bad, IsSplit}
 use Rattle.xemem_wire.specs.Decoding.{Decoding, nothing_taken, taken, after_piece, from_the_start}
-use Rattle.xemem_wire.proofs.SpellingLemmas.{length-spelling_of}
 use Rattle.xemem_wire.proofs.StreamLemmas.{option_cases, moved_twice, front_record-spelling_of, Begins, front_record_begins, Splits, splits, reading_of-splits, reading_of-spellings, reading_of-take, fault_of-take, length-rest_of}
 use Rattle.xemem_wire.proofs.DecodingLemmas.{decoding_equal, after_piece-going, after_piece-append}
 use Rattle.xemem_wire.proofs.KeptLemmas.{reading_of-empty}
 
 pub one_spelling : (r s : Record) (x y : List ℕ) → is_valid r ≡ true → is_valid s ≡ true → spelling_of r ++ x ≡ spelling_of s ++ y → (r ≡ s) × (x ≡ y)
-one_spelling r s x y h k e = (
-  same_Some r s (sym (front_record-spelling_of r x h) ∙ ap front_record e ∙ front_record-spelling_of s y k),
-  sym (drop_at (spelling_of r) x 16 (length-spelling_of r)) ∙ ap (drop 16) e ∙ drop_at (spelling_of s) y 16 (length-spelling_of s),
-)
+one_spelling r s x y h k e =
+    let same : r ≡ s = same_Some r s (sym (front_record-spelling_of r x h) ∙ ap front_record e ∙ front_record-spelling_of s y k) in
+    let length_is : length (spelling_of r) ≡ length (spelling_of s) = ap (λ z. length (spelling_of z)) same in (
+      same,
+      sym (drop_at (spelling_of r) x (length (spelling_of r)) refl) ∙ ap (drop (length (spelling_of r))) e
+          ∙ drop_at (spelling_of s) y (length (spelling_of r)) (sym length_is),
+    )
 
 pub is_split : (bytes : List ℕ) → IsSplit bytes (records_of bytes) (rest_of bytes)
 is_split bytes =

@@ -1,6 +1,7 @@
 -- The spelling of a valid record has no bad field and gives the record back; a front without a bad field is a spelling.
-use Rattle.std.proofs.Common.{◌≡◌, ℕ, ◌+◌, ◌*◌, ◌/◌, ◌%◌, ◌^◌, ◌<◌, ◌≤◌, Bool, true, false, not, inl, inr, Option, Some, None, List, [], ◌∷◌, ◌++◌, eqb, length, take, drop, get_or, refl, sym, ap, ◌∙◌, subst, arith, rules}
+use Rattle.std.proofs.Common.{◌≡◌, ℕ, ◌+◌, ◌*◌, ◌/◌, ◌%◌, ◌^◌, ◌<◌, ◌≤◌, Bool, true, false, not, inl, inr, Option, Some, None, List, [], ◌∷◌, ◌++◌, eqb, leb, lit<, length, take, drop, get_or, refl, sym, ap, ◌∙◌, subst, arith, rules}
 use Rattle.std.proofs.lemmas.Bool.{cases_Bool, and_parts, and_from, and_right, not_from_true, ne_eqb, eqb-true}
+use Rattle.std.proofs.lemmas.List.{get_or-take}
 use Rattle.std.proofs.lemmas.Bool.Decides.{nat_tests}
 use borrow.Author.Tests.{leb-true, ltb-true}
 use Rattle.xm_num.specs.declared.Enclave.{Enclave}
@@ -14,11 +15,16 @@ use Rattle.xemem_wire.specs.Faults.{Check, checks, is_failed, first_failed, faul
 use Rattle.xemem_wire.specs.Stream.{record_at}
 use Rattle.xemem_wire.proofs.FaultLemmas.{first_failed-met, met-first_failed}
 
-pub length-spelling_of : (r : Record) → length (spelling_of r) ≡ 16
+length-spelling_of : (r : Record) → length (spelling_of r) ≡ 16
 unfolding spelling_of header_of
 length-spelling_of r = refl
 
-pub u32_at-spelling_of : (r : Record) (more : List ℕ) → u32_at (spelling_of r ++ more) 0 ≡ 16
+-- a spelling has a whole header
+pub spelling_long : (r : Record) → 16 ≤ length (spelling_of r)
+spelling_long r = omega (arith, length-spelling_of r)
+
+-- and begins with its length
+pub u32_at-spelling_of : (r : Record) (more : List ℕ) → u32_at (spelling_of r ++ more) 0 ≡ length (spelling_of r)
 unfolding spelling_of header_of
 u32_at-spelling_of r more = refl
 
@@ -138,8 +144,8 @@ bytes_16 a b p q = (omega arith, omega arith)
 bytes_32 : (a b c d : ℕ) → a < 256 → b < 256 → c < 256 → d < 256 → let n = a + b * 256 + (c + d * 256) * 65536 in (a ≡ n % 256) × (b ≡ n / 256 % 256) × (c ≡ n / 65536 % 256) × (d ≡ n / 16777216 % 256)
 bytes_32 a b c d p q r s = (omega arith, omega arith, omega arith, omega arith)
 
--- bytes without a bad field that have a whole header are the spelling of the record that they name
-pub whole_header : (bytes : List ℕ) → IsBytes bytes → 16 ≤ length bytes → fault_of bytes ≡ None → (is_valid (record_at bytes) ≡ true) × (bytes ≡ spelling_of (record_at bytes) ++ drop 16 bytes)
+-- a whole header without a bad field is the spelling of the record that it names
+whole_header : (bytes : List ℕ) → IsBytes bytes → 16 ≤ length bytes → fault_of bytes ≡ None → (is_valid (record_at bytes) ≡ true) × (bytes ≡ spelling_of (record_at bytes) ++ drop 16 bytes)
 unfolding spelling_of header_of fault_of record_at is_valid
 whole_header (x0 ∷ x1 ∷ x2 ∷ x3 ∷ x4 ∷ x5 ∷ x6 ∷ x7 ∷ x8 ∷ x9 ∷ x10 ∷ x11 ∷ x12 ∷ x13 ∷ x14 ∷ x15 ∷ more) h n e =
     let m = met-first_failed checks (x0 ∷ x1 ∷ x2 ∷ x3 ∷ x4 ∷ x5 ∷ x6 ∷ x7 ∷ x8 ∷ x9 ∷ x10 ∷ x11 ∷ x12 ∷ x13 ∷ x14 ∷ x15 ∷ more) e in
@@ -164,3 +170,24 @@ whole_header (x0 ∷ x1 ∷ x2 ∷ x3 ∷ x4 ∷ x5 ∷ x6 ∷ x7 ∷ x8 ∷ x9 
       rw (kind, destination_number-of (x8 + x9 * 256)) (cc),
     )
 whole_header _ h n e = absurd (omega arith)
+
+-- bytes without a bad field that are as long as they tell are the spelling of the record that they name
+pub record IsWhole (bytes : List ℕ) : Type 0 where
+  pub valid : is_valid (record_at bytes) ≡ true
+  pub spelled : bytes ≡ spelling_of (record_at bytes) ++ drop (u32_at bytes 0) bytes
+
+pub is_whole : (bytes : List ℕ) → IsBytes bytes → 16 ≤ length bytes → u32_at bytes 0 ≤ length bytes → fault_of bytes ≡ None → IsWhole bytes
+is_whole bytes h n long e =
+    let w = whole_header bytes h n e in
+    let r : Record = record_at bytes in
+    let told : 16 ≡ u32_at bytes 0
+    = sym (length-spelling_of r) ∙ sym (u32_at-spelling_of r (drop 16 bytes)) ∙ ap (λ xs. u32_at xs 0) (sym w.1) in
+    record { valid = w.0; spelled = w.1 ∙ ap (λ k. spelling_of r ++ drop k bytes) told }
+
+-- the length that they tell is at most that of a longest record
+pub told_length : (bytes : List ℕ) → 4 ≤ length bytes → fault_of bytes ≡ None → u32_at bytes 0 ≤ 16404
+unfolding fault_of
+told_length bytes n e =
+    let in_range = (met-first_failed checks bytes e).0 n in
+    let told : u32_at (take 4 bytes) 0 ≤ 16404 = leb-true (u32_at (take 4 bytes) 0) 16404 (and_parts (leb 16 (u32_at (take 4 bytes) 0)) (leb (u32_at (take 4 bytes) 0) 16404) in_range).1 in
+    omega (arith, told, get_or-take 4 bytes 0 0 (lit< tt), get_or-take 4 bytes 1 0 (lit< tt), get_or-take 4 bytes 2 0 (lit< tt), get_or-take 4 bytes 3 0 (lit< tt))

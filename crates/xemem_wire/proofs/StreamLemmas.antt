@@ -14,7 +14,7 @@ use Rattle.xemem_wire.specs.Spelling.{spelling_of, is_valid, AreValid, spellings
 use Rattle.xemem_wire.specs.Faults.{fault_of}
 use Rattle.xemem_wire.specs.Stream.{record_at, front_record, Reading, onto, after_records, nothing_read, reading_within, reading_of, records_of, rest_of, moved, first_bad}
 use Rattle.xemem_wire.proofs.FaultLemmas.{fault_of-append}
-use Rattle.xemem_wire.proofs.SpellingLemmas.{length-spelling_of, record_at-spelling_of, fault_of-spelling_of, u32_at-spelling_of, IsBytes, whole_header}
+use Rattle.xemem_wire.proofs.SpellingLemmas.{spelling_long, record_at-spelling_of, fault_of-spelling_of, u32_at-spelling_of, IsBytes, IsWhole, is_whole}
 use Rattle.xemem_wire.specs.Table.{u32_at}
 use Rattle.std.specs.Prelude.{is_some}
 
@@ -43,6 +43,7 @@ front_record-spelling_of r more h =
 pub record Begins (bytes : List ℕ) (r : Record) : Type 0 where
   pub valid : is_valid r ≡ true
   pub spelled : bytes ≡ spelling_of r ++ drop (length (spelling_of r)) bytes
+  pub fits : length (spelling_of r) ≤ length bytes
   pub long : 16 ≤ length bytes
 
 pub front_record_begins : (bytes : List ℕ) (r : Record) → front_record bytes ≡ Some r → Begins bytes r
@@ -56,7 +57,8 @@ front_record_begins bytes r e =
     record {
       valid = rw parts.1 at tests.0;
       spelled = spelled_r;
-      long = omega (arith, ap length spelled_r, length-append (spelling_of r) (drop (length (spelling_of r)) bytes), length-spelling_of r);
+      fits = omega (arith, ap length spelled_r, length-append (spelling_of r) (drop (length (spelling_of r)) bytes));
+      long = omega (arith, ap length spelled_r, length-append (spelling_of r) (drop (length (spelling_of r)) bytes), spelling_long r);
     }
 
 -- it is the one whose fields they have
@@ -92,8 +94,8 @@ reading_within_enough (suc n) (suc m) bytes h k =
     (λ e. reading_within-none (suc n) bytes e ∙ sym (reading_within-none (suc m) bytes e))
     (λ r e.
     let b : Begins bytes r = front_record_begins bytes r e in
-    let shorter : length (drop (length (spelling_of r)) bytes) + 16 ≡ length bytes
-    = omega (arith, length-drop (length (spelling_of r)) bytes, length-spelling_of r) in
+    let shorter : length (drop (length (spelling_of r)) bytes) + 16 ≤ length bytes
+    = omega (arith, length-drop (length (spelling_of r)) bytes, spelling_long r, b.fits) in
     reading_within-some n bytes r e
     ∙ ap (onto r) (reading_within_enough n m (drop (length (spelling_of r)) bytes) (omega arith) (omega arith))
     ∙ sym (reading_within-some m bytes r e))
@@ -106,8 +108,8 @@ pub reading_of-some : (bytes : List ℕ) (r : Record) → front_record bytes ≡
 unfolding reading_of
 reading_of-some bytes r e =
     let b : Begins bytes r = front_record_begins bytes r e in
-    let shorter : length (drop (length (spelling_of r)) bytes) + 16 ≡ length bytes
-    = omega (arith, length-drop (length (spelling_of r)) bytes, length-spelling_of r) in
+    let shorter : length (drop (length (spelling_of r)) bytes) + 16 ≤ length bytes
+    = omega (arith, length-drop (length (spelling_of r)) bytes, spelling_long r, b.fits) in
     let one : length bytes ≡ suc (length bytes - 1) = omega arith in
     ap (λ n. reading_within n bytes) one ∙ reading_within-some (length bytes - 1) bytes r e
     ∙ ap (onto r) (reading_within_enough (length bytes - 1) (length (drop (length (spelling_of r)) bytes)) (drop (length (spelling_of r)) bytes) (omega arith) (omega arith))
@@ -145,8 +147,8 @@ splits_within (suc n) bytes h =
     (λ r e.
     let b : Begins bytes r = front_record_begins bytes r e in
     let later : List ℕ = drop (length (spelling_of r)) bytes in
-    let shorter : length later + 16 ≡ length bytes
-    = omega (arith, length-drop (length (spelling_of r)) bytes, length-spelling_of r) in
+    let shorter : length later + 16 ≤ length bytes
+    = omega (arith, length-drop (length (spelling_of r)) bytes, spelling_long r, b.fits) in
     let s : Splits later (records_of later) (rest_of later) = splits_within n later (omega arith) in
     split_by bytes (onto r (reading_of later)) (reading_of-some bytes r e)
     (record {
@@ -197,8 +199,18 @@ fault_of-take r n h =
 
 pub reading_of-take : (r : Record) (n : ℕ) → is_valid r ≡ true → n < length (spelling_of r) → reading_of (take n (spelling_of r)) ≡ nothing_read (take n (spelling_of r))
 reading_of-take r n h short =
-    reading_of-none (take n (spelling_of r))
-    (front_record_short (take n (spelling_of r)) (omega (arith, length-take n (spelling_of r), length-spelling_of r)))
+    let front : List ℕ = take n (spelling_of r) in
+    reading_of-none front
+    (option_cases (front_record front) (λ none. none)
+    (λ s found.
+    let b : Begins front s = front_record_begins front s found in
+    let more : List ℕ = drop (length (spelling_of s)) front ++ drop n (spelling_of r) in
+    let all : spelling_of r ++ [] ≡ spelling_of s ++ more
+    = append-nil (spelling_of r) ∙ sym (take-append-drop n (spelling_of r)) ∙ ap (λ xs. xs ++ drop n (spelling_of r)) b.spelled
+    ∙ append_assoc (spelling_of s) (drop (length (spelling_of s)) front) (drop n (spelling_of r)) in
+    let same : r ≡ s
+    = same_Some r s (sym (front_record-spelling_of r [] h) ∙ ap front_record all ∙ front_record-spelling_of s more b.valid) in
+    absurd (omega (arith, b.fits, ap (λ x. length (spelling_of x)) same, length-take n (spelling_of r), short))))
 
 -- the place of the first bad field, when the front was read before
 pub first_bad-append : (bytes more : List ℕ) → first_bad (bytes ++ more) ≡ option_map (moved (length bytes - length (rest_of bytes))) (first_bad (rest_of bytes ++ more))
@@ -227,18 +239,23 @@ none_partial bytes h =
     (λ r e.
     let b : Begins bytes r = front_record_begins bytes r e in
     let later : List ℕ = drop (length (spelling_of r)) bytes in
-    let told : u32_at bytes 0 ≡ 16 = ap (λ xs. u32_at xs 0) b.spelled ∙ u32_at-spelling_of r later in
-    absurd (omega (arith, told, b.long)))
+    let told : u32_at bytes 0 ≡ length (spelling_of r) = ap (λ xs. u32_at xs 0) b.spelled ∙ u32_at-spelling_of r later in
+    absurd (omega (arith, told, b.fits, h)))
 
-pub some_whole : (bytes : List ℕ) → IsBytes bytes → 16 ≤ length bytes → is_some (fault_of bytes) ≡ false → Some (u32_at bytes 0) ≡ option_map (λ r. length (spelling_of r)) (front_record bytes)
-some_whole bytes h n f =
+-- the bytes are whole, so they begin with the record that they name
+pub whole_found : (bytes : List ℕ) → IsBytes bytes → 16 ≤ length bytes → u32_at bytes 0 ≤ length bytes → fault_of bytes ≡ None → front_record bytes ≡ Some (record_at bytes)
+whole_found bytes h n long fine =
+    let w : IsWhole bytes = is_whole bytes h n long fine in
+    ap front_record w.spelled ∙ front_record-spelling_of (record_at bytes) (drop (u32_at bytes 0) bytes) w.valid
+
+pub some_whole : (bytes : List ℕ) → IsBytes bytes → 16 ≤ length bytes → u32_at bytes 0 ≤ length bytes → is_some (fault_of bytes) ≡ false → Some (u32_at bytes 0) ≡ option_map (λ r. length (spelling_of r)) (front_record bytes)
+some_whole bytes h n long f =
     let fine : fault_of bytes ≡ None = option_cases (fault_of bytes) (λ e. e) (λ bad e. cc) in
-    let w = whole_header bytes h n fine in
+    let w : IsWhole bytes = is_whole bytes h n long fine in
     let r : Record = record_at bytes in
-    let found : front_record bytes ≡ Some r = ap front_record w.1 ∙ front_record-spelling_of r (drop 16 bytes) w.0 in
     let told : u32_at bytes 0 ≡ length (spelling_of r)
-    = ap (λ xs. u32_at xs 0) w.1 ∙ u32_at-spelling_of r (drop 16 bytes) ∙ sym (length-spelling_of r) in
-    ap (λ n. Some n) told ∙ sym (ap (option_map (λ r. length (spelling_of r))) found)
+    = ap (λ xs. u32_at xs 0) w.spelled ∙ u32_at-spelling_of r (drop (u32_at bytes 0) bytes) in
+    ap (λ n. Some n) told ∙ sym (ap (option_map (λ r. length (spelling_of r))) (whole_found bytes h n long fine))
 
 -- a whole record from a place on is passed over
 pub record Passes (bytes : List ℕ) (at n : ℕ) : Type 0 where
@@ -255,8 +272,8 @@ some_passes bytes at n inside h =
     let b : Begins (drop at bytes) r = front_record_begins (drop at bytes) r found in
     let same : n ≡ length (spelling_of r) = same_Some n (length (spelling_of r)) (e ∙ ap (option_map (λ r. length (spelling_of r))) found) in
     record {
-      some = omega (arith, length-spelling_of r);
-      within = omega (arith, length-spelling_of r, b.long, length-drop at bytes);
+      some = omega (arith, spelling_long r);
+      within = omega (arith, b.fits, inside, length-drop at bytes);
       rest = ap rest_of (sym (drop-drop n at bytes)) ∙ ap (λ k. rest_of (drop k (drop at bytes))) same
           ∙ sym (ap (λ reading. reading.rest) (reading_of-some (drop at bytes) r found));
     })

@@ -20,5 +20,5 @@ returns-then-front-length c = none_partial c.args.front.now (rw c.u32_at-length.
 pub returns : goal.returns
 returns c =
     ap (λ n. Some n) c.u32_at-length.ensures
-    ∙ some_whole c.args.front.now (λ i. omega (arith, c.type_inv.front i)) c.if-front-lt-HEADER.false
+    ∙ some_whole c.args.front.now (λ i. omega (arith, c.type_inv.front i)) c.if-front-lt-HEADER.false (rw c.u32_at-length.ensures at c.if-front-length.false)
     (sym (ap is_some c.fault_in.ensures.fault) ∙ sym c.is_some.ensures ∙ c.if-is_some.false)
