@@ -1,5 +1,5 @@
 -- The lines that commands are to have, and the line that is due.
-use Rattle.std.specs.Prelude.{◌+◌, ◌/◌, ℕ, List, [], ◌∷◌, ◌++◌, Bool, if◌then◌else◌, Option, None, take, slice_get}
+use Rattle.std.specs.Prelude.{◌+◌, ◌/◌, ℕ, zero, suc, min, List, [], ◌∷◌, ◌++◌, length, Bool, ◌==◌, if◌then◌else◌, Option, None, take, drop, slice_get}
 use Rattle.std.specs.Option.{option_map_or}
 use Rattle.xm_num.specs.declared.Enclave.{Enclave}
 use Rattle.xm_num.specs.declared.Pid.{Pid}
@@ -9,7 +9,10 @@ use Rattle.global_model.specs.declared.command.Command.{Command}
 use Rattle.global_model.specs.declared.command.Command.TheVariants as commands
 use Rattle.global_model.specs.declared.line.Line.{Line}
 use Rattle.global_model.specs.declared.line.Line.TheVariants as lines
-use Rattle.global_model.specs.Facts.{Facts, after_lines, facts_at, no_facts}
+use Rattle.xemem_wire.specs.declared.format.Record.{Record}
+use Rattle.global_model.specs.Channels.{waiting_bytes, arriving}
+use Rattle.global_model.specs.View.{view_of, record_lines, query_of}
+use Rattle.global_model.specs.Facts.{Facts, after_line, after_lines, facts_at, no_facts}
 use Rattle.global_model.specs.Space.{Mapping, space_of, unused_frames, free_blocks}
 use Rattle.global_model.specs.Refusals.{refusal_of}
 
@@ -24,14 +27,55 @@ next_pid G e = record { 0 = G.started e.0 + 1 }
 abbrev pub touched_lines : Enclave → Pid → Vpn → Option Mapping → List Line
 touched_lines e p page mapping = option_map_or (λ found. lines.Touched e p page found.frame ∷ []) mapping []
 
+-- ---- what goes over a channel
+
+-- the lines of the records that are whole at y now, each by the facts after the lines before it
+abbrev pub got_lines : Facts → Enclave → Enclave → List Record → List Line
+got_lines G x y [] = []
+got_lines G x y (r ∷ rs) =
+    let own = lines.Got x y ∷ record_lines (view_of G y) x r in
+    own ++ got_lines (after_lines G own) x y rs
+
+abbrev pub took_lines : Facts → Enclave → Enclave → ℕ → List Line
+took_lines G x y count =
+    let H = after_line G (lines.Took x y count) in
+    lines.Took x y count ∷ got_lines H x y (arriving (H.channel x.0 y.0))
+
+abbrev pub deliver_lines : Facts → Enclave → Enclave → ℕ → List Line
+deliver_lines G x y count =
+    let waiting = length (waiting_bytes G x.0 y.0) in
+    if waiting == 0 then lines.Idle x y ∷ [] else took_lines G x y (min count waiting)
+
+-- the bytes from that one on, 32 a line, in at most so many lines
+abbrev pub bytes_lines : Enclave → Enclave → ℕ → ℕ → List ℕ → List Line
+bytes_lines x y zero at bytes = []
+bytes_lines x y (suc most) at [] = []
+bytes_lines x y (suc most) at (byte ∷ bytes) =
+    lines.Bytes x y at (take 32 (byte ∷ bytes)) ∷ bytes_lines x y most (at + 32) (drop 32 (byte ∷ bytes))
+
+abbrev pub show_lines : Facts → Enclave → Enclave → List Line
+show_lines G x y = let waiting = waiting_bytes G x.0 y.0 in bytes_lines x y (length waiting) 0 waiting
+
+-- a child without the name server asks its parent for the way
+abbrev pub child_lines : Enclave → Enclave → Bool → List Line
+child_lines child parent ns = if ns then lines.Admitted child ∷ [] else lines.Sent child parent (query_of child) ∷ []
+
+-- the number that is drawn for the next enclave
+abbrev pub next_enclave : Facts → Enclave
+next_enclave G = record { 0 = G.born }
+
 -- the lines of a command that isn't refused
 abbrev pub acts_of : Facts → Command → List Line
 acts_of G (commands.Pool blocks) = []
 acts_of G (commands.Host blocks ns) =
     lines.Born host kinds.Host host ns (take blocks (free_blocks G)) ∷ (if ns then lines.Admitted host ∷ [] else [])
 acts_of G (commands.Proc e uid gid) = lines.Proc e (next_pid G e) uid gid ∷ []
+acts_of G (commands.Boot kind parent blocks ns) =
+    lines.Born (next_enclave G) kind parent ns (take blocks (free_blocks G)) ∷ child_lines (next_enclave G) parent ns
 acts_of G (commands.Alloc e p at pages) = lines.Alloc e p at (take pages (unused_frames G e.0)) ∷ []
 acts_of G (commands.Touch e p addr want) = touched_lines e p (record { 0 = addr / 4096 }) (space_of G e.0 p.0 (addr / 4096))
+acts_of G (commands.Deliver x y count) = deliver_lines G x y count
+acts_of G (commands.ShowLink x y) = show_lines G x y
 
 -- what follows the `do` line of a command: its refusal, or its acts
 abbrev pub command_lines : Facts → Command → List Line

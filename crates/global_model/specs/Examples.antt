@@ -29,3 +29,29 @@ abbrev pub refused_journal : List (List ℕ)
 refused_journal =
     smallest_journal
     ++ (codes "do alloc 0 1 17 1" ∷ codes "refused Taken" ∷ codes "do alloc 0 1 40 63" ∷ codes "refused NoFrames" ∷ codes "do touch 0 1 0 r" ∷ codes "refused NotMapped" ∷ [])
+
+abbrev pub one_byte_short : List (List ℕ)
+one_byte_short =
+    codes "pool 4" ∷ codes "host 1 ns" ∷ codes "boot cokernel under 0 blocks 1" ∷ codes "show link 1 0" ∷ codes "deliver 1 0 15"
+    ∷ codes "deliver 1 0 1" ∷ codes "deliver 1 0 1" ∷ []
+
+abbrev pub one_byte_short_journal : List (List ℕ)
+one_byte_short_journal =
+    codes "do pool 4" ∷ codes "do host 1 ns" ∷ codes "born 0 host 0 ns 0" ∷ codes "admitted 0"
+    ∷ codes "do boot cokernel under 0 blocks 1" ∷ codes "born 1 cokernel 0 - 1" ∷ codes "sent 1 0 query 1 65535 0"
+    ∷ codes "do show link 1 0" ∷ codes "bytes 1 0 0 1000000001010100ffff000000000000"
+    ∷ codes "do deliver 1 0 15" ∷ codes "took 1 0 15"
+    ∷ codes "do deliver 1 0 1" ∷ codes "took 1 0 1" ∷ codes "got 1 0" ∷ codes "sent 0 1 here 0 65535 0"
+    ∷ codes "do deliver 1 0 1" ∷ codes "idle 1 0" ∷ []
+
+abbrev pub discovered : List (List ℕ)
+discovered = one_byte_short ++ (codes "deliver 0 1 16" ∷ codes "deliver 1 0 16" ∷ codes "deliver 0 1 1000" ∷ codes "deliver 1 1 1" ∷ codes "deliver 0 2 1" ∷ [])
+
+abbrev pub discovered_journal : List (List ℕ)
+discovered_journal =
+    one_byte_short_journal
+    ++ (codes "do deliver 0 1 16" ∷ codes "took 0 1 16" ∷ codes "got 0 1" ∷ codes "way 1 0" ∷ codes "sent 1 0 register 1 65535 0"
+    ∷ codes "do deliver 1 0 16" ∷ codes "took 1 0 16" ∷ codes "got 1 0" ∷ codes "back 0 1 1" ∷ codes "route 0 1 1" ∷ codes "sent 0 1 admit 0 1 0"
+    ∷ codes "do deliver 0 1 1000" ∷ codes "took 0 1 16" ∷ codes "got 0 1" ∷ codes "admitted 1"
+    ∷ codes "do deliver 1 1 1" ∷ codes "refused NoLink"
+    ∷ codes "do deliver 0 2 1" ∷ codes "refused NoEnclave" ∷ [])

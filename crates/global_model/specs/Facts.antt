@@ -6,6 +6,7 @@ use Rattle.xm_num.specs.declared.Pid.{Pid}
 use Rattle.xm_num.specs.declared.Frame.{Frame}
 use Rattle.xm_num.specs.declared.Block.{Block}
 use Rattle.xm_num.specs.declared.Kind.{Kind}
+use Rattle.xemem_wire.specs.declared.format.Record.{Record}
 use Rattle.global_model.specs.declared.command.Command.{Command}
 use Rattle.global_model.specs.declared.command.Command.TheVariants as commands
 use Rattle.global_model.specs.declared.line.Line.{Line}
@@ -37,23 +38,50 @@ pub record OwnPage : Type 0 where
   pub page : ℕ
   pub frame : Frame
 
--- All facts. What is asked by a number is a function of it; `started` counts the processes of an enclave.
+-- what went over a channel: the records that were sent, oldest first, how many bytes were taken, and how many of the
+-- records were got
+pub record ChannelFact : Type 0 where
+  pub sent : List Record
+  pub taken : ℕ
+  pub got : ℕ
+
+abbrev pub no_channel : ChannelFact
+no_channel = record { sent = []; taken = 0; got = 0 }
+
+-- All facts. What is asked by a number is a function of it; `born` counts the enclaves, `started` the processes of an
+-- enclave. A channel is named by its sender and its receiver, and a way by the neighbour over which it goes.
 pub record Facts : Type 0 where
   pub pool : ℕ
   pub block : ℕ → BlockFact
+  pub born : ℕ
   pub enclave : ℕ → Option EnclaveFact
+  pub way : ℕ → Option ℕ
+  pub channel : ℕ → ℕ → ChannelFact
   pub started : ℕ → ℕ
   pub process : ℕ → ℕ → Option ProcessFact
   pub own : List OwnPage
 
 abbrev pub no_facts : Facts
-no_facts = record { pool = 0; block = λ b. Absent; enclave = λ e. None; started = λ e. 0; process = λ e p. None; own = [] }
+no_facts = record { pool = 0; block = λ b. Absent; born = 0; enclave = λ e. None; way = λ e. None; channel = λ x y. no_channel; started = λ e. 0; process = λ e p. None; own = [] }
 
 -- a function with another value at one number
 abbrev pub at_number : {A : Type 0} → ℕ → A → (ℕ → A) → ℕ → A
 at_number k v f j = if j == k then v else f j
 
+-- a function of two numbers, changed at one pair of them
+abbrev pub at_pair : {A : Type 0} → ℕ → ℕ → (A → A) → (ℕ → ℕ → A) → ℕ → ℕ → A
+at_pair x y h f a b = if (a == x) && (b == y) then h (f a b) else f a b
+
 -- ---- what a line changes
+
+abbrev pub with_sent : Record → ChannelFact → ChannelFact
+with_sent r channel = record channel { sent = channel.sent ++ r ∷ [] }
+
+abbrev pub with_taken : ℕ → ChannelFact → ChannelFact
+with_taken n channel = record channel { taken = channel.taken + n }
+
+abbrev pub with_got : ChannelFact → ChannelFact
+with_got channel = record channel { got = channel.got + 1 }
 
 abbrev pub is_listed : List Block → ℕ → Bool
 is_listed blocks b = list_any (λ block. block.0 == b) blocks
@@ -75,6 +103,7 @@ abbrev pub after_line : Facts → Line → Facts
 after_line G (lines.Do (commands.Pool blocks)) = record G { pool = blocks; block = λ b. if nat_lt b blocks then Free else Absent }
 after_line G (lines.Born e kind parent ns blocks) = record G {
   block = with_lent blocks e G.block;
+  born = G.born + 1;
   enclave = at_number e.0 (Some (record { kind = kind; parent = parent; blocks = blocks; ns = ns; living = true; admitted = false })) G.enclave;
 }
 after_line G (lines.Admitted e) = record G { enclave = at_number e.0 (as_admitted (G.enclave e.0)) G.enclave }
@@ -83,6 +112,10 @@ after_line G (lines.Proc e p uid gid) = record G {
   process = at_number e.0 (at_number p.0 (Some (record { uid = uid; gid = gid; living = true })) (G.process e.0)) G.process;
 }
 after_line G (lines.Alloc e p at frames) = record G { own = G.own ++ own_from e p at.0 frames }
+after_line G (lines.Sent x y r) = record G { channel = at_pair x.0 y.0 (with_sent r) G.channel }
+after_line G (lines.Took x y count) = record G { channel = at_pair x.0 y.0 (with_taken count) G.channel }
+after_line G (lines.Got x y) = record G { channel = at_pair x.0 y.0 with_got G.channel }
+after_line G (lines.Way e over) = record G { way = at_number e.0 (Some over.0) G.way }
 after_line G line = G
 
 -- the facts after these lines, from those before
@@ -112,6 +145,19 @@ is_living_process (Some fact) = fact.living
 -- the process lives in a living enclave
 abbrev pub lives : Facts → ℕ → ℕ → Bool
 lives G e p = is_living_enclave (G.enclave e) && is_living_process (G.process e p)
+
+-- the enclave holds the name server
+abbrev pub is_holder : Option EnclaveFact → Bool
+is_holder None = false
+is_holder (Some fact) = fact.ns
+
+abbrev pub is_admitted : Option EnclaveFact → Bool
+is_admitted None = false
+is_admitted (Some fact) = fact.admitted
+
+abbrev pub has_parent : ℕ → Option EnclaveFact → Bool
+has_parent parent None = false
+has_parent parent (Some fact) = fact.parent.0 == parent
 
 abbrev pub is_free : BlockFact → Bool
 is_free Absent = false

@@ -4,7 +4,7 @@ use Rattle.global_model.specs.declared.command.Command.{Command}
 use Rattle.global_model.specs.declared.line.Line.{Line}
 use Rattle.global_model.specs.declared.line.Line.TheVariants as lines
 use Rattle.global_model.specs.Due.{due_line}
-use Rattle.global_model.specs.Lawful.{IsLegalAt}
+use Rattle.global_model.specs.Lawful.{IsLegalAt, CarriedAt}
 
 -- each of the lines is lawful after the past and the lines before it
 abbrev pub Follows : (List Line → Line → Type 0) → List Line → List Line → Type 0
@@ -22,6 +22,10 @@ IsLegal journal = Follows IsLegalAt [] journal
 abbrev pub IsTold : List Line → Type 0
 IsTold journal = Follows IsDueAt [] journal
 
+-- carried: what goes over the channels arrives in order
+abbrev pub IsCarried : List Line → Type 0
+IsCarried journal = Follows CarriedAt [] journal
+
 -- the lines of a journal on top of a past
 abbrev pub onto : List Line → List Line → List Line
 onto [] past = past
@@ -34,6 +38,7 @@ IsWhole journal = due_line (onto journal []) ≡ None
 -- a lawful history
 pub record IsHistory (journal : List Line) : Type 0 where
   pub legal : IsLegal journal
+  pub carried : IsCarried journal
   pub told : IsTold journal
 
 -- the commands of the `do` lines

@@ -1,12 +1,14 @@
 -- What each line of a journal must meet, by the lines before it. A past has its newest line first.
-use Rattle.std.specs.Prelude.{◌≡◌, List, [], ◌∷◌, length, take, true, Option, None, Some, All}
+use Rattle.std.specs.Prelude.{◌≡◌, ◌+◌, ◌<◌, ◌≤◌, List, [], ◌∷◌, length, take, true, Option, None, Some, All}
 use Rattle.xm_num.specs.declared.Cause.{Cause}
 use Rattle.xm_num.specs.declared.Access.{Access}
 use Rattle.global_model.specs.declared.command.Command.{Command}
 use Rattle.global_model.specs.declared.command.Command.TheVariants as commands
 use Rattle.global_model.specs.declared.line.Line.{Line}
 use Rattle.global_model.specs.declared.line.Line.TheVariants as lines
-use Rattle.global_model.specs.Facts.{facts_at}
+use Rattle.xemem_wire.specs.Spelling.{is_valid, spellings_of}
+use Rattle.global_model.specs.Facts.{facts_at, is_living_enclave}
+use Rattle.global_model.specs.Channels.{is_neighbour, waiting_bytes}
 use Rattle.global_model.specs.Space.{IsUnmapped, space_of, allows, unused_frames, block_frames, free_blocks}
 use Rattle.global_model.specs.Refusals.{refusal_of}
 
@@ -43,6 +45,17 @@ cause_of line = None
 abbrev pub LawfulRefusal : List Line → Line → Type 0
 LawfulRefusal (lines.Do command ∷ past) line = cause_of line ≡ refusal_of (facts_at past) command
 LawfulRefusal past line = cause_of line ≡ None
+
+-- Carriage: bytes are taken of those that wait; the record that is got next is the next that was sent, and its last byte
+-- was taken; what is sent goes from a living enclave to a neighbour and is valid.
+abbrev pub CarriedAt : List Line → Line → Type 0
+CarriedAt past (lines.Took x y count) = (1 ≤ count) × (count ≤ length (waiting_bytes (facts_at past) x.0 y.0))
+CarriedAt past (lines.Got x y) =
+    let channel = (facts_at past).channel x.0 y.0 in
+    (channel.got < length channel.sent) × (length (spellings_of (take (channel.got + 1) channel.sent)) ≤ channel.taken)
+CarriedAt past (lines.Sent x y r) =
+    (is_living_enclave ((facts_at past).enclave x.0) ≡ true) × (is_neighbour (facts_at past) x.0 y.0 ≡ true) × (is_valid r ≡ true)
+CarriedAt past line = Unit {0}
 
 pub record IsLegalAt (past : List Line) (line : Line) : Type 0 where
   pub lending : LawfulLending past line

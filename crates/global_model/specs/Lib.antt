@@ -3,6 +3,8 @@ pub mod Spelling
 pub mod Scenario
 pub mod Ranges
 pub mod Facts
+pub mod Channels
+pub mod View
 pub mod Space
 pub mod Refusals
 pub mod Due

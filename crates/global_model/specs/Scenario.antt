@@ -1,24 +1,21 @@
 -- The commands that a scenario's bytes spell, and its first line that isn't built.
-use Rattle.std.specs.Prelude.{◌≡◌, ◌+◌, ◌^◌, ◌-◌, ℕ, List, [], ◌∷◌, ◌++◌, length, Bool, true, false, ◌&&◌, ◌==◌, nat_le, if◌then◌else◌, Option, None, Some, codes, slice_index, slice_index_or}
+use Rattle.std.specs.Prelude.{◌≡◌, ◌+◌, ◌^◌, ◌-◌, ℕ, List, [], ◌∷◌, ◌++◌, length, Bool, true, false, not, ◌&&◌, ◌==◌, nat_le, if◌then◌else◌, Option, None, Some, codes, slice_index, slice_index_or}
 use Rattle.std.specs.List.{list_any}
 use Rattle.std.specs.Option.{option_map, option_map_or, option_and_then, option_to_list}
 use Rattle.std.specs.Str.{bytes_eq}
+use Rattle.xm_num.specs.declared.Kind.{Kind}
+use Rattle.xm_num.specs.declared.Kind.TheVariants as kinds
 use Rattle.xm_num.specs.declared.Want.{Want}
 use Rattle.xm_num.specs.declared.Want.TheVariants as wants
 use Rattle.global_model.specs.declared.command.Command.{Command}
 use Rattle.global_model.specs.declared.command.Command.TheVariants as commands
+use Rattle.global_model.specs.Ranges.{most16, most32, IsInRange}
 use Rattle.global_model.specs.Words.{number_in, words_of, lines_of}
 
 infixl 10 ◌>>=◌
 abbrev pub ◌>>=◌ : {A B : Type 0} → Option A → (A → Option B) → Option B
 None >>= f = None
 (Some x) >>= f = f x
-
-abbrev pub most16 : ℕ
-most16 = 65534
-
-abbrev pub most32 : ℕ
-most32 = 4294967295
 
 abbrev pub word : ℕ → List (List ℕ) → List ℕ
 word i words = slice_index_or words i []
@@ -63,6 +60,33 @@ touch_form words = do
   want ← want_form (word 4 words)
   Some (commands.Touch (record { 0 = e }) (record { 0 = p }) addr want)
 
+unfoldable pub kind_form : List ℕ → Option Kind
+kind_form text = if bytes_eq text (codes "cokernel") then Some kinds.Cokernel else (if bytes_eq text (codes "vm") then Some kinds.Vm else None)
+
+unfoldable pub boot_form : Bool → List (List ℕ) → Option Command
+boot_form ns words = do
+  kind ← kind_form (word 1 words)
+  parent ← number_in 0 most16 (word 3 words)
+  blocks ← number_in 1 4096 (word 5 words)
+  Some (commands.Boot kind (record { 0 = parent }) blocks ns)
+
+unfoldable pub deliver_form : List (List ℕ) → Option Command
+deliver_form words = do
+  x ← number_in 0 most16 (word 1 words)
+  y ← number_in 0 most16 (word 2 words)
+  count ← number_in 1 most32 (word 3 words)
+  Some (commands.Deliver (record { 0 = x }) (record { 0 = y }) count)
+
+unfoldable pub show_link_form : List (List ℕ) → Option Command
+show_link_form words = do
+  x ← number_in 0 most16 (word 2 words)
+  y ← number_in 0 most16 (word 3 words)
+  Some (commands.ShowLink (record { 0 = x }) (record { 0 = y }))
+
+-- the keywords of a boot stand between its numbers
+abbrev pub is_boot : ℕ → List (List ℕ) → Bool
+is_boot count words = is_form (codes "boot") count words && bytes_eq (word 2 words) (codes "under") && bytes_eq (word 4 words) (codes "blocks")
+
 -- the command that the words spell, if they spell one
 unfoldable pub command_of : List (List ℕ) → Option Command
 command_of words =
@@ -72,7 +96,11 @@ command_of words =
     else (if is_form (codes "proc") 4 words then proc_form words
     else (if is_form (codes "alloc") 5 words then alloc_form words
     else (if is_form (codes "touch") 5 words then touch_form words
-    else None)))))
+    else (if is_boot 6 words then boot_form false words
+    else (if is_boot 7 words && bytes_eq (word 6 words) (codes "ns") then boot_form true words
+    else (if is_form (codes "deliver") 4 words then deliver_form words
+    else (if is_form (codes "show") 4 words && bytes_eq (word 1 words) (codes "link") then show_link_form words
+    else None)))))))))
 
 -- a line without words, and one whose first word begins with `#`, is a comment
 abbrev pub is_comment : List (List ℕ) → Bool
@@ -94,20 +122,29 @@ abbrev pub is_proc : Command → Bool
 is_proc (commands.Proc e uid gid) = true
 is_proc command = false
 
+abbrev pub is_cokernel : Kind → Bool
+is_cokernel kinds.Host = false
+is_cokernel kinds.Cokernel = true
+is_cokernel kinds.Vm = false
+
 -- The commands that are built may stand after these, the newest first: first `pool`, second `host` within the pool
--- and with the name server, third `proc` at the host, then any `alloc` and `touch` of that process. The pages of an
--- `alloc` end at the last page.
+-- and with the name server, then the others: `proc` at the host once, `alloc` and `touch` of that process, `boot` of a
+-- co-kernel under the host and without the name server, `deliver` and `show link`. The pages of an `alloc` end at the
+-- last page.
 abbrev pub may_stand : List Command → Command → Bool
 may_stand before (commands.Pool blocks) = length before == 0
 may_stand before (commands.Host blocks ns) = (length before == 1) && list_any (is_pool_for blocks) before && ns
-may_stand before (commands.Proc e uid gid) = (length before == 2) && (e.0 == 0)
+may_stand before (commands.Boot kind parent blocks ns) = nat_le 2 (length before) && is_cokernel kind && (parent.0 == 0) && not ns
+may_stand before (commands.Proc e uid gid) = nat_le 2 (length before) && not (list_any is_proc before) && (e.0 == 0)
 may_stand before (commands.Alloc e p at pages) = list_any is_proc before && (e.0 == 0) && (p.0 == 1) && nat_le (at.0 + pages) 16777216
 may_stand before (commands.Touch e p addr want) = list_any is_proc before && (e.0 == 0) && (p.0 == 1)
+may_stand before (commands.Deliver x y count) = nat_le 2 (length before)
+may_stand before (commands.ShowLink x y) = nat_le 2 (length before)
 
--- each command may stand after those before it
+-- each command may stand after those before it, and its numbers are in their ranges
 abbrev pub IsPlacedAfter : List Command → List Command → Type 0
 IsPlacedAfter before [] = Unit {0}
-IsPlacedAfter before (command ∷ commands) = (may_stand before command ≡ true) × IsPlacedAfter (command ∷ before) commands
+IsPlacedAfter before (command ∷ commands) = (may_stand before command ≡ true) × IsInRange command × IsPlacedAfter (command ∷ before) commands
 
 abbrev pub IsPlaced : List Command → Type 0
 IsPlaced commands = IsPlacedAfter [] commands

@@ -7,6 +7,11 @@ use Rattle.xm_num.specs.declared.Want.{Want}
 use Rattle.xm_num.specs.declared.Want.TheVariants as wants
 use Rattle.xm_num.specs.declared.Cause.{Cause}
 use Rattle.xm_num.specs.declared.Cause.TheVariants as causes
+use Rattle.xemem_wire.specs.declared.format.Record.{Record}
+use Rattle.xemem_wire.specs.declared.format.Body.{Body}
+use Rattle.xemem_wire.specs.declared.format.Body.TheVariants as bodies
+use Rattle.xemem_wire.specs.Table.{destination_number}
+use Rattle.hex.specs.Hex.{encode_lower}
 use Rattle.global_model.specs.declared.command.Command.{Command}
 use Rattle.global_model.specs.declared.command.Command.TheVariants as commands
 use Rattle.global_model.specs.declared.line.Line.{Line}
@@ -54,6 +59,41 @@ command_words (commands.Host blocks ns) = codes "host" ∷ decimal blocks ∷ ns
 command_words (commands.Proc e uid gid) = codes "proc" ∷ decimal e.0 ∷ decimal uid ∷ decimal gid ∷ []
 command_words (commands.Alloc e p at pages) = codes "alloc" ∷ decimal e.0 ∷ decimal p.0 ∷ decimal at.0 ∷ decimal pages ∷ []
 command_words (commands.Touch e p addr want) = codes "touch" ∷ decimal e.0 ∷ decimal p.0 ∷ decimal addr ∷ want_word want ∷ []
+command_words (commands.Boot kind parent blocks ns) = codes "boot" ∷ kind_word kind ∷ codes "under" ∷ decimal parent.0 ∷ codes "blocks" ∷ decimal blocks ∷ ns_word ns
+command_words (commands.Deliver x y count) = codes "deliver" ∷ decimal x.0 ∷ decimal y.0 ∷ decimal count ∷ []
+command_words (commands.ShowLink x y) = codes "show" ∷ codes "link" ∷ decimal x.0 ∷ decimal y.0 ∷ []
+
+-- the name of a record
+abbrev pub name_word : Body → List ℕ
+name_word bodies.Query = codes "query"
+name_word bodies.Here = codes "here"
+name_word bodies.Register = codes "register"
+name_word bodies.Admit = codes "admit"
+name_word bodies.NameReq = codes "namereq"
+name_word (bodies.Named segid) = codes "named"
+name_word (bodies.Unname segid) = codes "unname"
+name_word (bodies.Lookup segid) = codes "lookup"
+name_word (bodies.Found segid owner) = codes "found"
+name_word (bodies.Get segid flags uid gid) = codes "get"
+name_word (bodies.Granted pages) = codes "granted"
+name_word (bodies.GetRefused cause) = codes "getrefused"
+name_word (bodies.Release apid) = codes "release"
+name_word (bodies.Attach apid offset pages) = codes "attach"
+name_word (bodies.Attached frames) = codes "attached"
+name_word (bodies.AttachRefused cause) = codes "attachrefused"
+name_word bodies.Detach = codes "detach"
+name_word (bodies.Died enclave) = codes "died"
+name_word (bodies.Dead enclave) = codes "dead"
+name_word (bodies.Confirm enclave) = codes "confirm"
+
+-- the words of a record; the kinds that are built have no fields but the header's
+abbrev pub record_words : Record → List (List ℕ)
+record_words r = name_word r.body ∷ decimal r.origin.0 ∷ decimal (destination_number r.dest) ∷ decimal r.call ∷ []
+
+-- bytes as one word, where there are any
+abbrev pub hex_words : List ℕ → List (List ℕ)
+hex_words [] = []
+hex_words (byte ∷ bytes) = encode_lower (byte ∷ bytes) ∷ []
 
 -- the words of a line
 abbrev pub line_words : Line → List (List ℕ)
@@ -65,6 +105,15 @@ line_words (lines.Admitted e) = codes "admitted" ∷ decimal e.0 ∷ []
 line_words (lines.Proc e p uid gid) = codes "proc" ∷ decimal e.0 ∷ decimal p.0 ∷ decimal uid ∷ decimal gid ∷ []
 line_words (lines.Alloc e p at frames) = codes "alloc" ∷ decimal e.0 ∷ decimal p.0 ∷ decimal at.0 ∷ map (λ f. decimal f.0) frames
 line_words (lines.Touched e p page frame) = codes "touched" ∷ decimal e.0 ∷ decimal p.0 ∷ decimal page.0 ∷ decimal frame.0 ∷ []
+line_words (lines.Sent x y r) = codes "sent" ∷ decimal x.0 ∷ decimal y.0 ∷ record_words r
+line_words (lines.Took x y count) = codes "took" ∷ decimal x.0 ∷ decimal y.0 ∷ decimal count ∷ []
+line_words (lines.Idle x y) = codes "idle" ∷ decimal x.0 ∷ decimal y.0 ∷ []
+line_words (lines.Got x y) = codes "got" ∷ decimal x.0 ∷ decimal y.0 ∷ []
+line_words (lines.Dropped e) = codes "drop" ∷ decimal e.0 ∷ []
+line_words (lines.Way e over) = codes "way" ∷ decimal e.0 ∷ decimal over.0 ∷ []
+line_words (lines.Back e of over) = codes "back" ∷ decimal e.0 ∷ decimal of.0 ∷ decimal over.0 ∷ []
+line_words (lines.Route e of over) = codes "route" ∷ decimal e.0 ∷ decimal of.0 ∷ decimal over.0 ∷ []
+line_words (lines.Bytes x y at bytes) = codes "bytes" ∷ decimal x.0 ∷ decimal y.0 ∷ decimal at ∷ hex_words bytes
 
 -- each word with a space before it
 abbrev pub spaced : List (List ℕ) → List ℕ

@@ -10,7 +10,8 @@ fn count_of_command(command: &Command) -> u32
     match command {
         Command::Pool { .. } => 2,
         Command::Host { ns, .. } => if *ns { 3 } else { 2 },
-        Command::Proc { .. } => 4,
+        Command::Boot { ns, .. } => if *ns { 7 } else { 6 },
+        Command::Proc { .. } | Command::Deliver { .. } | Command::ShowLink { .. } => 4,
         Command::Alloc { .. } | Command::Touch { .. } => 5,
     }
 }
@@ -25,6 +26,11 @@ pub fn words(line: &Line) -> u32
         Line::Refused { .. } | Line::Admitted { .. } => 2,
         Line::Born { blocks, .. } => 5 + blocks.len() as u32,
         Line::Proc { .. } | Line::Touched { .. } => 5,
+        Line::Sent { .. } => 7,
+        Line::Took { .. } | Line::Back { .. } | Line::Route { .. } => 4,
+        Line::Idle { .. } | Line::Got { .. } | Line::Way { .. } => 3,
+        Line::Dropped { .. } => 2,
+        Line::Bytes { bytes, .. } => if bytes.len() == 0 { 4 } else { 5 },
         Line::Alloc { frames, .. } => 4 + frames.len() as u32,
     }
 }

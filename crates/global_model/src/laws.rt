@@ -1,6 +1,6 @@
 // Laws of the definitions: each is the contract of a function with an empty body, which a crate above calls to have it.
 ghost use Rattle.std.specs.Prelude.{◌≡◌, ℕ, List, [], ◌∷◌, ◌++◌, None, Some, codes};
-ghost use Rattle.global_model.specs.Examples.{Gives, text, smallest, smallest_journal, refused, refused_journal};
+ghost use Rattle.global_model.specs.Examples.{Gives, text, smallest, smallest_journal, refused, refused_journal, one_byte_short, one_byte_short_journal, discovered, discovered_journal};
 ghost use Rattle.global_model.specs.declared.command.Command.{Command as Commands};
 ghost use Rattle.global_model.specs.declared.line.Line.{Line as JournalLine};
 ghost use Rattle.global_model.specs.Scenario.{IsPlaced, scenario_of};
@@ -38,6 +38,8 @@ pub fn scenarios_are_placed()
 pub fn worked_examples()
     ensures smallest { Gives (text smallest) None (text smallest_journal) }
     ensures refused { Gives (text refused) None (text refused_journal) }
+    ensures one_byte_short { Gives (text one_byte_short) None (text one_byte_short_journal) }
+    ensures discovered { Gives (text discovered) None (text discovered_journal) }
     ensures comment { Gives (codes "# nothing") None [] }
     ensures unbuilt { Gives (text (codes "pool 2" ∷ codes "  # a comment" ∷ codes "host 3 ns" ∷ [])) (Some 3) (text (codes "do pool 2" ∷ [])) }
 {}

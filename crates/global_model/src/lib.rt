@@ -13,6 +13,6 @@ pub use count::words;
 pub use laws::{
     journals_are_legal, journals_grow, one_journal, scenarios_are_placed, worked_examples,
 };
-pub use line::Line;
+pub use line::{ByteList, Line};
 pub use lines::Lines;
 pub use text_laws::{commands_are_read_back, journals_are_split_again};

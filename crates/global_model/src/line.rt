@@ -1,5 +1,9 @@
 use crate::Command;
-use xm_num::{BlockList, Cause, Enclave, Frame, FrameList, Kind, Pid, Vpn};
+use xemem_wire::Record;
+use xm_num::{BlockList, Cause, Enclave, Frame, FrameList, ItemList, Kind, Pid, Vpn};
+
+/// A list of bytes.
+pub type ByteList = ItemList<u8>;
 
 /// A line of a journal: a command that begins, its refusal, or what it did.
 #[derive(Drop)]
@@ -44,5 +48,44 @@ pub enum Line {
         pid: Pid,
         page: Vpn,
         frame: Frame,
+    },
+    /// A record goes over the channel between two neighbours.
+    Sent {
+        from: Enclave,
+        to: Enclave,
+        rec: Record,
+    },
+    /// So many bytes of the channel are taken.
+    Took {
+        from: Enclave,
+        to: Enclave,
+        count: u32,
+    },
+    /// Nothing waits in the channel.
+    Idle { from: Enclave, to: Enclave },
+    /// The next record of the channel is whole at its end.
+    Got { from: Enclave, to: Enclave },
+    /// The enclave drops the record at hand.
+    Dropped { enclave: Enclave },
+    /// The enclave's way to the name server is over that neighbour.
+    Way { enclave: Enclave, over: Enclave },
+    /// The enclave remembers the neighbour as the way back to another enclave.
+    Back {
+        enclave: Enclave,
+        of: Enclave,
+        over: Enclave,
+    },
+    /// The enclave learns that another lies over that neighbour.
+    Route {
+        enclave: Enclave,
+        of: Enclave,
+        over: Enclave,
+    },
+    /// Waiting bytes of the channel from byte `at` on, 32 at most.
+    Bytes {
+        from: Enclave,
+        to: Enclave,
+        at: u32,
+        bytes: ByteList,
     },
 }

@@ -1,0 +1,35 @@
+-- The tree of enclaves, and what waits in its channels.
+use Rattle.std.specs.Prelude.{◌+◌, ◌-◌, ℕ, zero, List, [], ◌∷◌, length, drop, Bool, not, ◌&&◌, ◌||◌, ◌==◌, nat_le, if◌then◌else◌, is_some}
+use Rattle.xemem_wire.specs.declared.format.Record.{Record}
+use Rattle.xemem_wire.specs.Spelling.{spelling_of, spellings_of}
+use Rattle.global_model.specs.Facts.{Facts, ChannelFact, has_parent}
+
+-- the enclave has that parent; the host has none
+abbrev pub is_child_of : Facts → ℕ → ℕ → Bool
+is_child_of G child parent = not (child == 0) && has_parent parent (G.enclave child)
+
+-- one is the parent of the other
+abbrev pub is_neighbour : Facts → ℕ → ℕ → Bool
+is_neighbour G x y = is_child_of G x y || is_child_of G y x
+
+abbrev pub was_born : Facts → ℕ → Bool
+was_born G e = is_some (G.enclave e)
+
+-- the bytes that wait: all that were sent but those that were taken
+abbrev pub waiting_of : ChannelFact → List ℕ
+waiting_of channel = drop channel.taken (spellings_of channel.sent)
+
+abbrev pub waiting_bytes : Facts → ℕ → ℕ → List ℕ
+waiting_bytes G x y = waiting_of (G.channel x y)
+
+abbrev pub size_of : Record → ℕ
+size_of r = length (spelling_of r)
+
+-- the records whose last byte is among the first n bytes
+abbrev pub whole_records : ℕ → List Record → List Record
+whole_records n [] = []
+whole_records n (r ∷ rs) = if nat_le (size_of r) n then r ∷ whole_records (n - size_of r) rs else []
+
+-- the records that are whole, and weren't got yet, once so many bytes are taken
+abbrev pub arriving : ChannelFact → List Record
+arriving channel = drop channel.got (whole_records channel.taken channel.sent)
