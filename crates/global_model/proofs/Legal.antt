@@ -12,6 +12,8 @@ use Rattle.xm_num.specs.declared.Frame.{Frame}
 use Rattle.xm_num.specs.declared.Block.{Block}
 use Rattle.xm_num.specs.declared.Want.{Want}
 use Rattle.xm_num.specs.declared.Cause.{Cause}
+use Rattle.xm_num.specs.declared.Kind.{Kind}
+use Rattle.xm_num.specs.declared.Kind.TheVariants as kinds
 use Rattle.xm_num.specs.declared.Access.{Access}
 use Rattle.xm_num.specs.declared.Access.TheVariants as accesses
 use Rattle.global_model.specs.declared.command.Command.{Command}
@@ -22,9 +24,10 @@ use Rattle.global_model.specs.Facts.{Facts, BlockFact, Absent, Free, Lent, OwnPa
 use Rattle.global_model.specs.Space.{Mapping, IsMapped, IsUnmapped, is_page_of, own_mapping, space_of, is_own_frame, is_unused, frame_list, unused_frames, block_frames, free_blocks}
 use Rattle.global_model.specs.Refusals.{refusal_of}
 use Rattle.global_model.specs.Scenario.{may_stand, IsPlacedAfter}
-use Rattle.global_model.specs.Due.{host, touched_lines, acts_of, command_lines, step_lines, journal_from}
+use Rattle.global_model.specs.Due.{host, next_enclave, child_lines, deliver_lines, show_lines, touched_lines, acts_of, command_lines, step_lines, journal_from}
 use Rattle.global_model.specs.Lawful.{LawfulRefusal, IsLegalAt, cause_of}
 use Rattle.global_model.specs.History.{Follows, onto}
+use Rattle.global_model.proofs.Plain.{is_plain, ArePlain, plain_host, plain_deliver, plain_show, plain_child}
 use Rattle.global_model.proofs.Pasts.{onto-append, facts_at-onto, Follows-append}
 
 -- ---- lists
@@ -213,6 +216,33 @@ pub record IsLegalUpTo (past journal : List Line) : Type 0 where
   pub sound : IsSound (facts_at (onto journal past))
   pub closed : IsClosed (onto journal past)
 
+-- plain lines are legal where a line that is no refusal is
+plain_legal : (line : Line) (past : List Line) → IsClosed past → is_plain line ≡ true → IsLegalAt past line
+plain_legal (lines.Do c) past closed plain = cc
+plain_legal (lines.Refused cause) past closed plain = cc
+plain_legal (lines.Born e kind parent ns blocks) past closed plain = cc
+plain_legal (lines.Alloc e p at frames) past closed plain = cc
+plain_legal (lines.Touched e p page frame) past closed plain = cc
+plain_legal line past closed plain = record { lending = tt; act = tt; refusal = closed line refl }
+
+plain_sound : (G : Facts) (line : Line) → is_plain line ≡ true → IsSound G → IsSound (after_line G line)
+plain_sound G (lines.Do c) plain sound = cc
+plain_sound G (lines.Refused cause) plain sound = cc
+plain_sound G (lines.Born e kind parent ns blocks) plain sound = cc
+plain_sound G (lines.Alloc e p at frames) plain sound = cc
+plain_sound G (lines.Touched e p page frame) plain sound = cc
+plain_sound G line plain sound = record { owned = sound.owned }
+
+plain_closed : (line : Line) (past : List Line) → is_plain line ≡ true → IsClosed (line ∷ past)
+plain_closed (lines.Do c) past plain = cc
+plain_closed line past plain = λ next h. h
+
+legal_plain : (ls past : List Line) → IsSound (facts_at past) → IsClosed past → ArePlain ls → IsLegalUpTo past ls
+legal_plain [] past sound closed plain = record { legal = tt; sound = sound; closed = closed }
+legal_plain (l ∷ ls) past sound closed plain =
+    let more = legal_plain ls (l ∷ past) (plain_sound (facts_at past) l plain.0 sound) (plain_closed l past plain.0) plain.1 in
+    record { legal = (plain_legal l past closed plain.0, more.legal); sound = more.sound; closed = more.closed }
+
 -- a command whose acts are legal where it isn't refused
 with_refusal : (c : Command) (past : List Line) → IsClosed past → IsSound (facts_at (lines.Do c ∷ past)) → (refusal_of (facts_at past) c ≡ None → IsLegalUpTo (lines.Do c ∷ past) (acts_of (facts_at past) c))
     → IsLegalUpTo past (step_lines (facts_at past) c)
@@ -235,28 +265,53 @@ legal_pool blocks past none closed =
       closed = λ line h. h;
     }
 
-legal_host : (blocks : ℕ) (ns : Bool) (past : List Line) → IsSound (facts_at past) → IsClosed past → IsLegalUpTo past (step_lines (facts_at past) (commands.Host blocks ns))
-legal_host blocks ns past sound closed =
-    let G = facts_at past in
+-- blocks that are lent: the lowest free ones, which are unmapped, and what is owned stays so
+record IsLendable (G : Facts) (e : Enclave) (drawn : List Block) : Type 0 where
+  lowest : drawn ≡ take (length drawn) (free_blocks G)
+  unmapped : All (λ b. All (IsUnmapped G) (block_frames b)) drawn
+  stays : All (λ own. with_lent drawn e G.block (own.frame.0 / 64) ≡ Lent own.enclave.0) G.own
+
+lendable : (G : Facts) → IsSound G → (e : Enclave) (blocks : ℕ) → IsLendable G e (take blocks (free_blocks G))
+lendable G sound e blocks =
     let drawn = take blocks (free_blocks G) in
     let free : All (λ b. is_free (G.block b.0) ≡ true) drawn = All-take (λ (b : Block). is_free (G.block b.0) ≡ true) blocks (free_blocks G) (blocks_free G) in
-    let unmapped : All (λ b. All (IsUnmapped G) (block_frames b)) drawn = All-weaker (λ b. is_free (G.block b.0) ≡ true) (λ b. All (IsUnmapped G) (block_frames b)) (block_unmapped G sound) drawn free in
-    let lowest : drawn ≡ take (length drawn) (free_blocks G) = take-length-take blocks (free_blocks G) in
-    let stays : All (λ own. with_lent drawn host G.block (own.frame.0 / 64) ≡ Lent own.enclave.0) G.own = All-weaker (IsOwned G) (λ own. with_lent drawn host G.block (own.frame.0 / 64) ≡ Lent own.enclave.0) (λ own owned. lent_stays G drawn host own free owned) G.own sound.owned in
-    by lowest unmapped stays ns
-  where
-    by : let G = facts_at past in let drawn = take blocks (free_blocks G) in drawn ≡ take (length drawn) (free_blocks G) → All (λ b. All (IsUnmapped G) (block_frames b)) drawn
-        → All (λ own. with_lent drawn host G.block (own.frame.0 / 64) ≡ Lent own.enclave.0) G.own → (n : Bool) → IsLegalUpTo past (step_lines (facts_at past) (commands.Host blocks n))
-    by lowest unmapped stays true = record {
-      legal = (record { lending = tt; act = tt; refusal = closed (lines.Do (commands.Host blocks true)) refl }, (record { lending = (lowest, unmapped); act = tt; refusal = refl }, (record { lending = tt; act = tt; refusal = refl }, tt)));
-      sound = record { owned = stays };
-      closed = λ line h. h;
+    record {
+      lowest = take-length-take blocks (free_blocks G);
+      unmapped = All-weaker (λ b. is_free (G.block b.0) ≡ true) (λ b. All (IsUnmapped G) (block_frames b)) (block_unmapped G sound) drawn free;
+      stays = All-weaker (IsOwned G) (λ own. with_lent drawn e G.block (own.frame.0 / 64) ≡ Lent own.enclave.0) (λ own owned. lent_stays G drawn e own free owned) G.own sound.owned;
     }
-    by lowest unmapped stays false = record {
-      legal = (record { lending = tt; act = tt; refusal = closed (lines.Do (commands.Host blocks false)) refl }, (record { lending = (lowest, unmapped); act = tt; refusal = refl }, tt));
-      sound = record { owned = stays };
-      closed = λ line h. h;
-    }
+
+-- an enclave is born of a command that isn't refused, and plain lines follow
+legal_born : (c : Command) (past : List Line) (e : Enclave) (kind : Kind) (parent : Enclave) (ns : Bool) (blocks : ℕ) (more : List Line)
+    → IsSound (facts_at (lines.Do c ∷ past)) → refusal_of (facts_at past) c ≡ None → facts_at (lines.Do c ∷ past) ≡ facts_at past → ArePlain more
+    → IsLegalUpTo (lines.Do c ∷ past) (lines.Born e kind parent ns (take blocks (free_blocks (facts_at past))) ∷ more)
+legal_born c past e kind parent ns blocks more sound none same plain =
+    let G = facts_at (lines.Do c ∷ past) in
+    let drawn = take blocks (free_blocks (facts_at past)) in
+    let lent : IsLendable G e drawn = subst (λ H. IsLendable G e (take blocks (free_blocks H))) same (lendable G sound e blocks) in
+    let after = lines.Born e kind parent ns drawn ∷ lines.Do c ∷ past in
+    let rest = legal_plain more after (record { owned = lent.stays }) (λ line h. h) plain in
+    record { legal = (record { lending = (lent.lowest, lent.unmapped); act = tt; refusal = sym none }, rest.legal); sound = rest.sound; closed = rest.closed }
+
+legal_host : (blocks : ℕ) (ns : Bool) (past : List Line) → IsSound (facts_at past) → IsClosed past → IsLegalUpTo past (step_lines (facts_at past) (commands.Host blocks ns))
+legal_host blocks ns past sound closed =
+    with_refusal (commands.Host blocks ns) past closed sound (λ none. legal_born (commands.Host blocks ns) past host kinds.Host host ns blocks _ sound none refl (plain_host ns))
+
+legal_boot : (kind : Kind) (parent : Enclave) (blocks : ℕ) (ns : Bool) (past : List Line) → IsSound (facts_at past) → IsClosed past → IsLegalUpTo past (step_lines (facts_at past) (commands.Boot kind parent blocks ns))
+legal_boot kind parent blocks ns past sound closed =
+    let child = next_enclave (facts_at past) in
+    with_refusal (commands.Boot kind parent blocks ns) past closed sound
+    (λ none. legal_born (commands.Boot kind parent blocks ns) past child kind parent ns blocks (child_lines child parent ns) sound none refl (plain_child child parent ns))
+
+legal_deliver : (x y : Enclave) (count : ℕ) (past : List Line) → IsSound (facts_at past) → IsClosed past → IsLegalUpTo past (step_lines (facts_at past) (commands.Deliver x y count))
+legal_deliver x y count past sound closed =
+    with_refusal (commands.Deliver x y count) past closed sound
+    (λ none. legal_plain (deliver_lines (facts_at past) x y count) (lines.Do (commands.Deliver x y count) ∷ past) sound (λ line h. h ∙ sym none) (plain_deliver (facts_at past) x y count))
+
+legal_show : (x y : Enclave) (past : List Line) → IsSound (facts_at past) → IsClosed past → IsLegalUpTo past (step_lines (facts_at past) (commands.ShowLink x y))
+legal_show x y past sound closed =
+    with_refusal (commands.ShowLink x y) past closed sound
+    (λ none. legal_plain (show_lines (facts_at past) x y) (lines.Do (commands.ShowLink x y) ∷ past) sound (λ line h. h ∙ sym none) (plain_show (facts_at past) x y))
 
 legal_proc : (e : Enclave) (uid gid : ℕ) (past : List Line) → IsSound (facts_at past) → IsClosed past → IsLegalUpTo past (step_lines (facts_at past) (commands.Proc e uid gid))
 legal_proc e uid gid past sound closed = record {
@@ -313,6 +368,9 @@ legal_step before (commands.Host blocks ns) past ready may = legal_host blocks n
 legal_step before (commands.Proc e uid gid) past ready may = legal_proc e uid gid past ready.sound ready.closed
 legal_step before (commands.Alloc e p at pages) past ready may = legal_alloc e p at pages past ready.sound ready.closed
 legal_step before (commands.Touch e p addr want) past ready may = legal_touch e p addr want past ready.sound ready.closed
+legal_step before (commands.Boot kind parent blocks ns) past ready may = legal_boot kind parent blocks ns past ready.sound ready.closed
+legal_step before (commands.Deliver x y count) past ready may = legal_deliver x y count past ready.sound ready.closed
+legal_step before (commands.ShowLink x y) past ready may = legal_show x y past ready.sound ready.closed
 
 legal_journal : (cs before : List Command) (G : Facts) (past : List Line) → G ≡ facts_at past → IsReady before past → IsPlacedAfter before cs → Follows IsLegalAt past (journal_from G cs)
 legal_journal [] before G past is ready placed = tt
@@ -321,7 +379,7 @@ legal_journal (c ∷ cs) before G past is ready placed =
     let one : IsLegalUpTo past ls = rw is (legal_step before c past ready placed.0) in
     let facts : after_lines G ls ≡ facts_at (onto ls past) = ap (λ H. after_lines H ls) is ∙ sym (facts_at-onto ls past) in
     let next : IsReady (c ∷ before) (onto ls past) = record { sound = one.sound; closed = one.closed; fresh = λ none. absurd (omega (arith, none)) } in
-    Follows-append IsLegalAt ls (journal_from (after_lines G ls) cs) past one.legal (legal_journal cs (c ∷ before) (after_lines G ls) (onto ls past) facts next placed.1)
+    Follows-append IsLegalAt ls (journal_from (after_lines G ls) cs) past one.legal (legal_journal cs (c ∷ before) (after_lines G ls) (onto ls past) facts next placed.2)
 
 pub journal_of-legal : (cs : List Command) → IsPlacedAfter [] cs → Follows IsLegalAt [] (journal_from no_facts cs)
 journal_of-legal cs placed = legal_journal cs [] no_facts [] refl (record { sound = record { owned = All-nil _ }; closed = λ line h. h; fresh = λ none. refl }) placed

@@ -1,4 +1,5 @@
 pub mod Pasts
+pub mod Plain
 pub mod Told
 pub mod Placed
 pub mod Legal

@@ -13,8 +13,9 @@ use Rattle.global_model.specs.declared.line.Line.TheVariants as lines
 use Rattle.global_model.specs.Facts.{Facts, after_line, after_lines, facts_at, no_facts}
 use Rattle.global_model.specs.Space.{Mapping, space_of}
 use Rattle.global_model.specs.Refusals.{refusal_of}
-use Rattle.global_model.specs.Due.{host, touched_lines, acts_of, command_lines, step_lines, journal_from, journal_of, due_since, due_line}
+use Rattle.global_model.specs.Due.{host, next_enclave, touched_lines, acts_of, command_lines, step_lines, journal_from, journal_of, due_since, due_line}
 use Rattle.global_model.specs.History.{Follows, IsDueAt, IsTold, IsWhole, onto, do_commands}
+use Rattle.global_model.proofs.Plain.{is_plain, ArePlain, plain_host, plain_deliver, plain_show, plain_child}
 use Rattle.global_model.proofs.Pasts.{onto-append, after_lines-append, facts_at-onto, Follows-append}
 
 -- ---- lines that begin no command
@@ -27,23 +28,30 @@ abbrev pub AreActs : List Line → Type 0
 AreActs [] = Unit {0}
 AreActs (line ∷ journal) = (is_do line ≡ false) × AreActs journal
 
+plain_no_do : (line : Line) → is_plain line ≡ true → is_do line ≡ false
+unfolding is_do
+plain_no_do (lines.Do command) plain = cc
+plain_no_do _ plain = refl
+
 acts_touched : (e : Enclave) (p : Pid) (page : Vpn) (mapping : Option Mapping) → AreActs (touched_lines e p page mapping)
 unfolding is_do
 acts_touched e p page None = tt
 acts_touched e p page (Some found) = (refl, tt)
 
-acts_host : (G : Facts) (blocks : ℕ) (ns : Bool) → AreActs (acts_of G (commands.Host blocks ns))
-unfolding is_do
-acts_host G blocks true = (refl, (refl, tt))
-acts_host G blocks false = (refl, tt)
+acts_plain : (ls : List Line) → ArePlain ls → AreActs ls
+acts_plain [] plain = tt
+acts_plain (l ∷ ls) plain = (plain_no_do l plain.0, acts_plain ls plain.1)
 
 acts_of-acts : (G : Facts) (command : Command) → AreActs (acts_of G command)
 unfolding is_do
 acts_of-acts G (commands.Pool blocks) = tt
-acts_of-acts G (commands.Host blocks ns) = acts_host G blocks ns
+acts_of-acts G (commands.Host blocks ns) = (refl, acts_plain _ (plain_host ns))
 acts_of-acts G (commands.Proc e uid gid) = (refl, tt)
 acts_of-acts G (commands.Alloc e p at pages) = (refl, tt)
 acts_of-acts G (commands.Touch e p addr want) = acts_touched e p _ _
+acts_of-acts G (commands.Boot kind parent blocks ns) = (refl, acts_plain _ (plain_child (next_enclave G) parent ns))
+acts_of-acts G (commands.Deliver x y count) = acts_plain _ (plain_deliver G x y count)
+acts_of-acts G (commands.ShowLink x y) = acts_plain _ (plain_show G x y)
 
 refused_or_acts : (cause : Option Cause) (acts : List Line) → AreActs acts → AreActs (option_map_or (λ c. lines.Refused c ∷ []) cause acts)
 unfolding is_do
