@@ -1,5 +1,9 @@
 pub mod Pasts
 pub mod Plain
+pub mod Flow
+pub mod Star
+pub mod Arriving
+pub mod Carried
 pub mod Told
 pub mod Placed
 pub mod Legal

@@ -7,6 +7,7 @@ pub mod Channels
 pub mod View
 pub mod Space
 pub mod Refusals
+pub mod Flow
 pub mod Due
 pub mod Lawful
 pub mod History

@@ -6,7 +6,8 @@ ghost use Rattle.global_model.specs.declared.line.Line.{Line as JournalLine};
 ghost use Rattle.global_model.specs.Scenario.{IsPlaced, scenario_of};
 ghost use Rattle.global_model.specs.Facts.{after_lines, facts_after};
 ghost use Rattle.global_model.specs.Due.{journal_of, step_lines};
-ghost use Rattle.global_model.specs.History.{do_commands, IsLegal, IsTold, IsWhole};
+ghost use Rattle.global_model.specs.Flow.{IsFlowing};
+ghost use Rattle.global_model.specs.History.{do_commands, IsCarried, IsLegal, IsTold, IsWhole};
 
 /// Exactly one journal is told and whole and has given commands in its `do` lines.
 pub fn one_journal()
@@ -27,6 +28,14 @@ pub fn journals_grow()
 /// The journal of commands, each of which may stand after those before it, is legal.
 pub fn journals_are_legal()
     ensures { (commands : List Commands) → IsPlaced commands → IsLegal (journal_of commands) }
+{}
+
+/// The journal of commands, each of which may stand after those before it, is carried. Wherever a command has ended the
+/// enclaves are the host and its children, every record that was sent is valid, every whole record was got, and nothing was
+/// sent but between neighbours.
+pub fn journals_are_carried()
+    ensures carried { (commands : List Commands) → IsPlaced commands → IsCarried (journal_of commands) }
+    ensures flowing { (commands : List Commands) → IsPlaced commands → IsFlowing (facts_after (journal_of commands)) }
 {}
 
 /// Each command of a scenario may stand after those before it.
