@@ -55,7 +55,7 @@ pub record Facts : Type 0 where
   pub block : ℕ → BlockFact
   pub born : ℕ
   pub enclave : ℕ → Option EnclaveFact
-  pub way : ℕ → Option ℕ
+  pub way : ℕ → Option Enclave
   pub channel : ℕ → ℕ → ChannelFact
   pub started : ℕ → ℕ
   pub process : ℕ → ℕ → Option ProcessFact
@@ -115,7 +115,7 @@ after_line G (lines.Alloc e p at frames) = record G { own = G.own ++ own_from e 
 after_line G (lines.Sent x y r) = record G { channel = at_pair x.0 y.0 (with_sent r) G.channel }
 after_line G (lines.Took x y count) = record G { channel = at_pair x.0 y.0 (with_taken count) G.channel }
 after_line G (lines.Got x y) = record G { channel = at_pair x.0 y.0 with_got G.channel }
-after_line G (lines.Way e over) = record G { way = at_number e.0 (Some over.0) G.way }
+after_line G (lines.Way e over) = record G { way = at_number e.0 (Some over) G.way }
 after_line G line = G
 
 -- the facts after these lines, from those before

@@ -1,5 +1,5 @@
 -- What an enclave knows, and what it writes for a record: a function of its view and of the record at hand alone.
-use Rattle.std.specs.Prelude.{ℕ, List, [], ◌∷◌, Bool, not, ◌&&◌, ◌||◌, ◌==◌, if◌then◌else◌, Option, None, Some, is_some, false}
+use Rattle.std.specs.Prelude.{ℕ, List, [], ◌∷◌, ◌++◌, Bool, true, not, ◌&&◌, ◌||◌, ◌==◌, if◌then◌else◌, Option, None, Some, is_some, false}
 use Rattle.std.specs.Option.{option_map_or}
 use Rattle.xm_num.specs.declared.Enclave.{Enclave}
 use Rattle.xemem_wire.specs.declared.format.Record.{Record}
@@ -15,7 +15,7 @@ pub record View : Type 0 where
   pub me : Enclave
   pub holder : Bool
   pub admitted : Bool
-  pub way : Option ℕ
+  pub way : Option Enclave
 
 abbrev pub view_of : Facts → Enclave → View
 view_of G e = record { me = e; holder = is_holder (G.enclave e.0); admitted = is_admitted (G.enclave e.0); way = G.way e.0 }
@@ -72,3 +72,20 @@ body_lines v from r body = drop_lines v
 -- a record that comes back to its origin is dropped
 abbrev pub record_lines : View → Enclave → Record → List Line
 record_lines v from r = if r.origin.0 == v.me.0 then drop_lines v else body_lines v from r r.body
+
+-- what a line of its own changes in an enclave's view
+abbrev pub own_line : View → Line → View
+own_line v (lines.Way e over) = record v { way = Some over }
+own_line v (lines.Admitted e) = record v { admitted = true }
+own_line v line = v
+
+abbrev pub own_lines : View → List Line → View
+own_lines v [] = v
+own_lines v (line ∷ journal) = own_lines (own_line v line) journal
+
+-- the lines of records that come from a neighbour one after the other, each by the view after the lines before it
+abbrev pub lines_of_records : View → Enclave → List Record → List Line
+lines_of_records v from [] = []
+lines_of_records v from (r ∷ rs) =
+    let own = lines.Got from v.me ∷ record_lines v from r in
+    own ++ lines_of_records (own_lines v own) from rs

@@ -7,3 +7,4 @@ pub mod Reading
 pub mod Text
 pub mod Status
 pub mod Main
+pub mod Channels

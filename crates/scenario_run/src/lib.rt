@@ -1,9 +1,11 @@
 //! A scenario from bytes to the journal.
 #![tactic(auto)]
 
+mod channel;
 mod execute;
 mod machine;
 mod main_call;
+mod node;
 mod pages;
 mod print;
 mod read;
