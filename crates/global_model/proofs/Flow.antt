@@ -41,7 +41,7 @@ first_whole P n r rs fits none = by (leb (size_of r) n) refl
 whole-fits : (n : ℕ) (r : Record) (rs : List Record) → size_of r ≤ n → whole_records n (r ∷ rs) ≡ r ∷ whole_records (n - size_of r) rs
 whole-fits n r rs fits = rw (le-leb (size_of r) n fits) refl
 
-whole-length : (n : ℕ) (rs : List Record) → length (whole_records n rs) ≤ length rs
+pub whole-length : (n : ℕ) (rs : List Record) → length (whole_records n rs) ≤ length rs
 whole-length n [] = omega arith
 whole-length n (r ∷ rs) = first_whole (λ ws. length ws ≤ length (r ∷ rs)) n r rs (λ fits. omega (arith, whole-length (n - size_of r) rs)) (omega arith)
 
@@ -63,7 +63,7 @@ front_bytes (suc k) n (r ∷ rs) le =
     le
 
 -- a record that is sent later isn't among bytes that were sent before
-whole-sent : (n : ℕ) (rs : List Record) (r : Record) → n ≤ bytes_of rs → whole_records n (rs ++ r ∷ []) ≡ whole_records n rs
+pub whole-sent : (n : ℕ) (rs : List Record) (r : Record) → n ≤ bytes_of rs → whole_records n (rs ++ r ∷ []) ≡ whole_records n rs
 whole-sent n [] r le = first_whole (λ ws. ws ≡ []) n r [] (λ fits. absurd (omega (arith, filled r))) refl
 whole-sent n (s ∷ ss) r le = by (λ fits. whole-sent (n - size_of s) ss r (omega (arith, bytes-cons s ss, fits))) (leb (size_of s) n) refl
   where
@@ -71,6 +71,18 @@ whole-sent n (s ∷ ss) r le = by (λ fits. whole-sent (n - size_of s) ss r (ome
         → cond b (s ∷ whole_records (n - size_of s) (ss ++ r ∷ [])) [] ≡ cond b (s ∷ whole_records (n - size_of s) ss) []
     by same true is = ap (λ ws. s ∷ ws) (same (leb-true (size_of s) n is))
     by same false is = refl
+
+-- after so many whole records the others are whole by the bytes after theirs
+pub whole-rest : (k n : ℕ) (rs : List Record) → k ≤ length (whole_records n rs) → drop k (whole_records n rs) ≡ whole_records (n - bytes_of (take k rs)) (drop k rs)
+whole-rest zero n rs le = let all : n ≡ n - 0 = omega arith in ap (λ m. whole_records m rs) all
+whole-rest (suc k) n [] le = refl
+whole-rest (suc k) n (r ∷ rs) le =
+    first_whole (λ ws. suc k ≤ length ws → drop (suc k) ws ≡ whole_records (n - bytes_of (take (suc k) (r ∷ rs))) (drop k rs)) n r rs
+    (λ fits more.
+    let bytes : n - size_of r - bytes_of (take k rs) ≡ n - bytes_of (r ∷ take k rs) = omega (arith, bytes-cons r (take k rs)) in
+    whole-rest k (n - size_of r) rs (omega arith) ∙ ap (λ m. whole_records m (drop k rs)) bytes)
+    (λ none. absurd (omega arith))
+    le
 
 -- ---- validity
 

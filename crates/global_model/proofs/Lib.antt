@@ -4,6 +4,7 @@ pub mod Flow
 pub mod Star
 pub mod Arriving
 pub mod Carried
+pub mod Views
 pub mod Told
 pub mod Placed
 pub mod Legal
