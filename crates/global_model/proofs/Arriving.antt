@@ -1,39 +1,24 @@
 -- Lines that are carried: those of an enclave that answers a record, and those of the records that arrive at the end of a channel.
-use Rattle.std.proofs.Common.{◌≡◌, ◌+◌, ◌-◌, ◌/◌, ◌<◌, ◌≤◌, ℕ, zero, suc, List, [], ◌∷◌, ◌++◌, length, take, drop, Bool, true, false, cond, not, ◌&&◌, ◌||◌, eqb, ltb, leb, Option, None, Some, is_some, refl, sym, ap, ◌∙◌, subst, arith}
-use Rattle.std.specs.Prelude.{min}
-use Rattle.std.specs.List.{list_any}
-use Rattle.std.specs.Option.{option_map_or}
-use Rattle.std.proofs.lemmas.Bool.{eqb-true, eqb-false, eq-eqb, and_parts, lt-ltb, ltb-true, le-leb, leb-true, leb-false}
+use Rattle.std.proofs.Common.{◌≡◌, ◌<◌, ◌≤◌, ℕ, List, [], ◌∷◌, ◌++◌, Bool, true, false, cond, not, ◌&&◌, eqb, ltb, Option, refl, sym, ap, ◌∙◌, subst, arith}
+use Rattle.std.proofs.lemmas.Bool.{eqb-true, eq-eqb, and_parts, ltb-true, le-leb}
 use Rattle.xm_num.specs.declared.Enclave.{Enclave}
-use Rattle.xm_num.specs.declared.Pid.{Pid}
-use Rattle.xm_num.specs.declared.Vpn.{Vpn}
-use Rattle.xm_num.specs.declared.Block.{Block}
-use Rattle.xm_num.specs.declared.Kind.{Kind}
-use Rattle.xm_num.specs.declared.Kind.TheVariants as kinds
-use Rattle.xm_num.specs.declared.Cause.{Cause}
 use Rattle.xemem_wire.specs.declared.format.Record.{Record}
 use Rattle.xemem_wire.specs.declared.format.Body.{Body}
 use Rattle.xemem_wire.specs.declared.format.Body.TheVariants as bodies
 use Rattle.xemem_wire.specs.Table.{is_enclave}
-use Rattle.xemem_wire.specs.Spelling.{is_valid, AreValid, spellings_of}
-use Rattle.global_model.specs.declared.command.Command.{Command}
-use Rattle.global_model.specs.declared.command.Command.TheVariants as commands
+use Rattle.xemem_wire.specs.Spelling.{is_valid, AreValid}
 use Rattle.global_model.specs.declared.line.Line.{Line}
 use Rattle.global_model.specs.declared.line.Line.TheVariants as lines
-use Rattle.global_model.specs.Facts.{Facts, ChannelFact, no_channel, at_pair, with_sent, with_taken, with_got, after_line, after_lines, facts_at, no_facts, is_living_enclave}
-use Rattle.global_model.specs.Channels.{is_neighbour, was_born, waiting_of, waiting_bytes, arriving}
-use Rattle.global_model.specs.View.{View, view_of, knows_way, is_for, query_of, here_of, register_of, admit_of, drop_lines, query_lines, here_lines, register_lines, admit_lines, body_lines, record_lines}
-use Rattle.global_model.specs.Space.{Mapping, space_of, free_blocks}
-use Rattle.global_model.specs.Refusals.{Condition, first_cause, link_conditions, refusal_of}
-use Rattle.global_model.specs.Ranges.{IsInRange}
-use Rattle.global_model.specs.Scenario.{is_proc, may_stand, IsPlacedAfter}
-use Rattle.global_model.specs.Due.{host, next_enclave, touched_lines, got_lines, took_lines, deliver_lines, bytes_lines, show_lines, child_lines, acts_of, command_lines, step_lines, journal_from}
+use Rattle.global_model.specs.Facts.{Facts, ChannelFact, no_channel, at_pair, with_sent, with_got, after_line, after_lines, facts_at}
+use Rattle.global_model.specs.Channels.{is_neighbour, arriving}
+use Rattle.global_model.specs.View.{View, view_of, knows_way, is_for, here_of, register_of, admit_of, drop_lines, query_lines, here_lines, register_lines, admit_lines, body_lines, record_lines}
+use Rattle.global_model.specs.Due.{got_lines}
 use Rattle.global_model.specs.Lawful.{CarriedAt}
 use Rattle.global_model.specs.History.{Follows, onto}
 use Rattle.global_model.specs.Flow.{IsStar, IsFlow, IsFlowing}
 use Rattle.global_model.proofs.Pasts.{onto-append, facts_at-onto, Follows-append}
-use Rattle.global_model.proofs.Flow.{valid_arriving, flow_sent, arriving_sent, flow_taken, IsNext, next_arrives}
-use Rattle.global_model.proofs.Star.{is_near, near_is, near-turned, near-before, near-child, far_before, star_admitted, star_born}
+use Rattle.global_model.proofs.Flow.{valid_arriving, flow_sent, arriving_sent, IsNext, next_arrives}
+use Rattle.global_model.proofs.Star.{is_near, near_is, near-turned, far_before, star_admitted}
 
 -- ---- one pair of numbers
 

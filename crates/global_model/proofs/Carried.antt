@@ -1,5 +1,5 @@
 -- The journal of commands that stand where they may is carried, and wherever a command has ended all channels flow.
-use Rattle.std.proofs.Common.{◌≡◌, ◌+◌, ◌/◌, ◌<◌, ◌≤◌, ℕ, zero, suc, List, [], ◌∷◌, ◌++◌, length, take, Bool, true, false, cond, not, ◌&&◌, eqb, ltb, leb, Option, None, Some, refl, sym, ap, ◌∙◌, subst, arith}
+use Rattle.std.proofs.Common.{◌≡◌, ◌+◌, ◌/◌, ◌<◌, ◌≤◌, ℕ, zero, suc, List, [], ◌∷◌, length, take, Bool, true, false, cond, not, ◌&&◌, eqb, ltb, leb, Option, None, Some, refl, sym, ap, ◌∙◌, subst, arith}
 use Rattle.std.specs.Prelude.{min}
 use Rattle.std.specs.List.{list_any}
 use Rattle.std.specs.Option.{option_map_or}
@@ -20,20 +20,20 @@ use Rattle.global_model.specs.declared.command.Command.TheVariants as commands
 use Rattle.global_model.specs.declared.line.Line.{Line}
 use Rattle.global_model.specs.declared.line.Line.TheVariants as lines
 use Rattle.global_model.specs.Facts.{Facts, ChannelFact, no_channel, with_taken, after_line, after_lines, facts_at, no_facts, facts_after, is_living_enclave}
-use Rattle.global_model.specs.Channels.{is_neighbour, was_born, waiting_of, waiting_bytes, arriving}
+use Rattle.global_model.specs.Channels.{is_neighbour, was_born, waiting_bytes, arriving}
 use Rattle.global_model.specs.View.{query_of}
 use Rattle.global_model.specs.Space.{Mapping, space_of, free_blocks}
 use Rattle.global_model.specs.Refusals.{Condition, when, first_cause, refusal_of}
 use Rattle.global_model.specs.Ranges.{IsInRange}
 use Rattle.global_model.specs.Scenario.{is_proc, may_stand, IsPlacedAfter, IsPlaced}
-use Rattle.global_model.specs.Due.{host, next_enclave, touched_lines, got_lines, took_lines, deliver_lines, bytes_lines, show_lines, child_lines, acts_of, step_lines, journal_from, journal_of}
+use Rattle.global_model.specs.Due.{host, next_enclave, touched_lines, took_lines, bytes_lines, child_lines, acts_of, step_lines, journal_from, journal_of}
 use Rattle.global_model.specs.Lawful.{CarriedAt}
 use Rattle.global_model.specs.History.{Follows, IsCarried, onto}
 use Rattle.global_model.specs.Flow.{IsStar, IsFlow, IsFlowing}
 use Rattle.global_model.proofs.Pasts.{onto-append, facts_at-onto, Follows-append}
 use Rattle.global_model.proofs.Flow.{flow_taken}
 use Rattle.global_model.proofs.Star.{is_near, near_is, near-turned, near-before, near-child, star_born}
-use Rattle.global_model.proofs.Arriving.{at_pair_has, at_pair_same, IsArriving, flowing_arriving, arriving_flowing, IsLinked, not_linked, IsProper, AreProper, IsUpTo, proper_lines, proper_either, got_steps}
+use Rattle.global_model.proofs.Arriving.{at_pair_has, at_pair_same, IsArriving, flowing_arriving, arriving_flowing, IsLinked, not_linked, AreProper, IsUpTo, proper_lines, proper_either, got_steps}
 
 -- ---- how many enclaves were born after commands, the newest first
 

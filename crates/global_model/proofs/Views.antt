@@ -1,5 +1,5 @@
 -- The lines of an enclave change its view by themselves, and no other enclave's.
-use Rattle.std.proofs.Common.{◌≡◌, ◌≢◌, ℕ, List, [], ◌∷◌, ◌++◌, Bool, true, false, cond, not, ◌&&◌, eqb, Option, None, Some, refl, sym, ap, ◌∙◌, subst}
+use Rattle.std.proofs.Common.{◌≡◌, ◌≢◌, List, [], ◌∷◌, ◌++◌, Bool, true, false, cond, not, ◌&&◌, eqb, Option, None, Some, refl, sym, ap, ◌∙◌, subst}
 use Rattle.std.proofs.lemmas.Bool.{eq-eqb, ne_eqb}
 use Rattle.xm_num.specs.declared.Enclave.{Enclave}
 use Rattle.xemem_wire.specs.declared.format.Record.{Record}
@@ -8,9 +8,8 @@ use Rattle.xemem_wire.specs.declared.format.Body.TheVariants as bodies
 use Rattle.global_model.specs.declared.line.Line.{Line}
 use Rattle.global_model.specs.declared.line.Line.TheVariants as lines
 use Rattle.global_model.specs.Facts.{Facts, EnclaveFact, as_admitted, is_holder, is_admitted, is_living_enclave, after_line, after_lines}
-use Rattle.global_model.specs.View.{View, view_of, knows_way, is_for, here_of, register_of, admit_of, drop_lines, query_lines, here_lines, register_lines, admit_lines, body_lines, record_lines, own_line, own_lines, lines_of_records}
+use Rattle.global_model.specs.View.{View, view_of, knows_way, is_for, here_of, register_of, admit_of, drop_lines, body_lines, record_lines, own_line, own_lines, lines_of_records}
 use Rattle.global_model.specs.Due.{got_lines}
-use Rattle.global_model.proofs.Pasts.{after_lines-append}
 
 -- ---- lines that change no view but the enclave's
 
