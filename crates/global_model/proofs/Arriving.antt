@@ -219,8 +219,8 @@ got_steps x y (r ∷ rs) born past same linked old =
     let near : is_near G.born x.0 y.0 ≡ true = ap (λ n. is_near n x.0 y.0) same ∙ near-turned born x.0 y.0 ∙ linked.near in
     let first : IsUpTo x.0 y.0 rs G.born past (lines.Got x y ∷ []) = one_got x y r rs past near old in
     let me : is_enclave y.0 ≡ true = number_fits born y.0 (subst (λ n. n ≤ 256) same old.star.most) linked.living in
-    let then_ : IsUpTo x.0 y.0 rs born (lines.Got x y ∷ past) (record_lines (view_of G y) x r)
+    let answer : IsUpTo x.0 y.0 rs born (lines.Got x y ∷ past) (record_lines (view_of G y) x r)
     = proper_lines x.0 y.0 rs born (record_lines (view_of G y) x r) (lines.Got x y ∷ past) same (proper_record born (view_of G y) x r linked me valid.0) first.arrives in
-    let one : IsUpTo x.0 y.0 rs born past own = record { carried = (first.carried.0, then_.carried); arrives = then_.arrives; born_is = then_.born_is } in
+    let one : IsUpTo x.0 y.0 rs born past own = record { carried = (first.carried.0, answer.carried); arrives = answer.arrives; born_is = answer.born_is } in
     let more : IsUpTo x.0 y.0 [] born (onto own past) (got_lines (facts_at (onto own past)) x y rs) = got_steps x y rs born (onto own past) one.born_is linked one.arrives in
     up_to-append x.0 y.0 rs [] born past own (got_lines (after_lines G own) x y rs) one (subst (λ H. IsUpTo x.0 y.0 [] born (onto own past) (got_lines H x y rs)) (facts_at-onto own past) more)
