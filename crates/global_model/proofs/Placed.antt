@@ -5,7 +5,7 @@ use Rattle.std.specs.Option.{option_map, option_map_or, option_and_then, option_
 use Rattle.global_model.specs.declared.command.Command.{Command}
 use Rattle.global_model.specs.Ranges.{IsInRange}
 use Rattle.global_model.specs.Words.{words_of}
-use Rattle.global_model.specs.Scenario.{Scenario, command_of, is_comment, line_command, may_stand, may_be_said, said, onto_scenario, scenario_from, IsPlacedAfter}
+use Rattle.global_model.specs.Scenario.{command_of, is_comment, line_command, may_be_said, said, onto_scenario, scenario_from, IsPlacedAfter}
 use Rattle.global_model.proofs.SpellingLemmas.{command_of-spells}
 
 kept : {A : Type 0} (b : Bool) (x y : A) → cond b (Some x) None ≡ Some y → (b ≡ true) × (x ≡ y)
