@@ -3,14 +3,16 @@ use Rattle.std.proofs.Common.{◌≡◌, ◌-◌, ◌^◌, ℕ, List, [], ◌∷
 use Rattle.std.proofs.lemmas.Bool.{and_parts, eqb-true}
 use Rattle.std.proofs.lemmas.Slice.Eq.{bytes_eq-Decides}
 use Rattle.std.specs.Str.{bytes_eq}
+use Rattle.xm_num.specs.declared.Kind.{Kind}
+use Rattle.xm_num.specs.declared.Kind.TheVariants as kinds
 use Rattle.xm_num.specs.declared.Want.{Want}
 use Rattle.xm_num.specs.declared.Want.TheVariants as wants
 use Rattle.global_model.specs.declared.command.Command.{Command}
 use Rattle.global_model.specs.declared.command.Command.TheVariants as commands
-use Rattle.global_model.specs.Ranges.{IsInRange}
+use Rattle.global_model.specs.Ranges.{IsInRange, IsBootable, most16, most32}
 use Rattle.global_model.specs.Words.{number_in}
-use Rattle.global_model.specs.Scenario.{command_of, is_form, word, most16, most32, ◌>>=◌, pool_form, host_form, proc_form, alloc_form, touch_form, want_form}
-use Rattle.global_model.specs.Spelling.{command_words, want_word, ns_word}
+use Rattle.global_model.specs.Scenario.{command_of, is_form, is_boot, word, ◌>>=◌, pool_form, host_form, proc_form, alloc_form, touch_form, want_form, kind_form, boot_form, deliver_form, show_link_form}
+use Rattle.global_model.specs.Spelling.{command_words, want_word, kind_word, ns_word}
 use Rattle.global_model.proofs.WordLemmas.{number_in-decimal, number_in-spells}
 
 -- what is spelled is read again
@@ -20,8 +22,14 @@ unfolding want_form
 want_form-word wants.Read = refl
 want_form-word wants.Write = refl
 
+kind_form-word : (kind : Kind) → IsBootable kind → kind_form (kind_word kind) ≡ Some kind
+unfolding kind_form
+kind_form-word kinds.Host h = absurd h
+kind_form-word kinds.Cokernel h = refl
+kind_form-word kinds.Vm h = refl
+
 pub command_of-words : (command : Command) → IsInRange command → command_of (command_words command) ≡ Some command
-unfolding command_of pool_form host_form proc_form alloc_form touch_form
+unfolding command_of pool_form host_form proc_form alloc_form touch_form boot_form deliver_form show_link_form
 command_of-words (commands.Pool blocks) h = rw (number_in-decimal 1 4096 blocks h.0 h.1 (omega arith)) refl
 command_of-words (commands.Host blocks true) h = rw (number_in-decimal 1 4096 blocks h.0 h.1 (omega arith)) refl
 command_of-words (commands.Host blocks false) h = rw (number_in-decimal 1 4096 blocks h.0 h.1 (omega arith)) refl
@@ -31,6 +39,14 @@ command_of-words (commands.Alloc e p at pages) h =
     rw (number_in-decimal 0 most16 e.0 h.0.0 h.0.1 (omega arith), number_in-decimal 0 most32 p.0 h.1.0 h.1.1 (omega arith), number_in-decimal 1 16777215 at.0 h.2.0 h.2.1 (omega arith), number_in-decimal 1 4096 pages h.3.0 h.3.1 (omega arith)) refl
 command_of-words (commands.Touch e p addr want) h =
     rw (number_in-decimal 0 most16 e.0 h.0.0 h.0.1 (omega arith), number_in-decimal 0 most32 p.0 h.1.0 h.1.1 (omega arith), number_in-decimal 0 (2 ^ 64 - 1) addr h.2.0 h.2.1 (omega arith), want_form-word want) refl
+command_of-words (commands.Boot kind parent blocks true) h =
+    rw (kind_form-word kind h.0, number_in-decimal 0 most16 parent.0 h.1.0 h.1.1 (omega arith), number_in-decimal 1 4096 blocks h.2.0 h.2.1 (omega arith)) refl
+command_of-words (commands.Boot kind parent blocks false) h =
+    rw (kind_form-word kind h.0, number_in-decimal 0 most16 parent.0 h.1.0 h.1.1 (omega arith), number_in-decimal 1 4096 blocks h.2.0 h.2.1 (omega arith)) refl
+command_of-words (commands.Deliver x y count) h =
+    rw (number_in-decimal 0 most16 x.0 h.0.0 h.0.1 (omega arith), number_in-decimal 0 most16 y.0 h.1.0 h.1.1 (omega arith), number_in-decimal 1 most32 count h.2.0 h.2.1 (omega arith)) refl
+command_of-words (commands.ShowLink x y) h =
+    rw (number_in-decimal 0 most16 x.0 h.0.0 h.0.1 (omega arith), number_in-decimal 0 most16 y.0 h.1.0 h.1.1 (omega arith)) refl
 
 -- what is read was spelled
 
@@ -58,6 +74,17 @@ unfolding want_form
 want_spells text want h =
     chosen (text ≡ want_word want) (bytes_eq text (codes "r")) (Some wants.Read) _ want h (λ test e. let is : wants.Read ≡ want = cc in rw (← is) ((bytes_eq-Decides text (codes "r")).0 test)) (λ rest. chosen (text ≡ want_word want) (bytes_eq text (codes "w")) (Some wants.Write) None want rest (λ test e. let is : wants.Write ≡ want = cc in rw (← is) ((bytes_eq-Decides text (codes "w")).0 test)) (λ e. cc))
 
+-- the word is the kind's, and the kind is booted
+record SpellsKind (text : List ℕ) (kind : Kind) : Type 0 where
+  is : text ≡ kind_word kind
+  bootable : IsBootable kind
+
+kind_spells : (text : List ℕ) (kind : Kind) → kind_form text ≡ Some kind → SpellsKind text kind
+unfolding kind_form
+kind_spells text kind h =
+    let G = SpellsKind text kind in
+    chosen G (bytes_eq text (codes "cokernel")) (Some kinds.Cokernel) _ kind h (λ test e. let is : kinds.Cokernel ≡ kind = cc in rw (← is) (record { is = (bytes_eq-Decides text (codes "cokernel")).0 test; bootable = tt })) (λ rest. chosen G (bytes_eq text (codes "vm")) (Some kinds.Vm) None kind rest (λ test e. let is : kinds.Vm ≡ kind = cc in rw (← is) (record { is = (bytes_eq-Decides text (codes "vm")).0 test; bootable = tt })) (λ e. cc))
+
 -- lists of so many words
 
 two : (words : List (List ℕ)) → length words ≡ 2 → words ≡ word 0 words ∷ word 1 words ∷ []
@@ -80,6 +107,14 @@ four (a ∷ words) h = ap (λ ws. a ∷ ws) (three words (omega arith))
 five : (words : List (List ℕ)) → length words ≡ 5 → words ≡ word 0 words ∷ word 1 words ∷ word 2 words ∷ word 3 words ∷ word 4 words ∷ []
 five [] h = absurd (omega arith)
 five (a ∷ words) h = ap (λ ws. a ∷ ws) (four words (omega arith))
+
+six : (words : List (List ℕ)) → length words ≡ 6 → words ≡ word 0 words ∷ word 1 words ∷ word 2 words ∷ word 3 words ∷ word 4 words ∷ word 5 words ∷ []
+six [] h = absurd (omega arith)
+six (a ∷ words) h = ap (λ ws. a ∷ ws) (five words (omega arith))
+
+seven : (words : List (List ℕ)) → length words ≡ 7 → words ≡ word 0 words ∷ word 1 words ∷ word 2 words ∷ word 3 words ∷ word 4 words ∷ word 5 words ∷ word 6 words ∷ []
+seven [] h = absurd (omega arith)
+seven (a ∷ words) h = ap (λ ws. a ∷ ws) (six words (omega arith))
 
 record HasForm (first : List ℕ) (count : ℕ) (words : List (List ℕ)) : Type 0 where
   count_is : length words ≡ count
@@ -157,6 +192,63 @@ touch_is words command form h =
     let shape = five words form.count_is in
     rw (← is) (record { is = cc (shape, form.first_is, s.is, t.is, u.is, v); ranges = ((s.least, s.most), (t.least, t.most), (u.least, u.most)) })
 
+-- a boot's keywords stand where they should
+record HasBootForm (count : ℕ) (words : List (List ℕ)) : Type 0 where
+  form : HasForm (codes "boot") count words
+  under : word 2 words ≡ codes "under"
+  blocks : word 4 words ≡ codes "blocks"
+
+has_boot_form : (count : ℕ) (words : List (List ℕ)) → is_boot count words ≡ true → HasBootForm count words
+has_boot_form count words test =
+    let outer = and_parts _ _ test in
+    let inner = and_parts _ _ outer.0 in
+    record { form = has_form _ _ words inner.0; under = (bytes_eq-Decides _ _).0 inner.1; blocks = (bytes_eq-Decides _ _).0 outer.1 }
+
+abbrev IsBootWords : Bool → List (List ℕ) → Type 0
+IsBootWords ns words = words ≡ codes "boot" ∷ word 1 words ∷ codes "under" ∷ word 3 words ∷ codes "blocks" ∷ word 5 words ∷ ns_word ns
+
+plain_boot : (words : List (List ℕ)) → HasBootForm 6 words → IsBootWords false words
+plain_boot words boot = let shape = six words boot.form.count_is in cc (shape, boot.form.first_is, boot.under, boot.blocks)
+
+ns_boot : (words : List (List ℕ)) → HasBootForm 7 words → word 6 words ≡ codes "ns" → IsBootWords true words
+ns_boot words boot last = let shape = seven words boot.form.count_is in cc (shape, boot.form.first_is, boot.under, boot.blocks, last)
+
+boot_is : (words : List (List ℕ)) (command : Command) (ns : Bool) → IsBootWords ns words → boot_form ns words ≡ Some command → IsSpelled words command
+unfolding boot_form
+boot_is words command ns shape h =
+    let kind = made (kind_form (word 1 words)) _ command h in
+    let parent = made (number_in 0 most16 (word 3 words)) _ command kind.rest in
+    let blocks = made (number_in 1 4096 (word 5 words)) _ command parent.rest in
+    let s = kind_spells (word 1 words) kind.found kind.step in
+    let t = number_in-spells 0 most16 (word 3 words) parent.found (omega arith) parent.step in
+    let u = number_in-spells 1 4096 (word 5 words) blocks.found (omega arith) blocks.step in
+    let is : commands.Boot kind.found (record { 0 = parent.found }) blocks.found ns ≡ command = cc (blocks.rest) in
+    rw (← is) (record { is = cc (shape, s.is, t.is, u.is); ranges = (s.bootable, (t.least, t.most), (u.least, u.most)) })
+
+deliver_is : (words : List (List ℕ)) (command : Command) → HasForm (codes "deliver") 4 words → deliver_form words ≡ Some command → IsSpelled words command
+unfolding deliver_form
+deliver_is words command form h =
+    let x = made (number_in 0 most16 (word 1 words)) _ command h in
+    let y = made (number_in 0 most16 (word 2 words)) _ command x.rest in
+    let count = made (number_in 1 most32 (word 3 words)) _ command y.rest in
+    let s = number_in-spells 0 most16 (word 1 words) x.found (omega arith) x.step in
+    let t = number_in-spells 0 most16 (word 2 words) y.found (omega arith) y.step in
+    let u = number_in-spells 1 most32 (word 3 words) count.found (omega arith) count.step in
+    let is : commands.Deliver (record { 0 = x.found }) (record { 0 = y.found }) count.found ≡ command = cc (count.rest) in
+    let shape = four words form.count_is in
+    rw (← is) (record { is = cc (shape, form.first_is, s.is, t.is, u.is); ranges = ((s.least, s.most), (t.least, t.most), (u.least, u.most)) })
+
+show_link_is : (words : List (List ℕ)) (command : Command) → HasForm (codes "show") 4 words → word 1 words ≡ codes "link" → show_link_form words ≡ Some command → IsSpelled words command
+unfolding show_link_form
+show_link_is words command form keyword h =
+    let x = made (number_in 0 most16 (word 2 words)) _ command h in
+    let y = made (number_in 0 most16 (word 3 words)) _ command x.rest in
+    let s = number_in-spells 0 most16 (word 2 words) x.found (omega arith) x.step in
+    let t = number_in-spells 0 most16 (word 3 words) y.found (omega arith) y.step in
+    let is : commands.ShowLink (record { 0 = x.found }) (record { 0 = y.found }) ≡ command = cc (y.rest) in
+    let shape = four words form.count_is in
+    rw (← is) (record { is = cc (shape, form.first_is, keyword, s.is, t.is); ranges = ((s.least, s.most), (t.least, t.most)) })
+
 pub command_of-spells : (words : List (List ℕ)) (command : Command) → command_of words ≡ Some command → IsSpelled words command
 unfolding command_of
 command_of-spells words command h =
@@ -166,4 +258,8 @@ command_of-spells words command h =
     chosen G _ _ _ command h3 (λ test e. let parts = and_parts _ _ test in host_is words command true (ns_host words (has_form _ _ words parts.0) ((bytes_eq-Decides _ _).0 parts.1)) e) (λ h4.
     chosen G _ _ _ command h4 (λ test e. proc_is words command (has_form _ _ words test) e) (λ h5.
     chosen G _ _ _ command h5 (λ test e. alloc_is words command (has_form _ _ words test) e) (λ h6.
-    chosen G _ _ _ command h6 (λ test e. touch_is words command (has_form _ _ words test) e) (λ none. cc))))))
+    chosen G _ _ _ command h6 (λ test e. touch_is words command (has_form _ _ words test) e) (λ h7.
+    chosen G _ _ _ command h7 (λ test e. boot_is words command false (plain_boot words (has_boot_form _ words test)) e) (λ h8.
+    chosen G _ _ _ command h8 (λ test e. let parts = and_parts _ _ test in boot_is words command true (ns_boot words (has_boot_form _ words parts.0) ((bytes_eq-Decides _ _).0 parts.1)) e) (λ h9.
+    chosen G _ _ _ command h9 (λ test e. deliver_is words command (has_form _ _ words test) e) (λ h10.
+    chosen G _ _ _ command h10 (λ test e. let parts = and_parts _ _ test in show_link_is words command (has_form _ _ words parts.0) ((bytes_eq-Decides _ _).0 parts.1) e) (λ none. cc))))))))))

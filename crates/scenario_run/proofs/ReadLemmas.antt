@@ -10,7 +10,7 @@ use Rattle.std.specs.Result.{result_ok}
 use Rattle.std.specs.Str.Parse.{digits_value, ParsesUnsigned}
 use Rattle.std.specs.Str.{all_ascii_digits, IsUtf8}
 use Rattle.global_model.proofs.WordLemmas.{own}
-use Rattle.global_model.specs.Scenario.{command_of, is_form, is_comment, line_command}
+use Rattle.global_model.specs.Scenario.{command_of, is_form, is_boot, is_comment, line_command}
 use Rattle.global_model.specs.Words.{is_blank, words_of}
 use Rattle.global_model.specs.declared.command.Command.{Command}
 use Rattle.scenario_run.specs.Digits.{SpellsDigits}
@@ -51,10 +51,13 @@ blank_behind text n other some =
 count_is : (first : List ℕ) (count : ℕ) (words : List (List ℕ)) → (length words ≡ count → ⊥) → is_form first count words ≡ false
 count_is first count words ne = and_left _ _ (ne_eqb _ _ ne)
 
+boot_count_is : (count : ℕ) (words : List (List ℕ)) → (length words ≡ count → ⊥) → is_boot count words ≡ false
+boot_count_is count words ne = and_left _ _ (and_left _ _ (count_is (codes "boot") count words ne))
+
 long_is_none : (words : List (List ℕ)) → 8 ≤ length words → command_of words ≡ None
 unfolding command_of
 long_is_none words long =
-    rw (count_is (codes "pool") 2 words (λ e. omega arith), count_is (codes "host") 2 words (λ e. omega arith), count_is (codes "host") 3 words (λ e. omega arith), count_is (codes "proc") 4 words (λ e. omega arith), count_is (codes "alloc") 5 words (λ e. omega arith), count_is (codes "touch") 5 words (λ e. omega arith)) refl
+    rw (count_is (codes "pool") 2 words (λ e. omega arith), count_is (codes "host") 2 words (λ e. omega arith), count_is (codes "host") 3 words (λ e. omega arith), count_is (codes "proc") 4 words (λ e. omega arith), count_is (codes "alloc") 5 words (λ e. omega arith), count_is (codes "touch") 5 words (λ e. omega arith), boot_count_is 6 words (λ e. omega arith), boot_count_is 7 words (λ e. omega arith), count_is (codes "deliver") 4 words (λ e. omega arith), count_is (codes "show") 4 words (λ e. omega arith)) refl
 
 -- the first eight words tell which command a line spells
 command_of-take : (words : List (List ℕ)) → command_of (take 8 words) ≡ command_of words

@@ -3,7 +3,7 @@ ghost use Rattle.std.specs.Prelude.{◌≡◌, ◌≢◌, ◌<◌, ◌≤◌, �
 ghost use Rattle.std.specs.Str.Parse.{digits_value};
 ghost use Rattle.std.specs.Option.{SomeIff};
 ghost use Rattle.global_model.specs.Scenario as form;
-ghost use Rattle.global_model.specs.Scenario.{command_of, pool_form, host_form, proc_form, alloc_form, touch_form, want_form, line_command};
+ghost use Rattle.global_model.specs.Scenario.{command_of, pool_form, host_form, proc_form, alloc_form, touch_form, want_form, kind_form, boot_form, deliver_form, show_link_form, line_command};
 ghost use Rattle.global_model.specs.Words as spec;
 ghost use Rattle.global_model.specs.Words.{lines_of, words_of, number_in};
 ghost use Rattle.scenario_run.specs.Digits.{SpellsDigits};
@@ -11,7 +11,7 @@ ghost use Rattle.scenario_run.specs.Reading.{reading_of};
 
 use arrayvec::ArrayVec;
 use global_model::Command;
-use xm_num::{Enclave, Pid, Vpn, Want};
+use xm_num::{Enclave, Kind, Pid, Vpn, Want};
 
 /// What a line of a scenario says.
 #[derive(Clone, Copy, Debug, PartialEq, Eq)]
@@ -27,7 +27,7 @@ pub enum Reading {
 // The highest number of an enclave.
 const MOST_16: u64 = 65_534;
 
-// The highest number of a process, a user or a group.
+// The highest number of a process, a user, a group, or of bytes to be taken.
 const MOST_32: u64 = 4_294_967_295;
 
 // How many bytes stand before the first line feed, or all of them.
@@ -222,12 +222,72 @@ fn touch(words: &[&[u8]]) -> Option<Command>
     })
 }
 
+#[tactic(auto, unfolding(global_model::specs::Scenario::kind_form))]
+fn kind(word: &[u8]) -> Option<Kind>
+    ensures { result ≡ kind_form word.now }
+{
+    if word == b"cokernel".as_slice() {
+        Some(Kind::Cokernel)
+    } else if word == b"vm".as_slice() {
+        Some(Kind::Vm)
+    } else {
+        None
+    }
+}
+
+#[tactic(auto, unfolding(global_model::specs::Scenario::boot_form))]
+fn boot(words: &[&[u8]], ns: bool) -> Option<Command>
+    requires { 6 ≤ length words.now }
+    ensures { result ≡ boot_form ns (map (λ word. word.now) words.now) }
+{
+    let kind = kind(words[1])?;
+    let parent = Enclave(number(words[3], 0, MOST_16)? as u16);
+    let blocks = number(words[5], 1, 4096)? as u16;
+    Some(Command::Boot {
+        kind,
+        parent,
+        blocks,
+        ns,
+    })
+}
+
+#[tactic(auto, unfolding(global_model::specs::Scenario::deliver_form))]
+fn deliver(words: &[&[u8]]) -> Option<Command>
+    requires { length words.now ≡ 4 }
+    ensures { result ≡ deliver_form (map (λ word. word.now) words.now) }
+{
+    let from = Enclave(number(words[1], 0, MOST_16)? as u16);
+    let to = Enclave(number(words[2], 0, MOST_16)? as u16);
+    let count = number(words[3], 1, MOST_32)? as u32;
+    Some(Command::Deliver { from, to, count })
+}
+
+#[tactic(auto, unfolding(global_model::specs::Scenario::show_link_form))]
+fn show_link(words: &[&[u8]]) -> Option<Command>
+    requires { length words.now ≡ 4 }
+    ensures { result ≡ show_link_form (map (λ word. word.now) words.now) }
+{
+    let from = Enclave(number(words[2], 0, MOST_16)? as u16);
+    let to = Enclave(number(words[3], 0, MOST_16)? as u16);
+    Some(Command::ShowLink { from, to })
+}
+
 // Whether the words are a form's: this first word, and so many of them.
 fn is_form(words: &[&[u8]], first: &[u8], count: usize) -> bool
     requires { 0 < count }
     ensures { result ≡ form.is_form first.now count (map (λ word. word.now) words.now) }
 {
     words.len() == count && words[0] == first
+}
+
+// Whether the words are a boot's: so many of them, and the keywords between its numbers.
+fn is_boot(words: &[&[u8]], count: usize) -> bool
+    requires { 6 ≤ count }
+    ensures { result ≡ form.is_boot count (map (λ word. word.now) words.now) }
+{
+    is_form(words, b"boot", count)
+        && words[2] == b"under".as_slice()
+        && words[4] == b"blocks".as_slice()
 }
 
 #[tactic(auto, unfolding(global_model::specs::Scenario::command_of))]
@@ -246,6 +306,14 @@ fn command(words: &[&[u8]]) -> Option<Command>
         alloc(words)
     } else if is_form(words, b"touch", 5) {
         touch(words)
+    } else if is_boot(words, 6) {
+        boot(words, false)
+    } else if is_boot(words, 7) && words[6] == b"ns".as_slice() {
+        boot(words, true)
+    } else if is_form(words, b"deliver", 4) {
+        deliver(words)
+    } else if is_form(words, b"show", 4) && words[1] == b"link".as_slice() {
+        show_link(words)
     } else {
         None
     }

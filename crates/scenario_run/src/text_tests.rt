@@ -2,8 +2,9 @@
 use crate::print::print_lines;
 use crate::read::{Reading, first_line, read_line};
 use crate::{Status, Which, exit_number, status_text};
-use global_model::{Command, Line};
+use global_model::{ByteList, Command, Line};
 use std::alloc::{AllocError, Global};
+use xemem_wire::{Body, Record};
 use xm_num::{Block, BlockList, Cause, Enclave, Frame, FrameList, Kind, Pid, Vpn, Want};
 
 fn pool(blocks: u16) -> Reading {
@@ -37,6 +38,26 @@ fn touch(enclave: u16, pid: u32, addr: u64, want: Want) -> Reading {
     })
 }
 
+fn boot(kind: Kind, parent: u16, blocks: u16, ns: bool) -> Reading {
+    let parent = Enclave(parent);
+    Reading::Command(Command::Boot {
+        kind,
+        parent,
+        blocks,
+        ns,
+    })
+}
+
+fn deliver(from: u16, to: u16, count: u32) -> Reading {
+    let (from, to) = (Enclave(from), Enclave(to));
+    Reading::Command(Command::Deliver { from, to, count })
+}
+
+fn show_link(from: u16, to: u16) -> Reading {
+    let (from, to) = (Enclave(from), Enclave(to));
+    Reading::Command(Command::ShowLink { from, to })
+}
+
 #[test]
 fn reads_each_form_within_its_ranges(rt: HostRuntime) {
     for (line, reading) in [
@@ -59,6 +80,28 @@ fn reads_each_form_within_its_ranges(rt: HostRuntime) {
             "touch 65534 4294967295 18446744073709551615 w",
             touch(65_534, 4_294_967_295, u64::MAX, Want::Write),
         ),
+        (
+            "boot cokernel under 0 blocks 1",
+            boot(Kind::Cokernel, 0, 1, false),
+        ),
+        (
+            "boot vm under 65534 blocks 4096",
+            boot(Kind::Vm, 65_534, 4096, false),
+        ),
+        (
+            "boot cokernel under 65534 blocks 4096 ns",
+            boot(Kind::Cokernel, 65_534, 4096, true),
+        ),
+        ("boot vm under 0 blocks 1 ns", boot(Kind::Vm, 0, 1, true)),
+        ("deliver 0 0 1", deliver(0, 0, 1)),
+        (
+            "deliver 65534 65534 4294967295",
+            deliver(65_534, 65_534, 4_294_967_295),
+        ),
+        ("deliver 1 2 3", deliver(1, 2, 3)),
+        ("show link 0 0", show_link(0, 0)),
+        ("show link 65534 65534", show_link(65_534, 65_534)),
+        ("show link 1 2", show_link(1, 2)),
         (" \t pool\t\t 7 \t", pool(7)),
     ] {
         assert_eq!(rt; read_line(line.as_bytes()), reading, "of {line}");
@@ -88,6 +131,40 @@ fn takes_nothing_else_for_a_command(rt: HostRuntime) {
         "touch 0 1 18446744073709551616 r",
         "touch 0 1 0 x",
         "touch 0 1 0 rw",
+        "boot host under 0 blocks 1",
+        "boot VM under 0 blocks 1",
+        "boot vm under 65535 blocks 1",
+        "boot vm under -1 blocks 1",
+        "boot vm under 0 blocks 0",
+        "boot vm under 0 blocks 4097",
+        "boot vm under 65535 blocks 1 ns",
+        "boot vm under 0 blocks 0 ns",
+        "boot vm under 0 blocks 4097 ns",
+        "boot vm unde 0 blocks 1",
+        "boot vm under 0 block 1",
+        "boot vm blocks 0 under 1",
+        "boot vm unde 0 blocks 1 ns",
+        "boot vm under 0 block 1 ns",
+        "boot vm under 0 blocks 1 NS",
+        "boot vm under 0 blocks 1 -",
+        "boot vm under 0 blocks 1 ns ns",
+        "boot vm under 0 blocks",
+        "boot vm under 0",
+        "deliver 65535 0 1",
+        "deliver -1 0 1",
+        "deliver 0 65535 1",
+        "deliver 0 -1 1",
+        "deliver 0 0 0",
+        "deliver 0 0 4294967296",
+        "deliver 0 0",
+        "deliver 0 0 1 1",
+        "show link 65535 0",
+        "show link -1 0",
+        "show link 0 65535",
+        "show link 0 -1",
+        "show links 0 0",
+        "show link 0",
+        "show link 0 0 0",
         "pool 01",
         "pool 00",
         "proc 00 0 0",
@@ -250,6 +327,136 @@ fn spells_each_line(rt: HostRuntime) -> Result<(), AllocError> {
     ];
     let want =
         ">do pool 4096\ndo host 1\ndo host 1 ns\ndo proc 65534 0 4294967295\ndo alloc 65534 7 16 2\ndo touch 65534 7 18446744073709551615 r\ndo touch 65534 7 10 w\nborn 65534 cokernel 0 - 0 4095\nborn 65534 vm 3 ns\nborn 0 host 0 ns\nadmitted 65534\nproc 65534 7 1 2\nalloc 65534 7 16 262143 5\ntouched 65534 7 16 262143\n";
+    assert_eq!(rt; printed(rt.alloc(), &lines)?.as_slice(), want.as_bytes());
+    Ok(())
+}
+
+// A list of bytes.
+fn byte_list(alloc: Global, bytes: &[u8]) -> Result<ByteList, AllocError> {
+    let mut list = ByteList::new(alloc);
+    for byte in bytes {
+        list.push(*byte)?;
+    }
+    Ok(list)
+}
+
+// A record from an enclave.
+fn sent(origin: u16, dest: Option<Enclave>, call: u32, body: Body) -> Line {
+    Line::Sent {
+        from: Enclave(1),
+        to: Enclave(65_534),
+        rec: Record {
+            origin: Enclave(origin),
+            dest,
+            call,
+            body,
+        },
+    }
+}
+
+#[test]
+fn spells_each_command_of_channels(rt: HostRuntime) -> Result<(), AllocError> {
+    let (from, to) = (Enclave(65_534), Enclave(3));
+    let commands = [
+        Command::Boot {
+            kind: Kind::Cokernel,
+            parent: Enclave(0),
+            blocks: 1,
+            ns: false,
+        },
+        Command::Boot {
+            kind: Kind::Vm,
+            parent: Enclave(65_534),
+            blocks: 4096,
+            ns: true,
+        },
+        Command::Deliver {
+            from,
+            to,
+            count: 4_294_967_295,
+        },
+        Command::ShowLink { from, to },
+    ];
+    let want = [
+        ">do boot cokernel under 0 blocks 1\n",
+        ">do boot vm under 65534 blocks 4096 ns\n",
+        ">do deliver 65534 3 4294967295\n",
+        ">do show link 65534 3\n",
+    ];
+    for (command, want) in commands.iter().zip(want.iter()) {
+        let line = Line::Do { command: *command };
+        assert_eq!(rt; printed(rt.alloc(), &[line])?.as_slice(), want.as_bytes());
+    }
+    Ok(())
+}
+
+#[test]
+fn spells_each_line_of_channels(rt: HostRuntime) -> Result<(), AllocError> {
+    let (from, to) = (Enclave(1), Enclave(65_534));
+    let (enclave, of, over) = (Enclave(2), Enclave(255), Enclave(0));
+    let lines = [
+        sent(1, None, 0, Body::Query),
+        sent(65_535, None, 0, Body::Here),
+        sent(2, None, 0, Body::Register),
+        sent(0, Some(Enclave(2)), 4_294_967_295, Body::Admit),
+        Line::Took {
+            from,
+            to,
+            count: 4_294_967_295,
+        },
+        Line::Idle { from, to },
+        Line::Got { from, to },
+        Line::Dropped { enclave },
+        Line::Way { enclave, over },
+        Line::Back { enclave, of, over },
+        Line::Route { enclave, of, over },
+    ];
+    let want =
+        ">sent 1 65534 query 1 65535 0\nsent 1 65534 here 65535 65535 0\nsent 1 65534 register 2 65535 0\nsent 1 65534 admit 0 2 4294967295\ntook 1 65534 4294967295\nidle 1 65534\ngot 1 65534\ndrop 2\nway 2 0\nback 2 255 0\nroute 2 255 0\n";
+    assert_eq!(rt; printed(rt.alloc(), &lines)?.as_slice(), want.as_bytes());
+    Ok(())
+}
+
+#[test]
+fn spells_bytes_by_two_digits_each(rt: HostRuntime) -> Result<(), AllocError> {
+    let (from, to) = (Enclave(1), Enclave(0));
+    let query = b"\x10\0\0\0\x01\x01\x01\0\xff\xff\0\0\0\0\0\0";
+    let most = [0xab; 32];
+    let more = [0x09; 65];
+    let lines = [
+        Line::Bytes {
+            from,
+            to,
+            at: 0,
+            bytes: byte_list(rt.alloc(), query)?,
+        },
+        Line::Bytes {
+            from,
+            to,
+            at: 4_294_967_295,
+            bytes: byte_list(rt.alloc(), b"\x0f")?,
+        },
+        Line::Bytes {
+            from,
+            to,
+            at: 32,
+            bytes: byte_list(rt.alloc(), &most)?,
+        },
+        Line::Bytes {
+            from,
+            to,
+            at: 64,
+            bytes: byte_list(rt.alloc(), &more)?,
+        },
+        Line::Bytes {
+            from,
+            to,
+            at: 7,
+            bytes: ByteList::new(rt.alloc()),
+        },
+    ];
+    let want =
+        ">bytes 1 0 0 1000000001010100ffff000000000000\nbytes 1 0 4294967295 0f\nbytes 1 0 32 abababababababababababababababababababababababababababababababab\nbytes 1 0 64 0909090909090909090909090909090909090909090909090909090909090909090909090909090909090909090909090909090909090909090909090909090909\nbytes 1 0 7\n";
     assert_eq!(rt; printed(rt.alloc(), &lines)?.as_slice(), want.as_bytes());
     Ok(())
 }
