@@ -62,13 +62,24 @@ pub enum Line {
         count: u32,
     },
     /// Nothing waits in the channel.
-    Idle { from: Enclave, to: Enclave },
+    Idle {
+        from: Enclave,
+        to: Enclave,
+    },
     /// The next record of the channel is whole at its end.
-    Got { from: Enclave, to: Enclave },
+    Got {
+        from: Enclave,
+        to: Enclave,
+    },
     /// The enclave drops the record at hand.
-    Dropped { enclave: Enclave },
+    Dropped {
+        enclave: Enclave,
+    },
     /// The enclave's way to the name server is over that neighbour.
-    Way { enclave: Enclave, over: Enclave },
+    Way {
+        enclave: Enclave,
+        over: Enclave,
+    },
     /// The enclave remembers the neighbour as the way back to another enclave.
     Back {
         enclave: Enclave,
