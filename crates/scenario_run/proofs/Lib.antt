@@ -3,7 +3,16 @@ pub mod Runs
 pub mod Tables
 pub mod PrintLemmas
 pub mod ReadLemmas
+pub mod ByteLemmas
+pub mod ChannelLemmas
+pub mod ReceiveLemmas
+pub mod Links
+pub mod Arrivals
+pub mod Deliveries
 pub mod Shown
+pub mod Worlds
+pub mod Births
+pub mod Hops
 pub mod Steps
 pub mod WriteLemmas
 pub mod RunLemmas

@@ -1,4 +1,4 @@
--- The host's machine shows the facts of the journal so far.
+-- The host's memory shows the facts.
 use Rattle.std.proofs.Common.{◌≡◌, ◌+◌, ◌-◌, ◌*◌, ◌/◌, ◌^◌, ◌<◌, ◌≤◌, ℕ, zero, suc, List, [], ◌∷◌, ◌++◌, length, take, map, filter, find, Bool, true, false, cond, eqb, ltb, leb, not, ◌&&◌, ◌||◌, Option, None, Some, is_some, is_none, refl, sym, ap, ◌∙◌, subst, inl, inr, arith, append-nil, append_assoc}
 use Rattle.std.specs.List.{range_with_len, list_any, AllByRecursion}
 use Rattle.std.specs.Option.{option_map, option_map_or, option_or}
@@ -28,11 +28,9 @@ use Rattle.global_model.specs.Space.{Mapping, is_page_of, own_mapping, space_of,
 use Rattle.global_model.specs.Refusals.{is_taken, refusal_of}
 use Rattle.global_model.specs.Scenario.{is_pool_for, is_proc, may_stand}
 use Rattle.global_model.specs.Due.{host, acts_of, command_lines, step_lines, touched_lines}
-use Rattle.scenario_run.specs.declared.stage.Stage.{Stage}
-use Rattle.scenario_run.specs.declared.stage.Stage.TheVariants as stages
-use Rattle.scenario_run.specs.Stage.{next_stage}
 use Rattle.scenario_run.specs.Rows.{at, put, put_run, any_between}
-use Rattle.scenario_run.specs.Machine.{MachineView, unborn, CanStep, first_blocks, frames_from, left_of, born_lines, alloc_lines, after_alloc, page_of, found_lines, touch_lines, lines_by, after_step}
+use Rattle.scenario_run.specs.Memory.{MemoryView, frames_from, left_of}
+use Rattle.scenario_run.specs.World.{blocks_from}
 use Rattle.scenario_run.proofs.Runs.{first_any, range_any, take-range, within, window_of_run, below_run, block_below, range-append}
 use Rattle.scenario_run.proofs.Tables.{at_put}
 
@@ -42,8 +40,8 @@ process = 1
 abbrev pub frame_mapping : Frame → Mapping
 frame_mapping frame = record { frame = frame; access = accesses.ReadWrite }
 
--- the host is born, and the machine shows its facts
-pub record IsHosted (G : Facts) (v : MachineView) : Type 0 where
+-- the host is born, and its memory shows the facts
+pub record IsHosted (G : Facts) (v : MemoryView) : Type 0 where
   pub living : is_living_enclave (G.enclave 0) ≡ true
   pub lent : (b : ℕ) → is_lent_to 0 (G.block b) ≡ ltb b v.blocks
   pub fits : v.blocks ≤ G.pool
@@ -54,32 +52,11 @@ pub record IsHosted (G : Facts) (v : MachineView) : Type 0 where
   pub beyond : (page : ℕ) → 16777215 < page → at v.pages page ≡ None
   pub started : G.started 0 ≡ v.started
 
--- the machine shows the facts after these commands, the newest first, at a stage
-abbrev pub IsAt : Stage → List Command → Facts → MachineView → Type 0
-IsAt stages.Pool before G v = (before ≡ []) × (G ≡ no_facts) × (v ≡ unborn)
-IsAt (stages.Host pool) before G v = (before ≡ commands.Pool pool ∷ []) × (G ≡ after_line no_facts (lines.Do (commands.Pool pool))) × (v ≡ unborn)
-IsAt stages.Proc before G v = (length before ≡ 2) × (list_any is_proc before ≡ false) × (v.started ≡ 0) × IsHosted G v
-IsAt stages.Calls before G v = (3 ≤ length before) × (list_any is_proc before ≡ true) × IsHosted G v
-
--- ---- which commands may come
-
-cond_some : {X : Type 0} (b : Bool) (x y : X) → cond b (Some x) None ≡ Some y → (b ≡ true) × (x ≡ y)
-cond_some true x y e = let same : x ≡ y = cc in (refl, same)
-cond_some false x y e = cc
-
-cond_none : {X : Type 0} (b : Bool) (x : X) → cond b (Some x) None ≡ None → b ≡ false
-cond_none true x e = cc
-cond_none false x e = refl
-
 pub the_host : (e : Enclave) → eqb e.0 0 ≡ true → e ≡ host
 the_host e h = ap (λ (n : ℕ). record { 0 = n }) (eqb-true e.0 0 h)
 
 pub the_process : (p : Pid) → eqb p.0 1 ≡ true → p ≡ record { 0 = 1 }
 the_process p h = ap (λ (n : ℕ). record { 0 = n }) (eqb-true p.0 1 h)
-
--- the stage and the definition let the same commands come
-pub record Agrees (o : Option Stage) (b : Bool) : Type 0 where
-  pub tells : is_some o ≡ b
 
 -- ---- lists of own pages
 
@@ -101,7 +78,7 @@ All-append P (x ∷ xs) ys a b = (a.0, All-append P xs ys a.1 b)
 
 -- ---- the host is born
 
-free_of_pool : (pool : ℕ) → free_blocks (after_line no_facts (lines.Do (commands.Pool pool))) ≡ first_blocks pool
+free_of_pool : (pool : ℕ) → free_blocks (after_line no_facts (lines.Do (commands.Pool pool))) ≡ blocks_from 0 pool
 free_of_pool pool = ap (map (λ b. record { 0 = b })) (filter_agree _ (λ b. ltb b pool) by (range_with_len 0 pool) ∙ below_run pool)
   where
     state : (t : Bool) → is_free (cond t Free Absent) ≡ t
@@ -111,55 +88,31 @@ free_of_pool pool = ap (map (λ b. record { 0 = b })) (filter_agree _ (λ b. ltb
     by : (b : ℕ) → is_free (cond (ltb b pool) Free Absent) ≡ ltb b pool
     by b = state (ltb b pool)
 
-take-map : {X Y : Type 0} (f : X → Y) (n : ℕ) (xs : List X) → take n (map f xs) ≡ map f (take n xs)
+pub take-map : {X Y : Type 0} (f : X → Y) (n : ℕ) (xs : List X) → take n (map f xs) ≡ map f (take n xs)
 take-map f zero xs = refl
 take-map f (suc n) [] = refl
 take-map f (suc n) (x ∷ xs) = ap (λ ys. f x ∷ ys) (take-map f n xs)
 
-pub born_blocks : (pool blocks : ℕ) → blocks ≤ pool → take blocks (free_blocks (after_line no_facts (lines.Do (commands.Pool pool)))) ≡ first_blocks blocks
+pub born_blocks : (pool blocks : ℕ) → blocks ≤ pool → take blocks (free_blocks (after_line no_facts (lines.Do (commands.Pool pool)))) ≡ blocks_from 0 blocks
 born_blocks pool blocks h = ap (take blocks) (free_of_pool pool) ∙ take-map (λ b. record { 0 = b }) blocks (range_with_len 0 pool) ∙ ap (map (λ b. record { 0 = b })) (take-range 0 blocks pool h)
 
-listed_first : (blocks b : ℕ) → is_listed (first_blocks blocks) b ≡ ltb b blocks
-listed_first blocks b = any-map (range_with_len 0 blocks) ∙ first_any blocks b
+-- which blocks are listed
+pub listed_run : (first count b : ℕ) → is_listed (blocks_from first count) b ≡ (leb first b && ltb b (first + count))
+listed_run first count b = any-map (range_with_len first count) ∙ range_any first count b
   where
     any-map : (xs : List ℕ) → list_any (λ (block : Block). eqb block.0 b) (map (λ n. record { 0 = n }) xs) ≡ list_any (λ x. eqb x b) xs
     any-map [] = refl
     any-map (x ∷ xs) = ap (λ t. eqb x b || t) (any-map xs)
 
-lent_first : (pool blocks b : ℕ) → is_lent_to 0 (with_lent (first_blocks blocks) host (after_line no_facts (lines.Do (commands.Pool pool))).block b) ≡ ltb b blocks
-lent_first pool blocks b = ap (λ t. is_lent_to 0 (cond t (Lent 0) (cond (ltb b pool) Free Absent))) (listed_first blocks b) ∙ state (ltb b blocks) (ltb b pool)
-  where
-    state : (t u : Bool) → is_lent_to 0 (cond t (Lent 0) (cond u Free Absent)) ≡ t
-    state true u = refl
-    state false true = refl
-    state false false = refl
-
-pub lines_host : (pool blocks : ℕ) → blocks ≤ pool → command_lines (after_line no_facts (lines.Do (commands.Pool pool))) (commands.Host blocks true) ≡ born_lines blocks true
-lines_host pool blocks h = rw (born_blocks pool blocks h) refl
-
-pub hosted_host : (pool blocks : ℕ) → blocks ≤ pool → IsHosted (after_lines (after_line no_facts (lines.Do (commands.Pool pool))) (lines.Do (commands.Host blocks true) ∷ born_lines blocks true)) (record { blocks = blocks; started = 0; next = 0; pages = [] })
-unfolding at
-hosted_host pool blocks h = record {
-  living = refl;
-  lent = lent_first pool blocks;
-  fits = h;
-  frames = refl;
-  owners = tt;
-  room = omega arith;
-  pages = λ page. refl;
-  beyond = λ page far. refl;
-  started = refl;
-}
-
 -- ---- unused frames
 
-own_frame_is : (G : Facts) (v : MachineView) → IsHosted G v → (f : ℕ) → is_own_frame G 0 f ≡ ltb f v.next
+own_frame_is : (G : Facts) (v : MemoryView) → IsHosted G v → (f : ℕ) → is_own_frame G 0 f ≡ ltb f v.next
 own_frame_is G v h f = taken_any G.own f h.owners ∙ ap (list_any (λ x. eqb x f)) h.frames ∙ first_any v.next f
 
-unused_is : (G : Facts) (v : MachineView) → IsHosted G v → (f : ℕ) → is_unused G 0 f ≡ within v.next (64 * v.blocks) f
+unused_is : (G : Facts) (v : MemoryView) → IsHosted G v → (f : ℕ) → is_unused G 0 f ≡ within v.next (64 * v.blocks) f
 unused_is G v h f = rw (h.living, h.lent (f / 64), own_frame_is G v h f, block_below f v.blocks) refl
 
-pub unused_frames_are : (G : Facts) (v : MachineView) → IsHosted G v → unused_frames G 0 ≡ frames_from v.next (left_of v)
+pub unused_frames_are : (G : Facts) (v : MemoryView) → IsHosted G v → unused_frames G 0 ≡ frames_from v.next (left_of v)
 unused_frames_are G v h =
     let all : 64 * v.blocks ≤ 64 * G.pool = omega (arith, h.fits) in
     ap frame_list (filter_agree (is_unused G 0) (within v.next (64 * v.blocks)) (unused_is G v h) (range_with_len 0 (64 * G.pool)) ∙ window_of_run v.next (64 * v.blocks) (64 * G.pool) h.room all)
@@ -240,7 +193,7 @@ some_mapped : (o : Option Frame) → is_some (option_map frame_mapping o) ≡ is
 some_mapped None = refl
 some_mapped (Some f) = refl
 
-pub taken_is : (G : Facts) (v : MachineView) → IsHosted G v → (a n : ℕ) → is_taken G 0 1 a n ≡ any_between v.pages a (a + n)
+pub taken_is : (G : Facts) (v : MemoryView) → IsHosted G v → (a n : ℕ) → is_taken G 0 1 a n ≡ any_between v.pages a (a + n)
 taken_is G v h a n = any_alike (λ q. is_some (space_of G 0 1 q)) (λ q. is_some (at v.pages q)) (λ q. ap is_some (h.pages q) ∙ some_mapped (at v.pages q)) (range_with_len a n) ∙ any_of_rows v.pages a n
 
 -- no row between two numbers, so none at one of them

@@ -1,5 +1,7 @@
 pub mod Rows
-pub mod Machine
+pub mod Channels
+pub mod Memory
+pub mod World
 pub mod Stage
 pub mod Run
 pub mod Digits
@@ -7,4 +9,3 @@ pub mod Reading
 pub mod Text
 pub mod Status
 pub mod Main
-pub mod Channels

@@ -1,6 +1,6 @@
 // The channel from an enclave to its neighbour, with the decoder at its end.
-ghost use Rattle.std.specs.Prelude.{◌≡◌, ◌+◌, ◌≤◌, false, true, length, min, slice_get, drop, IfOk, OnOk, IsTrue};
-ghost use Rattle.byte_link.specs.Channel.{waiting_bytes};
+ghost use Rattle.std.specs.Prelude.{◌≡◌, ◌+◌, ◌≤◌, [], false, true, length, min, slice_get, take, drop, IfOk, OnOk, IsTrue};
+ghost use Rattle.byte_link.specs.Channel.{waiting_bytes, taken};
 ghost use Rattle.xemem_wire.specs.Spelling.{is_valid, AreValid};
 ghost use Rattle.scenario_run.specs.Channels as spec;
 ghost use Rattle.scenario_run.specs.Channels.{Flows};
@@ -9,7 +9,8 @@ use byte_link::Link;
 use global_model::Line;
 use std::alloc::{AllocError, Global};
 use std::marker::Model;
-use xemem_wire::{Decoder, FeedFault, Record, cut_spelling, encode, spellings_are_read};
+use xemem_wire::laws::{cut_spelling, spellings_are_read};
+use xemem_wire::{Decoder, FeedFault, Record, encode};
 
 // The most bytes that a channel takes in all, so that a place in its stream has a number.
 const MOST_TAKEN: u64 = 1 << 62;
@@ -32,6 +33,17 @@ impl Model for Channel {
     ghost view = { λ c. record { link = c.link; decoding = c.decoder } };
 
     ghost invariant = { λ c. c.decoder.before + length c.decoder.rest ≤ c.fed };
+}
+
+// Takes the first `count` bytes out of a link, in which they wait.
+fn take_bytes(alloc: Global, link: &mut Link, count: u32) -> Result<Vec<u8>, AllocError>
+    requires { count ≤ length (waiting_bytes link.old) }
+    ensures bytes { IfOk result (λ bytes. bytes.items ≡ take count (waiting_bytes link.old)) }
+    ensures rest { OnOk result (link.new ≡ taken link.old count) }
+{
+    let mut bytes = vec![in alloc; 0; count as usize]?;
+    link.take(&mut bytes);
+    Ok(bytes)
 }
 
 impl Channel {
@@ -78,15 +90,15 @@ impl Channel {
     pub fn take(&mut self, alloc: Global, count: u32) -> Result<(), AllocError>
         requires waits { count ≤ length (waiting_bytes self.old.link) }
         requires flows { Flows self.old }
-        ensures { OnOk result (self.new ≡ spec.with_fed self.old count) }
+        ensures fed { OnOk result (self.new ≡ spec.with_fed self.old count) }
+        ensures valid { self.old.decoding.records ≡ [] → OnOk result (AreValid self.new.decoding.records) }
     {
         cut_spelling();
         spellings_are_read();
         if self.fed > MOST_TAKEN {
             return Err(AllocError);
         }
-        let mut piece = zeros(alloc, count)?;
-        self.link.take(&mut piece);
+        let piece = take_bytes(alloc, &mut self.link, count)?;
         self.fed += u64::from(count);
         match self.decoder.feed(&piece) {
             Ok(()) => Ok(()),
@@ -116,15 +128,4 @@ impl Channel {
         }
         Ok(())
     }
-}
-
-// So many zero bytes.
-fn zeros(alloc: Global, count: u32) -> Result<Vec<u8>, AllocError>
-    ensures { IfOk result (λ bytes. length bytes.items ≡ count) }
-{
-    let mut bytes = Vec::with_capacity(alloc, count as usize)?;
-    for _ in 0..count {
-        bytes.push(0)?;
-    }
-    Ok(bytes)
 }

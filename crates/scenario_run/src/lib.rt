@@ -2,9 +2,10 @@
 #![tactic(auto)]
 
 mod channel;
+mod child;
 mod execute;
-mod machine;
 mod main_call;
+mod memory;
 mod node;
 mod pages;
 mod print;
@@ -16,6 +17,7 @@ mod status;
 mod tests;
 #[cfg(test)]
 mod text_tests;
+mod world;
 
 pub use main_call::xemem_main;
 pub use status::{Status, Which, exit_number, status_text};

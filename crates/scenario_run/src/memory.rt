@@ -1,14 +1,14 @@
-// The host, its process and its frames. It decides from its own state and the command alone.
+// The host's memory: its process, its frames and its pages.
 ghost use Rattle.std.specs.Prelude.{◌≡◌, ◌+◌, ◌/◌, ◌<◌, ◌≤◌, ◌^◌, ◌∷◌, ◌++◌, [], OnOk, IfOk};
 ghost use Rattle.global_model.specs.declared.line.Line.TheVariants as lines;
 ghost use Rattle.scenario_run.specs.Rows.{put_run};
-ghost use Rattle.scenario_run.specs.Machine as spec;
+ghost use Rattle.scenario_run.specs.Memory as spec;
 
 use crate::pages::Pages;
-use global_model::{Command, Line, Lines};
+use global_model::{Line, Lines};
 use std::alloc::{AllocError, Global};
 use std::marker::Model;
-use xm_num::{Block, BlockList, Cause, Enclave, Frame, FrameList, Kind, Pid, Vpn};
+use xm_num::{Cause, Enclave, Frame, FrameList, Pid, Vpn};
 
 const FRAMES_PER_BLOCK: u32 = 64;
 
@@ -26,17 +26,6 @@ fn page_of(addr: u64) -> Option<Vpn>
     } else {
         None
     }
-}
-
-// The first blocks of the pool.
-fn first_blocks(alloc: Global, count: u16) -> Result<BlockList, AllocError>
-    ensures { IfOk result (λ blocks. blocks ≡ spec.first_blocks count) }
-{
-    let mut blocks = BlockList::new(alloc);
-    for block in 0..count {
-        blocks.push(Block(block))?;
-    }
-    Ok(blocks)
 }
 
 // So many frames from that one on.
@@ -63,32 +52,32 @@ fn map_run(pages: &mut Pages, page: u32, first: u32, count: u32) -> Result<(), A
     Ok(())
 }
 
-/// The host and its process. Its blocks are the first of the pool, and its frames are handed out in order.
+/// The memory of the host and its process. Its blocks are the first of the pool, and its frames are handed out in order.
 #[derive(Drop)]
-pub struct Machine {
+pub struct Memory {
     blocks: u16,
     started: u32,
     next: u32,
     pages: Pages,
 }
 
-impl Model for Machine {
+impl Model for Memory {
     ghost use Rattle.std.specs.Prelude.{◌*◌, ◌≤◌};
-    ghost use Rattle.scenario_run.specs.Machine.{MachineView};
+    ghost use Rattle.scenario_run.specs.Memory.{MemoryView};
 
-    ghost Value = { MachineView };
+    ghost Value = { MemoryView };
 
     ghost view = { λ m. record { blocks = m.blocks; started = m.started; next = m.next; pages = m.pages } };
 
     ghost invariant = { λ m. m.next ≤ 64 * m.blocks };
 }
 
-impl Machine {
+impl Memory {
     /// No host is born.
-    pub fn new(alloc: Global) -> Machine
-        ensures { result ≡ spec.unborn }
+    pub fn new(alloc: Global) -> Memory
+        ensures { result ≡ spec.no_memory }
     {
-        Machine {
+        Memory {
             blocks: 0,
             started: 0,
             next: 0,
@@ -96,65 +85,16 @@ impl Machine {
         }
     }
 
-    /// Executes one command, and appends its lines.
-    pub fn step(
-        &mut self,
-        alloc: Global,
-        command: &Command,
-        out: &mut Lines,
-    ) -> Result<(), AllocError>
-        requires { spec.CanStep self.old command.now }
-        ensures lines { OnOk result (out.new ≡ out.old ++ lines.Do command.now ∷ spec.lines_by self.old command.now) }
-        ensures after { OnOk result (self.new ≡ spec.after_step self.old command.now) }
-    {
-        out.push(Line::Do { command: *command })?;
-        match *command {
-            Command::Pool { .. } => Ok(()),
-            Command::Host { blocks, ns } => self.born(alloc, blocks, ns, out),
-            Command::Proc { enclave, uid, gid } => self.start(enclave, uid, gid, out),
-            Command::Alloc {
-                enclave,
-                pid,
-                at,
-                pages,
-            } => self.allocate(alloc, enclave, pid, at, pages, out),
-            Command::Touch {
-                enclave,
-                pid,
-                addr,
-                ..
-            } => self.touch(enclave, pid, addr, out),
-        }
-    }
-
-    fn born(
-        &mut self,
-        alloc: Global,
-        blocks: u16,
-        ns: bool,
-        out: &mut Lines,
-    ) -> Result<(), AllocError>
+    /// The host is born with the first blocks of the pool.
+    pub fn born(&mut self, blocks: u16)
         requires { self.old.next ≡ 0 }
-        ensures lines { OnOk result (out.new ≡ out.old ++ spec.born_lines blocks ns) }
-        ensures after { OnOk result (self.new ≡ record self.old { blocks = blocks }) }
+        ensures { self.new ≡ record self.old { blocks = blocks } }
     {
-        out.push(Line::Born {
-            enclave: Enclave(0),
-            kind: Kind::Host,
-            parent: Enclave(0),
-            ns,
-            blocks: first_blocks(alloc, blocks)?,
-        })?;
-        if ns {
-            out.push(Line::Admitted {
-                enclave: Enclave(0),
-            })?;
-        }
         self.blocks = blocks;
-        Ok(())
     }
 
-    fn start(
+    /// Starts a process.
+    pub fn start(
         &mut self,
         enclave: Enclave,
         uid: u32,
@@ -174,7 +114,8 @@ impl Machine {
         })
     }
 
-    fn allocate(
+    /// Maps the lowest unused frames, or refuses.
+    pub fn allocate(
         &mut self,
         alloc: Global,
         enclave: Enclave,
@@ -208,7 +149,8 @@ impl Machine {
         Ok(())
     }
 
-    fn touch(
+    /// Tells the frame of a touched page, or refuses.
+    pub fn touch(
         &self,
         enclave: Enclave,
         pid: Pid,

@@ -1,7 +1,7 @@
 use Rattle.std.proofs.Common.{ap, ◌∙◌, ◌+◌, sym}
 use Rattle.scenario_run.specs.Rows.{put}
 use Rattle.scenario_run.proofs.RowLemmas.{put_run-more}
-use Rattle.scenario_run.proofs.machine.map_run.Goals as goal
+use Rattle.scenario_run.proofs.memory.map_run.Goals as goal
 
 pub loop-i-preserved : goal.loop-i-preserved
 loop-i-preserved c =
