@@ -5,8 +5,11 @@
 #![tactic(auto)]
 
 mod list;
+mod numbers;
+mod sizes;
 
 pub use list::{BlockList, EnclaveList, FrameList, ItemList};
+pub use sizes::{pages, region};
 
 /// The number of an enclave. The host is 0.
 #[derive(Clone, Copy, Debug, PartialEq, Eq, PartialOrd, Ord)]
@@ -93,4 +96,59 @@ pub enum Cause {
     NameServerTaken,
     TooMany,
     NoLink,
+}
+
+#[cfg(test)]
+mod tests {
+    use super::*;
+
+    #[test]
+    fn pages_of_sizes(rt: HostRuntime) {
+        for (bytes, want) in [
+            (0, Err(Cause::BadRange)),
+            (1, Err(Cause::BadAlign)),
+            (4095, Err(Cause::BadAlign)),
+            (4096, Ok(1)),
+            (12288, Ok(3)),
+            (16777216, Ok(4096)),
+            (16781312, Err(Cause::TooLarge)),
+            (18446744073709551615, Err(Cause::BadAlign)),
+            (18446744073709547520, Err(Cause::TooLarge)),
+        ] {
+            assert_eq!(rt; pages(bytes), want, "at {bytes}");
+        }
+    }
+
+    #[test]
+    fn regions_of_addresses(rt: HostRuntime) {
+        for (addr, n, want) in [
+            (65537, 1, Err(Cause::BadAlign)),
+            (0, 1, Err(Cause::BadRange)),
+            (65536, 3, Ok(Vpn(16))),
+            (68719472640, 1, Ok(Vpn(16777215))),
+            (68719472640, 2, Err(Cause::BadRange)),
+            (4096, 16777215, Ok(Vpn(1))),
+            (4096, 16777216, Err(Cause::BadRange)),
+            (18446744073709547520, 4294967295, Err(Cause::BadRange)),
+        ] {
+            assert_eq!(rt; region(addr, n), want, "at {addr} with {n}");
+        }
+    }
+
+    #[test]
+    fn causes_have_their_numbers(rt: HostRuntime) {
+        for (cause, want) in [
+            (Cause::NotReady, 1),
+            (Cause::BadRange, 5),
+            (Cause::NoSegment, 6),
+            (Cause::Denied, 7),
+            (Cause::NoPermit, 8),
+            (Cause::NoLink, 21),
+        ] {
+            assert_eq!(rt; cause.number(), want);
+            assert_eq!(rt; Cause::from_number(want), Some(cause));
+        }
+        assert_eq!(rt; Cause::from_number(0), None);
+        assert_eq!(rt; Cause::from_number(22), None);
+    }
 }

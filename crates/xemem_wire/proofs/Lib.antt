@@ -1,0 +1,6 @@
+pub mod FaultLemmas
+pub mod SpellingLemmas
+pub mod StreamLemmas
+pub mod DecodingLemmas
+pub mod KeptLemmas
+pub mod LawLemmas

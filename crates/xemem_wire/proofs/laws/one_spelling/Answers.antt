@@ -1,0 +1,5 @@
+use Rattle.xemem_wire.proofs.LawLemmas.{one_spelling}
+use Rattle.xemem_wire.proofs.laws.one_spelling.Goals as goal
+
+pub returns : goal.returns
+returns c = one_spelling

@@ -1,0 +1,5 @@
+pub mod Table
+pub mod Spelling
+pub mod Faults
+pub mod Stream
+pub mod Decoding

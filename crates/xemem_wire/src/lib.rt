@@ -1,0 +1,18 @@
+//! The records that enclaves send each other: their bytes, and a decoder for a stream of them that comes in any pieces.
+//!
+//! All numbers are little-endian. A record is a header of 16 bytes: length, version, kind, origin, destination, zero
+//! and call. The kinds that are built have no fields after it.
+#![tactic(auto)]
+
+mod decoder;
+mod format;
+mod judge;
+pub mod laws;
+mod read;
+mod spell;
+#[cfg(test)]
+mod tests;
+
+pub use decoder::Decoder;
+pub use format::{BadField, Body, FeedFault, Record, WireFault};
+pub use spell::{encode, valid};
