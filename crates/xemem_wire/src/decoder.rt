@@ -1,6 +1,6 @@
 // A decoder for a stream of records that comes in any pieces.
 ghost use Rattle.std.specs.Prelude.{◌≡◌, ◌+◌, ◌^◌, ◌<◌, ◌≤◌, length, drop, slice_get, vec_len, IsSome, IfSome, IsErrOf, IfErr, IfOk, OnOk, OnErr, None, Some};
-ghost use Rattle.xemem_wire.specs.Decoding.{Takes};
+ghost use Rattle.xemem_wire.specs.Kept.{Takes};
 
 use crate::judge::{fault_in, u32_at};
 use crate::read::{record_in, rest_start, short_length};
@@ -23,7 +23,8 @@ pub struct Decoder {
 
 impl Model for Decoder {
     ghost use Rattle.std.specs.Prelude.{drop};
-    ghost use Rattle.xemem_wire.specs.Decoding.{Decoding, decoded, IsKept};
+    ghost use Rattle.xemem_wire.specs.Decoding.{Decoding};
+    ghost use Rattle.xemem_wire.specs.Kept.{decoded, IsKept};
 
     ghost Value = { Decoding };
 
