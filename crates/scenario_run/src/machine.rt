@@ -96,7 +96,8 @@ impl Machine {
         }
     }
 
-    /// Executes one command, and appends its lines.
+    /// Executes one command, and appends its lines. For want of memory some of them may stand, and the machine isn't to
+    /// be used again.
     pub fn step(
         &mut self,
         alloc: Global,

@@ -1,16 +1,17 @@
 // Journal lines as text.
 ghost use Rattle.std.specs.Prelude.{◌≡◌, ◌∷◌, ◌++◌, [], map, decimal, OnOk, OnErr};
 ghost use Rattle.global_model.specs.Spelling.{spaced, cause_word, kind_word, want_word, command_words, line_words, line_text, text_of};
-ghost use Rattle.scenario_run.specs.Text.{joined};
+ghost use Rattle.scenario_run.specs.Text.{first_word, other_words};
 
 use global_model::{Command, Line};
 use itoa::Buffer;
 use std::alloc::AllocError;
-use xm_num::{Block, Cause, Frame, Kind, Want};
+use xm_num::{Block, Cause, Enclave, Frame, Kind, Pid, Want};
 
 /// Appends bytes. For want of memory nothing is appended.
 pub fn text(out: &mut Vec<u8>, text: &[u8]) -> Result<(), AllocError>
-    ensures { OnOk result (out.new.items ≡ out.old.items ++ text.now) }
+    ensures ok { OnOk result (out.new.items ≡ out.old.items ++ text.now) }
+    ensures err { OnErr result (out.new.items ≡ out.old.items) }
 {
     out.extend_from_slice(text)
 }
@@ -25,7 +26,8 @@ fn word(out: &mut Vec<u8>, word: &[u8]) -> Result<(), AllocError>
 
 /// Appends the decimal digits of a number. For want of memory nothing is appended.
 pub fn digits(out: &mut Vec<u8>, n: u64) -> Result<(), AllocError>
-    ensures { OnOk result (out.new.items ≡ out.old.items ++ decimal n) }
+    ensures ok { OnOk result (out.new.items ≡ out.old.items ++ decimal n) }
+    ensures err { OnErr result (out.new.items ≡ out.old.items) }
 {
     let mut buffer = Buffer::new();
     text(out, buffer.format(n).as_bytes())
@@ -106,7 +108,16 @@ fn blocks(out: &mut Vec<u8>, blocks: &[Block]) -> Result<(), AllocError>
     Ok(())
 }
 
-// The words of a command, a space before each.
+// Appends the numbers of a process, a space before each.
+#[tactic(auto, using(std::proofs::lemmas::List::append_assoc))]
+fn process(out: &mut Vec<u8>, enclave: Enclave, pid: Pid) -> Result<(), AllocError>
+    ensures { OnOk result (out.new.items ≡ out.old.items ++ spaced (decimal enclave.0 ∷ decimal pid.0 ∷ [])) }
+{
+    number(out, u64::from(enclave.0))?;
+    number(out, u64::from(pid.0))
+}
+
+// Appends the words of a command, a space before each.
 #[tactic(auto, using(std::proofs::lemmas::List::append_assoc))]
 fn command(out: &mut Vec<u8>, command: &Command) -> Result<(), AllocError>
     ensures { OnOk result (out.new.items ≡ out.old.items ++ spaced (command_words command.now)) }
@@ -134,8 +145,7 @@ fn command(out: &mut Vec<u8>, command: &Command) -> Result<(), AllocError>
             pages,
         } => {
             word(out, b"alloc")?;
-            number(out, u64::from(enclave.0))?;
-            number(out, u64::from(pid.0))?;
+            process(out, *enclave, *pid)?;
             number(out, u64::from(at.0))?;
             number(out, u64::from(*pages))
         }
@@ -146,28 +156,36 @@ fn command(out: &mut Vec<u8>, command: &Command) -> Result<(), AllocError>
             want,
         } => {
             word(out, b"touch")?;
-            number(out, u64::from(enclave.0))?;
-            number(out, u64::from(pid.0))?;
+            process(out, *enclave, *pid)?;
             number(out, *addr)?;
             word(out, want_name(*want).as_bytes())
         }
     }
 }
 
-// The words of a line, with one space between.
-#[tactic(auto, using(std::proofs::lemmas::List::append_assoc))]
-fn fields(out: &mut Vec<u8>, line: &Line) -> Result<(), AllocError>
-    ensures { OnOk result (out.new.items ≡ out.old.items ++ joined (line_words line.now)) }
+// The first word of a line.
+fn line_name(line: &Line) -> &'static str
+    ensures { result.now ≡ first_word (line_words line.now) }
 {
     match line {
-        Line::Do { command: inner } => {
-            out.extend_from_slice(b"do")?;
-            command(out, inner)
-        }
-        Line::Refused { cause } => {
-            out.extend_from_slice(b"refused")?;
-            word(out, cause_name(*cause).as_bytes())
-        }
+        Line::Do { .. } => "do",
+        Line::Refused { .. } => "refused",
+        Line::Born { .. } => "born",
+        Line::Admitted { .. } => "admitted",
+        Line::Proc { .. } => "proc",
+        Line::Alloc { .. } => "alloc",
+        Line::Touched { .. } => "touched",
+    }
+}
+
+// Appends the words of a line after its first one, a space before each.
+#[tactic(auto, using(std::proofs::lemmas::List::append_assoc))]
+fn fields(out: &mut Vec<u8>, line: &Line) -> Result<(), AllocError>
+    ensures { OnOk result (out.new.items ≡ out.old.items ++ spaced (other_words (line_words line.now))) }
+{
+    match line {
+        Line::Do { command: inner } => command(out, inner),
+        Line::Refused { cause } => word(out, cause_name(*cause).as_bytes()),
         Line::Born {
             enclave,
             kind,
@@ -175,30 +193,20 @@ fn fields(out: &mut Vec<u8>, line: &Line) -> Result<(), AllocError>
             ns,
             blocks: list,
         } => {
-            out.extend_from_slice(b"born")?;
             number(out, u64::from(enclave.0))?;
             word(out, kind_name(*kind).as_bytes())?;
             number(out, u64::from(parent.0))?;
-            if *ns {
-                word(out, b"ns")?;
-            } else {
-                word(out, b"-")?;
-            }
+            word(out, if *ns { b"ns" } else { b"-" })?;
             blocks(out, list.as_slice())
         }
-        Line::Admitted { enclave } => {
-            out.extend_from_slice(b"admitted")?;
-            number(out, u64::from(enclave.0))
-        }
+        Line::Admitted { enclave } => number(out, u64::from(enclave.0)),
         Line::Proc {
             enclave,
             pid,
             uid,
             gid,
         } => {
-            out.extend_from_slice(b"proc")?;
-            number(out, u64::from(enclave.0))?;
-            number(out, u64::from(pid.0))?;
+            process(out, *enclave, *pid)?;
             number(out, u64::from(*uid))?;
             number(out, u64::from(*gid))
         }
@@ -208,9 +216,7 @@ fn fields(out: &mut Vec<u8>, line: &Line) -> Result<(), AllocError>
             at,
             frames: list,
         } => {
-            out.extend_from_slice(b"alloc")?;
-            number(out, u64::from(enclave.0))?;
-            number(out, u64::from(pid.0))?;
+            process(out, *enclave, *pid)?;
             number(out, u64::from(at.0))?;
             frames(out, list.as_slice())
         }
@@ -220,9 +226,7 @@ fn fields(out: &mut Vec<u8>, line: &Line) -> Result<(), AllocError>
             page,
             frame,
         } => {
-            out.extend_from_slice(b"touched")?;
-            number(out, u64::from(enclave.0))?;
-            number(out, u64::from(pid.0))?;
+            process(out, *enclave, *pid)?;
             number(out, u64::from(page.0))?;
             number(out, u64::from(frame.0))
         }
@@ -234,6 +238,7 @@ fn fields(out: &mut Vec<u8>, line: &Line) -> Result<(), AllocError>
 fn append_line(out: &mut Vec<u8>, line: &Line) -> Result<(), AllocError>
     ensures { OnOk result (out.new.items ≡ out.old.items ++ line_text line.now) }
 {
+    text(out, line_name(line).as_bytes())?;
     fields(out, line)?;
     out.push(b'\n')?;
     Ok(())
