@@ -1,10 +1,10 @@
 -- The journal of commands that stand where they may is legal.
-use Rattle.std.proofs.Common.{◌≡◌, ◌+◌, ◌*◌, ◌/◌, ◌%◌, ◌<◌, ◌≤◌, ℕ, zero, suc, List, [], ◌∷◌, ◌++◌, length, take, get_or, map, filter, find, Bool, true, false, cond, eqb, ltb, not, ◌&&◌, ◌||◌, Option, None, Some, is_some, is_none, refl, sym, ap, ◌∙◌, subst, inl, inr, arith}
-use Rattle.std.specs.List.{All, range_with_len, list_any, flat_map}
+use Rattle.std.proofs.Common.{◌≡◌, ◌+◌, ◌*◌, ◌/◌, ◌<◌, ◌≤◌, ℕ, zero, suc, List, [], ◌∷◌, length, take, get_or, find, Bool, true, false, cond, eqb, not, ◌&&◌, ◌||◌, Option, None, Some, refl, sym, ap, ◌∙◌, subst, arith}
+use Rattle.std.specs.List.{All, range_with_len, list_any}
 use Rattle.std.specs.Option.{option_map, option_map_or}
-use Rattle.std.proofs.lemmas.Bool.{cases_Bool, eqb-true, eq-eqb, and_parts}
+use Rattle.std.proofs.lemmas.Bool.{eqb-true, eq-eqb, and_parts}
 use Rattle.std.proofs.lemmas.List.{take_min, length-take}
-use Rattle.std.proofs.lemmas.List.Elements.{All-nil, All-map, All-take, filter_passes, All-filter, All-append, All-from_recursion}
+use Rattle.std.proofs.lemmas.List.Elements.{All-nil, All-map, All-take, filter_passes, All-append}
 use Rattle.xm_num.specs.declared.Enclave.{Enclave}
 use Rattle.xm_num.specs.declared.Pid.{Pid}
 use Rattle.xm_num.specs.declared.Vpn.{Vpn}
@@ -18,14 +18,14 @@ use Rattle.global_model.specs.declared.command.Command.{Command}
 use Rattle.global_model.specs.declared.command.Command.TheVariants as commands
 use Rattle.global_model.specs.declared.line.Line.{Line}
 use Rattle.global_model.specs.declared.line.Line.TheVariants as lines
-use Rattle.global_model.specs.Facts.{Facts, BlockFact, Absent, Free, Lent, OwnPage, after_line, after_lines, facts_at, no_facts, own_from, is_listed, with_lent, is_free, is_lent_to, is_living_enclave, lives}
-use Rattle.global_model.specs.Space.{Mapping, IsMapped, IsUnmapped, is_page_of, own_mapping, space_of, is_own_frame, is_unused, frame_list, unused_frames, block_frames, free_blocks}
+use Rattle.global_model.specs.Facts.{Facts, BlockFact, Absent, Free, Lent, OwnPage, after_line, after_lines, facts_at, no_facts, own_from, is_listed, with_lent, is_free, is_lent_to}
+use Rattle.global_model.specs.Space.{Mapping, IsUnmapped, is_page_of, own_mapping, space_of, is_own_frame, is_unused, unused_frames, block_frames, free_blocks}
 use Rattle.global_model.specs.Refusals.{refusal_of}
 use Rattle.global_model.specs.Scenario.{may_stand, IsPlacedAfter}
-use Rattle.global_model.specs.Due.{host, touched_lines, acts_of, command_lines, step_lines, journal_from}
+use Rattle.global_model.specs.Due.{host, touched_lines, acts_of, step_lines, journal_from}
 use Rattle.global_model.specs.Lawful.{LawfulRefusal, IsLegalAt, cause_of}
 use Rattle.global_model.specs.History.{Follows, onto}
-use Rattle.global_model.proofs.Pasts.{onto-append, facts_at-onto, Follows-append}
+use Rattle.global_model.proofs.Pasts.{facts_at-onto, Follows-append}
 
 -- ---- lists
 

@@ -1,8 +1,8 @@
 -- The commands of a scenario stand where they may.
-use Rattle.std.proofs.Common.{◌≡◌, ◌+◌, ℕ, List, [], ◌∷◌, ◌++◌, Bool, true, false, cond, Option, None, Some, refl, sym, ap, ◌∙◌, subst}
+use Rattle.std.proofs.Common.{◌≡◌, ◌+◌, ℕ, List, [], ◌∷◌, ◌++◌, Bool, true, false, cond, Option, None, Some, refl, sym, ap, ◌∙◌}
 use Rattle.std.specs.Option.{option_map_or, option_and_then, option_to_list}
 use Rattle.global_model.specs.declared.command.Command.{Command}
-use Rattle.global_model.specs.Scenario.{Scenario, line_command, may_stand, may_be_said, said, onto_scenario, scenario_from, IsPlacedAfter}
+use Rattle.global_model.specs.Scenario.{line_command, may_be_said, said, onto_scenario, scenario_from, IsPlacedAfter}
 
 kept : {A : Type 0} (b : Bool) (x y : A) → cond b (Some x) None ≡ Some y → (b ≡ true) × (x ≡ y)
 kept true x y e = let same : x ≡ y = cc in (refl, same)

@@ -1,5 +1,5 @@
 -- Exactly one journal is told and whole for given commands.
-use Rattle.std.proofs.Common.{◌≡◌, ◌+◌, ℕ, zero, suc, List, [], ◌∷◌, ◌++◌, length, drop, Bool, true, false, Option, None, Some, refl, sym, ap, ◌∙◌, subst, arith, add-one, add-zero, append_assoc, append-nil}
+use Rattle.std.proofs.Common.{◌≡◌, ◌+◌, ℕ, zero, suc, List, [], ◌∷◌, ◌++◌, drop, Bool, true, false, Option, None, Some, refl, sym, ap, ◌∙◌, subst, arith, add-one, append_assoc, append-nil}
 use Rattle.std.specs.List.{slice_get}
 use Rattle.std.specs.Option.{option_map_or}
 use Rattle.xm_num.specs.declared.Enclave.{Enclave}
@@ -10,10 +10,10 @@ use Rattle.global_model.specs.declared.command.Command.{Command}
 use Rattle.global_model.specs.declared.command.Command.TheVariants as commands
 use Rattle.global_model.specs.declared.line.Line.{Line}
 use Rattle.global_model.specs.declared.line.Line.TheVariants as lines
-use Rattle.global_model.specs.Facts.{Facts, after_line, after_lines, facts_at, no_facts}
-use Rattle.global_model.specs.Space.{Mapping, space_of}
+use Rattle.global_model.specs.Facts.{Facts, after_lines, facts_at, no_facts}
+use Rattle.global_model.specs.Space.{Mapping}
 use Rattle.global_model.specs.Refusals.{refusal_of}
-use Rattle.global_model.specs.Due.{host, touched_lines, acts_of, command_lines, step_lines, journal_from, journal_of, due_since, due_line}
+use Rattle.global_model.specs.Due.{touched_lines, acts_of, command_lines, step_lines, journal_from, journal_of, due_since, due_line}
 use Rattle.global_model.specs.History.{Follows, IsDueAt, IsTold, IsWhole, onto, do_commands}
 use Rattle.global_model.proofs.Pasts.{onto-append, after_lines-append, facts_at-onto, Follows-append}
 

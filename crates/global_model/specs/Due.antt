@@ -1,5 +1,5 @@
 -- The lines that commands are to have, and the line that is due.
-use Rattle.std.specs.Prelude.{◌+◌, ◌/◌, ℕ, List, [], ◌∷◌, ◌++◌, Bool, if◌then◌else◌, Option, None, take, slice_get}
+use Rattle.std.specs.Prelude.{◌+◌, ◌/◌, ℕ, List, [], ◌∷◌, ◌++◌, if◌then◌else◌, Option, None, take, slice_get}
 use Rattle.std.specs.Option.{option_map_or}
 use Rattle.xm_num.specs.declared.Enclave.{Enclave}
 use Rattle.xm_num.specs.declared.Pid.{Pid}

@@ -1,5 +1,5 @@
 -- Worked scenarios, by which the definitions are compared with what was wanted of them.
-use Rattle.std.specs.Prelude.{◌≡◌, ◌++◌, ℕ, List, [], ◌∷◌, None, Some, Option, codes}
+use Rattle.std.specs.Prelude.{◌≡◌, ◌++◌, ℕ, List, [], ◌∷◌, Option, codes}
 use Rattle.std.specs.List.{flat_map}
 use Rattle.global_model.specs.Scenario.{scenario_of}
 use Rattle.global_model.specs.Spelling.{text_of}

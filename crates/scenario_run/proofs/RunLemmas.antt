@@ -1,6 +1,5 @@
 -- Whole runs: what was done so far, and what each end leaves.
-use Rattle.std.proofs.Common.{◌≡◌, ◌+◌, ◌<◌, ◌≤◌, ℕ, List, [], ◌∷◌, ◌++◌, length, take, Bool, true, false, cond, Option, None, Some, is_some, refl, sym, ap, ◌∙◌, subst, arith, append_assoc, append-nil, reverse}
-use Rattle.std.specs.Option.{option_map_or, option_and_then, option_to_list}
+use Rattle.std.proofs.Common.{◌≡◌, ◌+◌, ℕ, List, [], ◌∷◌, ◌++◌, length, take, true, false, Option, None, Some, is_some, refl, sym, ap, ◌∙◌, subst, append_assoc, append-nil, reverse}
 use Rattle.std.specs.Io.KnownBytes.{Appends}
 use Rattle.std.proofs.KnownBytes.{Appends-trans}
 use Rattle.std.proofs.Math.Seq.{take-append-add}
@@ -11,9 +10,9 @@ use Rattle.global_model.specs.declared.command.Command.{Command}
 use Rattle.global_model.specs.declared.line.Line.{Line}
 use Rattle.global_model.specs.declared.line.Line.TheVariants as lines
 use Rattle.global_model.specs.Words.{lines_of}
-use Rattle.global_model.specs.Scenario.{Scenario, scenario_of, scenario_from, said, line_command, may_stand, may_be_said, onto_scenario, IsPlaced, IsPlacedAfter}
+use Rattle.global_model.specs.Scenario.{Scenario, scenario_of, scenario_from, said, line_command, may_stand, onto_scenario, IsPlaced, IsPlacedAfter}
 use Rattle.global_model.specs.Facts.{facts_after, after_lines}
-use Rattle.global_model.specs.Due.{journal_of, step_lines, command_lines}
+use Rattle.global_model.specs.Due.{journal_of, step_lines}
 use Rattle.global_model.specs.History.{do_commands, IsLegal, IsTold, IsWhole}
 use Rattle.global_model.specs.Spelling.{line_text, text_of}
 use Rattle.scenario_run.specs.declared.stage.Stage.{Stage}
@@ -22,7 +21,7 @@ use Rattle.scenario_run.specs.declared.read.Reading.TheVariants as readings
 use Rattle.scenario_run.specs.Reading.{reading_of}
 use Rattle.scenario_run.specs.declared.status.Status.TheVariants as statuses
 use Rattle.scenario_run.specs.Machine.{MachineView, lines_by, after_step}
-use Rattle.scenario_run.specs.Run.{IsFront, IsRun, IsRunSoFar, IsRunCut, LeavesIn}
+use Rattle.scenario_run.specs.Run.{IsRun, IsRunSoFar, LeavesIn}
 use Rattle.scenario_run.proofs.Shown.{IsAt}
 use Rattle.scenario_run.proofs.Steps.{stepped, stage_tells}
 

@@ -1,32 +1,27 @@
 -- Each command's lines are those that the rules give, and the machine shows the facts after them.
-use Rattle.std.proofs.Common.{◌≡◌, ◌+◌, ◌-◌, ◌*◌, ◌/◌, ◌^◌, ◌<◌, ◌≤◌, ℕ, zero, suc, List, [], ◌∷◌, ◌++◌, length, take, map, Bool, true, false, cond, eqb, ltb, leb, ◌&&◌, ◌||◌, Option, None, Some, is_some, refl, sym, ap, ◌∙◌, subst, inl, inr, arith}
-use Rattle.std.specs.List.{range_with_len, list_any}
-use Rattle.std.specs.Option.{option_map}
-use Rattle.std.proofs.lemmas.Bool.{cases_Bool, eqb-true, leb-true, leb-false, ltb-true, ltb-false, ne_eqb, and_parts}
+use Rattle.std.proofs.Common.{◌≡◌, ◌+◌, ◌/◌, ◌^◌, ◌<◌, ◌≤◌, ℕ, zero, suc, List, [], ◌∷◌, ◌++◌, length, take, map, Bool, true, false, cond, eqb, ltb, leb, ◌&&◌, ◌||◌, Option, None, Some, is_some, refl, sym, ap, ◌∙◌, subst, inl, inr, arith}
+use Rattle.std.specs.List.{range_with_len}
+use Rattle.std.proofs.lemmas.Bool.{cases_Bool, leb-true, leb-false, ltb-false, ne_eqb, and_parts}
 use Rattle.std.proofs.lemmas.List.{map-append, length-map}
 use Rattle.std.proofs.lemmas.List.FromFn.{length-range_with_len}
-use Rattle.xm_num.specs.declared.Enclave.{Enclave}
 use Rattle.xm_num.specs.declared.Pid.{Pid}
 use Rattle.xm_num.specs.declared.Vpn.{Vpn}
 use Rattle.xm_num.specs.declared.Frame.{Frame}
 use Rattle.xm_num.specs.declared.Want.{Want}
-use Rattle.xm_num.specs.declared.Cause.TheVariants as causes
 use Rattle.global_model.specs.declared.command.Command.{Command}
 use Rattle.global_model.specs.declared.command.Command.TheVariants as commands
-use Rattle.global_model.specs.declared.line.Line.{Line}
 use Rattle.global_model.specs.declared.line.Line.TheVariants as lines
 use Rattle.global_model.specs.Facts.{Facts, no_facts, after_line, after_lines, own_from}
-use Rattle.global_model.specs.Space.{space_of, frame_list, unused_frames}
-use Rattle.global_model.specs.Refusals.{is_taken}
-use Rattle.global_model.specs.Scenario.{is_pool_for, is_proc, may_stand}
+use Rattle.global_model.specs.Space.{frame_list, unused_frames}
+use Rattle.global_model.specs.Scenario.{may_stand}
 use Rattle.global_model.specs.Due.{host, command_lines, step_lines}
 use Rattle.scenario_run.specs.declared.stage.Stage.{Stage}
 use Rattle.scenario_run.specs.declared.stage.Stage.TheVariants as stages
 use Rattle.scenario_run.specs.Stage.{next_stage}
 use Rattle.scenario_run.specs.Rows.{at, put_run, any_between}
-use Rattle.scenario_run.specs.Machine.{MachineView, unborn, CanStep, frames_from, left_of, alloc_lines, after_alloc, page_of, found_lines, touch_lines, lines_by, after_step}
+use Rattle.scenario_run.specs.Machine.{MachineView, unborn, CanStep, frames_from, left_of, lines_by, after_step}
 use Rattle.scenario_run.proofs.Runs.{take-range, range-append}
-use Rattle.scenario_run.proofs.Shown.{IsHosted, IsAt, frame_mapping, Shows, lines_host, hosted_host, unused_frames_are, taken_is, free_at, pages_run, own_from-frames, own_from-owners, All-append, the_host, the_process}
+use Rattle.scenario_run.proofs.Shown.{IsHosted, IsAt, lines_host, hosted_host, unused_frames_are, taken_is, free_at, pages_run, own_from-frames, own_from-owners, All-append, the_host, the_process}
 use Rattle.scenario_run.proofs.Tables.{at_put}
 
 abbrev pub the_pid : Pid

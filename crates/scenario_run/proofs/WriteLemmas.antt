@@ -1,5 +1,5 @@
 -- What has been written of a text after one piece more, and after a piece that was cut.
-use Rattle.std.proofs.Common.{◌≡◌, ◌+◌, ◌-◌, ◌≤◌, ℕ, List, [], ◌++◌, length, take, drop, true, false, Option, Result, Ok, Err, OnErr, OnOk, refl, sym, ap, ◌∙◌, subst, arith, length-take, length-drop}
+use Rattle.std.proofs.Common.{◌≡◌, ◌+◌, ◌-◌, ◌≤◌, ℕ, List, length, take, drop, true, false, Option, Result, Ok, Err, OnErr, OnOk, sym, ap, ◌∙◌, subst, arith, length-take, length-drop}
 use Rattle.std.specs.Result.{is_err}
 use Rattle.std.specs.Io.KnownBytes.{Appends}
 use Rattle.std.proofs.KnownBytes.{Appends-trans}

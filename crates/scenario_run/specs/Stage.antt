@@ -1,5 +1,5 @@
 -- How far a scenario has come: which commands may come next.
-use Rattle.std.specs.Prelude.{◌+◌, Bool, ◌&&◌, ◌==◌, nat_le, if◌then◌else◌, Option, None, Some}
+use Rattle.std.specs.Prelude.{◌+◌, ◌&&◌, ◌==◌, nat_le, if◌then◌else◌, Option, None, Some}
 use Rattle.global_model.specs.declared.command.Command.{Command}
 use Rattle.global_model.specs.declared.command.Command.TheVariants as commands
 use Rattle.scenario_run.specs.declared.stage.Stage.{Stage}

@@ -1,7 +1,4 @@
-use Rattle.std.proofs.Common.{◌≡◌, inr, List, [], Option, None, Some, append-nil, sym, refl, subst}
-use Rattle.std.specs.Io.KnownBytes.{Appends}
-use Rattle.global_model.specs.Scenario.{scenario_of}
-use Rattle.scenario_run.specs.Run.{IsRunSoFar}
+use Rattle.std.proofs.Common.{inr, [], refl}
 use Rattle.scenario_run.proofs.RunLemmas.{no_run, appends_none}
 use Rattle.scenario_run.proofs.main_call.xemem_main.Goals as goal
 

@@ -1,4 +1,4 @@
-use Rattle.std.proofs.Common.{◌∙◌, sym, ap}
+use Rattle.std.proofs.Common.{◌∙◌}
 use Rattle.scenario_run.specs.Rows.{any_between}
 use Rattle.scenario_run.proofs.RowLemmas.{is_between, any_from_first}
 use Rattle.scenario_run.proofs.pages.Pages.any_between.Goals as goal
