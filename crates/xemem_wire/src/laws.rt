@@ -49,10 +49,13 @@ pub fn cut_spelling()
         n < length (spelling_of r) → first_bad (spellings_of rs ++ take n (spelling_of r)) ≡ None }
 {}
 
-/// No front of valid records has a bad field.
-pub fn fronts_are_fine()
-    ensures { (rs : List Record) (bytes more : List ℕ) → AreValid rs → bytes ++ more ≡ spellings_of rs →
+/// A front of what valid records spell has no bad field. It is read as the first of these records, and what is left of it
+/// spells the others together with what is still to come.
+pub fn front_of_spellings()
+    ensures fine { (rs : List Record) (bytes more : List ℕ) → AreValid rs → bytes ++ more ≡ spellings_of rs →
         first_bad bytes ≡ None }
+    ensures first { (rs : List Record) (bytes more : List ℕ) → AreValid rs → bytes ++ more ≡ spellings_of rs →
+        (later : List Record) × (rs ≡ records_of bytes ++ later) × (rest_of bytes ++ more ≡ spellings_of later) }
 {}
 
 /// After a bad field no more records come, and it stays the first.
