@@ -1,10 +1,10 @@
 // The laws of spellings and of streams. Each is the contract of a function that does nothing.
-ghost use Rattle.std.specs.Prelude.{◌≡◌, ◌≢◌, ℕ, ◌+◌, ◌-◌, ◌<◌, ◌≤◌, true, Option, None, Some, List, [], ◌∷◌, ◌++◌, length, take, fold};
+ghost use Rattle.std.specs.Prelude.{◌≡◌, ℕ, ◌<◌, ◌≤◌, true, None, Some, List, ◌++◌, length, take, fold};
 ghost use Rattle.std.specs.List.{flat_map, AllByRecursion};
 ghost use Rattle.std.specs.Option.{option_map};
 ghost use Rattle.xemem_wire.specs.Table.{u32_at};
 ghost use Rattle.xemem_wire.specs.Spelling.{spelling_of, spellings_of, is_valid, AreValid};
-ghost use Rattle.xemem_wire.specs.Stream.{Reading, reading_of, records_of, rest_of, onto, after_records, nothing_read, first_bad, moved, IsSplit};
+ghost use Rattle.xemem_wire.specs.Stream.{reading_of, records_of, rest_of, onto, after_records, nothing_read, first_bad, moved, IsSplit};
 ghost use Rattle.xemem_wire.specs.Decoding.{Decoding, nothing_taken, after_piece, from_the_start};
 ghost use Rattle.xemem_wire.specs.declared.format.Record.{Record};
 ghost use Rattle.xemem_wire.specs.declared.format.BadField.{BadField};
