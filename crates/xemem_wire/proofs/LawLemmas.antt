@@ -11,7 +11,7 @@ use Rattle.xemem_wire.specs.Spelling.{spelling_of, spellings_of, is_valid, AreVa
 use Rattle.xemem_wire.specs.Faults.{first_failed, fault_of}
 use Rattle.xemem_wire.specs.Stream.{front_record, after_records, nothing_read, reading_of, records_of, rest_of, moved, first_bad, IsSplit}
 use Rattle.xemem_wire.specs.Decoding.{nothing_taken, taken, after_piece, from_the_start}
-use Rattle.xemem_wire.proofs.StreamLemmas.{option_cases, moved_twice, front_record-spelling_of, Begins, front_record_begins, Splits, splits, reading_of-splits, reading_of-spellings, reading_of-take, fault_of-take, length-rest_of}
+use Rattle.xemem_wire.proofs.StreamLemmas.{option_cases, moved_twice, front_record-spelling_of, Begins, front_record_begins, Splits, splits, reading_of-append, reading_of-splits, reading_of-spellings, reading_of-take, fault_of-take, length-rest_of}
 use Rattle.xemem_wire.proofs.DecodingLemmas.{first_bad-fault, decoding_equal, after_piece-going, after_piece-append}
 use Rattle.xemem_wire.proofs.KeptLemmas.{reading_of-empty}
 
@@ -86,6 +86,18 @@ first_bad-front rs bytes more h e =
     ∙ ap (option_map (moved (length (spellings_of rs)))) first_bad-empty in
     option_cases (first_bad bytes) (λ none. none)
     (λ bad found. absurd (none-some bad (sym all ∙ first_bad-fault bytes more bad found)))
+
+-- the records of a front are the first ones
+pub records_of-front : (rs : List Record) (bytes more : List ℕ) → AreValid rs → bytes ++ more ≡ spellings_of rs → (later : List Record) × (rs ≡ records_of bytes ++ later) × (rest_of bytes ++ more ≡ spellings_of later)
+records_of-front rs bytes more h e =
+    let left : List ℕ = rest_of bytes ++ more in
+    let read = sym (reading_of-append bytes more) ∙ ap reading_of (e ∙ sym (append-nil (spellings_of rs)))
+    ∙ reading_of-spellings rs [] h ∙ ap (after_records rs) reading_of-empty in
+    let none : rest_of left ≡ [] = ap (λ reading. reading.rest) read in (
+      records_of left,
+      sym (ap (λ reading. reading.records) read ∙ append-nil rs),
+      (splits left).whole ∙ ap (λ xs. spellings_of (records_of left) ++ xs) none ∙ append-nil (spellings_of (records_of left)),
+    )
 
 -- a decoder that has taken a whole stream
 moved_none : (bad : Option BadField) → option_map (moved 0) bad ≡ bad

@@ -11,7 +11,8 @@ use std::marker::Model;
 /// Takes a stream of records in any pieces and gives the whole records in order. At the first bad field it stops.
 ///
 /// The bytes of records that weren't given yet stay as they came. Those of given records go when they are half of all,
-/// so a byte is moved a constant number of times.
+/// so a byte is moved a constant number of times. What has come of a record is judged anew with each piece until the
+/// record is whole; it has 16 bytes, so each is read a constant number of times, also where they come one at a time.
 #[derive(Drop)]
 pub struct Decoder {
     bytes: Vec<u8>,

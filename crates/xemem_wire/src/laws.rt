@@ -1,10 +1,10 @@
 // The laws of spellings and of streams. Each is the contract of a function that does nothing.
-ghost use Rattle.std.specs.Prelude.{◌≡◌, ◌≢◌, ℕ, ◌+◌, ◌-◌, ◌<◌, ◌≤◌, true, Option, None, Some, List, [], ◌∷◌, ◌++◌, length, take, fold};
+ghost use Rattle.std.specs.Prelude.{◌≡◌, ℕ, ◌<◌, ◌≤◌, true, None, Some, List, ◌++◌, length, take, fold};
 ghost use Rattle.std.specs.List.{flat_map, AllByRecursion};
 ghost use Rattle.std.specs.Option.{option_map};
 ghost use Rattle.xemem_wire.specs.Table.{u32_at};
 ghost use Rattle.xemem_wire.specs.Spelling.{spelling_of, spellings_of, is_valid, AreValid};
-ghost use Rattle.xemem_wire.specs.Stream.{Reading, reading_of, records_of, rest_of, onto, after_records, nothing_read, first_bad, moved, IsSplit};
+ghost use Rattle.xemem_wire.specs.Stream.{reading_of, records_of, rest_of, onto, after_records, nothing_read, first_bad, moved, IsSplit};
 ghost use Rattle.xemem_wire.specs.Decoding.{Decoding, nothing_taken, after_piece, from_the_start};
 ghost use Rattle.xemem_wire.specs.declared.format.Record.{Record};
 ghost use Rattle.xemem_wire.specs.declared.format.BadField.{BadField};
@@ -49,10 +49,13 @@ pub fn cut_spelling()
         n < length (spelling_of r) → first_bad (spellings_of rs ++ take n (spelling_of r)) ≡ None }
 {}
 
-/// No front of valid records has a bad field.
-pub fn fronts_are_fine()
-    ensures { (rs : List Record) (bytes more : List ℕ) → AreValid rs → bytes ++ more ≡ spellings_of rs →
+/// A front of what valid records spell has no bad field. It is read as the first of these records, and what is left of it
+/// spells the others together with what is still to come.
+pub fn front_of_spellings()
+    ensures fine { (rs : List Record) (bytes more : List ℕ) → AreValid rs → bytes ++ more ≡ spellings_of rs →
         first_bad bytes ≡ None }
+    ensures first { (rs : List Record) (bytes more : List ℕ) → AreValid rs → bytes ++ more ≡ spellings_of rs →
+        (later : List Record) × (rs ≡ records_of bytes ++ later) × (rest_of bytes ++ more ≡ spellings_of later) }
 {}
 
 /// After a bad field no more records come, and it stays the first.
