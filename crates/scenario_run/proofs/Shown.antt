@@ -60,19 +60,11 @@ cond_some : {X : Type 0} (b : Bool) (x y : X) → cond b (Some x) None ≡ Some 
 cond_some true x y e = let same : x ≡ y = cc in (refl, same)
 cond_some false x y e = cc
 
-cond_none : {X : Type 0} (b : Bool) (x : X) → cond b (Some x) None ≡ None → b ≡ false
-cond_none true x e = cc
-cond_none false x e = refl
-
 pub the_host : (e : Enclave) → eqb e.0 0 ≡ true → e ≡ host
 the_host e h = ap (λ (n : ℕ). record { 0 = n }) (eqb-true e.0 0 h)
 
 pub the_process : (p : Pid) → eqb p.0 1 ≡ true → p ≡ record { 0 = 1 }
 the_process p h = ap (λ (n : ℕ). record { 0 = n }) (eqb-true p.0 1 h)
-
--- the stage and the definition let the same commands come
-pub record Agrees (o : Option Stage) (b : Bool) : Type 0 where
-  pub tells : is_some o ≡ b
 
 -- ---- lists of own pages
 
