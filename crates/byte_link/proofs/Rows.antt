@@ -175,15 +175,3 @@ laid_taken k ns bs ended h laid =
       exact = λ e. (let exact = laid.exact e in omega arith);
       positive = positive-lengths_after k ns laid.positive;
     }
-
-pub laid_ended : (m : ℕ) (ns bs : List ℕ) → IsLaid ns bs false → IsLaid ns (take m bs) true
-laid_ended m ns bs laid =
-    let short = length-take m bs in
-    let covered = laid.covered in
-    let small = laid.small in
-    record {
-      small = omega arith;
-      covered = omega arith;
-      exact = λ e. cc;
-      positive = laid.positive;
-    }

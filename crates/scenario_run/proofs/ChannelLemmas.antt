@@ -14,18 +14,12 @@ use Rattle.xemem_wire.specs.Faults.{fault_of, first_failed}
 use Rattle.xemem_wire.specs.Stream.{reading_of, reading_within, records_of, onto, after_records, nothing_read, first_bad, moved}
 use Rattle.xemem_wire.specs.Decoding.{Decoding, after_piece, Leaves}
 use Rattle.global_model.specs.Channels.{size_of, whole_records}
+use Rattle.scenario_run.specs.Laws.{WireLaws}
 use Rattle.scenario_run.specs.Channels.{ChannelView, Flows, with_fed}
 
 pub spelling_of-length : (r : Record) → length (spelling_of r) ≡ 16
 unfolding spelling_of header_of
 spelling_of-length r = refl
-
--- the laws of spellings, as their functions ensure them
-pub record WireLaws : Type 0 where
-  pub first : (r : Record) (more : List ℕ) → is_valid r ≡ true → reading_of (spelling_of r ++ more) ≡ onto r (reading_of more)
-  pub bad : (rs : List Record) (more : List ℕ) → AreValid rs → first_bad (spellings_of rs ++ more) ≡ option_map (moved (length (spellings_of rs))) (first_bad more)
-  pub reading : (rs : List Record) (r : Record) (n : ℕ) → AreValid rs → is_valid r ≡ true → n < length (spelling_of r) → reading_of (spellings_of rs ++ take n (spelling_of r)) ≡ after_records rs (nothing_read (take n (spelling_of r)))
-  pub fine : (rs : List Record) (r : Record) (n : ℕ) → AreValid rs → is_valid r ≡ true → n < length (spelling_of r) → first_bad (spellings_of rs ++ take n (spelling_of r)) ≡ None
 
 -- what a decoder makes of the first m bytes of records: these are whole, and the bytes after them
 pub record IsFront (rs : List Record) (m : ℕ) (ws : List Record) : Type 0 where

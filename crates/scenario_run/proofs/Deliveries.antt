@@ -12,15 +12,9 @@ use Rattle.global_model.specs.View.{View, view_of, own_lines, lines_of_records}
 use Rattle.global_model.specs.Due.{got_lines, took_lines, deliver_lines}
 use Rattle.scenario_run.specs.Channels.{ChannelView, with_records, with_fed, with_all_given, sent_in}
 use Rattle.scenario_run.specs.World.{taken_by, came_lines, is_idle, channel_lines, node_after, inbound_after, outbound_after}
-use Rattle.scenario_run.proofs.ChannelLemmas.{WireLaws}
+use Rattle.scenario_run.specs.Laws.{WireLaws, ViewLaws}
 use Rattle.scenario_run.proofs.Links.{IsChannel, with_sents, with_got_all, channel_sents, channel_taken, waiting_is, came_whole, came_is, came_valid, arriving_is}
 use Rattle.scenario_run.proofs.Arrivals.{AreOwn, gots, own_records, gots_records, gots_all, sent_valid, pair_same, pair_other, inbound_lines, outbound_lines, far_lines, other_lines, living_lines}
-
--- the laws of views, as their function ensures them
-pub record ViewLaws : Type 0 where
-  pub records : (G : Facts) (x y : Enclave) (rs : List Record) → is_living_enclave (G.enclave y.0) ≡ true → got_lines G x y rs ≡ lines_of_records (view_of G y) x rs
-  pub own : (G : Facts) (x y : Enclave) (rs : List Record) → is_living_enclave (G.enclave y.0) ≡ true → view_of (after_lines G (got_lines G x y rs)) y ≡ own_lines (view_of G y) (got_lines G x y rs)
-  pub others : (G : Facts) (x y z : Enclave) (rs : List Record) → z.0 ≢ y.0 → view_of (after_lines G (got_lines G x y rs)) z ≡ view_of G z
 
 -- the lines of a delivery from x to y are `ls`, and the facts after them are shown by this view of y, this channel from x and
 -- this channel back

@@ -22,9 +22,9 @@ use Rattle.scenario_run.specs.declared.world.Hop.{Hop}
 use Rattle.scenario_run.specs.declared.world.Hop.TheVariants as hops
 use Rattle.scenario_run.specs.Channels.{ChannelView}
 use Rattle.scenario_run.specs.World.{WorldView, hop_of, hop_in, channel_lines, node_after, inbound_after, outbound_after, no_child, child_at, deliver_lines, child_after_up, child_after_down, after_deliver, shown_lines, show_lines}
-use Rattle.scenario_run.proofs.ChannelLemmas.{WireLaws}
+use Rattle.scenario_run.specs.Laws.{WireLaws, ViewLaws}
 use Rattle.scenario_run.proofs.Links.{IsChannel, waiting_is}
-use Rattle.scenario_run.proofs.Deliveries.{ViewLaws, IsDelivered, IsMade, delivered}
+use Rattle.scenario_run.proofs.Deliveries.{IsDelivered, IsMade, delivered}
 use Rattle.scenario_run.proofs.Worlds.{IsWorld, IsChildAt, enclave, hosted_other}
 use Rattle.scenario_run.proofs.Births.{IsTied}
 

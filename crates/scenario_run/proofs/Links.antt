@@ -14,7 +14,8 @@ use Rattle.global_model.specs.Facts.{ChannelFact, no_channel, with_sent, with_ta
 use Rattle.global_model.specs.Channels.{size_of, whole_records, arriving, waiting_of}
 use Rattle.scenario_run.specs.Channels.{ChannelView, Flows, no_bytes, with_record, with_records, with_fed, with_all_given}
 use Rattle.scenario_run.specs.World.{IsDrained, taken_by, inbound_after, is_idle}
-use Rattle.scenario_run.proofs.ChannelLemmas.{WireLaws, IsFront, front_of_flow, front_bytes}
+use Rattle.scenario_run.specs.Laws.{WireLaws}
+use Rattle.scenario_run.proofs.ChannelLemmas.{IsFront, front_of_flow, front_bytes}
 
 -- what went over the channel are the records `done`, which were got, and `coming`, of which the decoder has the first bytes
 pub record IsChannel (fact : ChannelFact) (c : ChannelView) : Type 0 where

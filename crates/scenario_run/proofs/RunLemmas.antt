@@ -1,6 +1,5 @@
 -- Whole runs: what was done so far, and what each end leaves.
-use Rattle.std.proofs.Common.{◌≡◌, ◌+◌, ◌<◌, ◌≤◌, ℕ, List, [], ◌∷◌, ◌++◌, length, take, Bool, true, false, cond, Option, None, Some, is_some, refl, sym, ap, ◌∙◌, subst, arith, append_assoc, append-nil, reverse}
-use Rattle.std.specs.Option.{option_map_or, option_and_then, option_to_list}
+use Rattle.std.proofs.Common.{◌≡◌, ◌+◌, ℕ, List, [], ◌∷◌, ◌++◌, length, take, true, false, Option, None, Some, is_some, refl, sym, ap, ◌∙◌, subst, append_assoc, append-nil, reverse}
 use Rattle.std.specs.Io.KnownBytes.{Appends}
 use Rattle.std.proofs.KnownBytes.{Appends-trans}
 use Rattle.std.proofs.Math.Seq.{take-append-add}
@@ -11,9 +10,9 @@ use Rattle.global_model.specs.declared.command.Command.{Command}
 use Rattle.global_model.specs.declared.line.Line.{Line}
 use Rattle.global_model.specs.declared.line.Line.TheVariants as lines
 use Rattle.global_model.specs.Words.{lines_of}
-use Rattle.global_model.specs.Scenario.{Scenario, scenario_of, scenario_from, said, line_command, may_stand, may_be_said, onto_scenario, IsPlaced, IsPlacedAfter}
+use Rattle.global_model.specs.Scenario.{Scenario, scenario_of, scenario_from, said, line_command, may_stand, onto_scenario, IsPlaced, IsPlacedAfter}
 use Rattle.global_model.specs.Facts.{facts_after, after_lines}
-use Rattle.global_model.specs.Due.{journal_of, step_lines, command_lines}
+use Rattle.global_model.specs.Due.{journal_of, step_lines}
 use Rattle.global_model.specs.History.{do_commands, IsLegal, IsTold, IsWhole}
 use Rattle.global_model.specs.Spelling.{line_text, text_of}
 use Rattle.scenario_run.specs.declared.stage.Stage.{Stage}
@@ -21,23 +20,13 @@ use Rattle.scenario_run.specs.Stage.{next_stage}
 use Rattle.scenario_run.specs.declared.read.Reading.TheVariants as readings
 use Rattle.scenario_run.specs.Reading.{reading_of}
 use Rattle.scenario_run.specs.declared.status.Status.TheVariants as statuses
-use Rattle.scenario_run.specs.Machine.{MachineView, lines_by, after_step}
-use Rattle.scenario_run.specs.Run.{IsFront, IsRun, IsRunSoFar, IsRunCut, LeavesIn}
-use Rattle.scenario_run.proofs.Shown.{IsAt}
-use Rattle.scenario_run.proofs.Steps.{stepped, stage_tells}
-
--- the laws of journals, as their functions ensure them
-pub record Laws : Type 0 where
-  pub told : (commands : List Command) → IsTold (journal_of commands)
-  pub whole : (commands : List Command) → IsWhole (journal_of commands)
-  pub commands : (commands : List Command) → do_commands (journal_of commands) ≡ commands
-  pub legal : (commands : List Command) → IsPlaced commands → IsLegal (journal_of commands)
-  pub placed : (bytes : List ℕ) → IsPlaced (scenario_of bytes).commands
-  pub journal : (commands : List Command) (command : Command) → journal_of (commands ++ command ∷ []) ≡ journal_of commands ++ step_lines (facts_after (journal_of commands)) command
-  pub facts : (journal lines : List Line) → facts_after (journal ++ lines) ≡ after_lines (facts_after journal) lines
+use Rattle.scenario_run.specs.World.{WorldView, IsReady, CanStep, lines_by, after_step}
+use Rattle.scenario_run.specs.Laws.{Laws}
+use Rattle.scenario_run.specs.Run.{IsRun, IsRunSoFar, LeavesIn}
+use Rattle.scenario_run.proofs.Steps.{IsAt, stepped, stage_tells, ready_at}
 
 -- what was done so far (the commands, the newest first), and what is left
-pub record SoFar (bytes : List ℕ) (stage : Stage) (v : MachineView) (number : ℕ) (rest : List ℕ) (old new : Option (List ℕ)) : Type 0 where
+pub record SoFar (bytes : List ℕ) (stage : Stage) (v : WorldView) (number : ℕ) (rest : List ℕ) (old new : Option (List ℕ)) : Type 0 where
   pub before : List Command
   pub shown : IsAt stage before (facts_after (journal_of (reverse before))) v
   pub scenario_is : scenario_of bytes ≡ onto_scenario (reverse before) (scenario_from before number (lines_of rest))
@@ -57,9 +46,19 @@ said_early before line c is may = rw (is, may) refl
 said_unknown : (before : List Command) (line : List ℕ) → line_command line ≡ None → said before line ≡ None
 said_unknown before line is = rw is refl
 
+-- ---- where the commands stand
+
+placed_front : (xs ys before : List Command) → IsPlacedAfter before (xs ++ ys) → IsPlacedAfter before xs
+placed_front [] ys before placed = tt
+placed_front (x ∷ xs) ys before placed = (placed.0, placed.1, placed_front xs ys (x ∷ before) placed.2)
+
+-- the commands that were done stand where they may
+done_placed : Laws → (bytes : List ℕ) (done : List Command) (left : Scenario) → scenario_of bytes ≡ onto_scenario done left → IsPlaced done
+done_placed laws bytes done left is = placed_front done left.commands [] (subst IsPlaced (ap (λ s. s.commands) is) (laws.placed bytes))
+
 -- ---- one line more
 
-pub so_far-comment : (bytes : List ℕ) (stage : Stage) (v : MachineView) (number : ℕ) (rest line after : List ℕ) (old new : Option (List ℕ)) → SoFar bytes stage v number rest old new → lines_of rest ≡ line ∷ lines_of after → line_command line ≡ Some None
+pub so_far-comment : (bytes : List ℕ) (stage : Stage) (v : WorldView) (number : ℕ) (rest line after : List ℕ) (old new : Option (List ℕ)) → SoFar bytes stage v number rest old new → lines_of rest ≡ line ∷ lines_of after → line_command line ≡ Some None
     → SoFar bytes stage v (number + 1) after old new
 so_far-comment bytes stage v number rest line after old new s is comment =
     let here : scenario_from s.before number (lines_of rest) ≡ scenario_from s.before (number + 1) (lines_of after) = ap (scenario_from s.before number) is ∙ rw (said_comment s.before line comment) refl in
@@ -69,12 +68,12 @@ so_far-comment bytes stage v number rest line after old new s is comment =
 text_more : Laws → (done : List Command) (c : Command) → text_of (journal_of (done ++ c ∷ [])) ≡ text_of (journal_of done) ++ text_of (step_lines (facts_after (journal_of done)) c)
 text_more laws done c = ap text_of (laws.journal done c) ∙ flat_map-append line_text (journal_of done) (step_lines (facts_after (journal_of done)) c)
 
-pub so_far-command : Laws → (bytes : List ℕ) (stage next : Stage) (v : MachineView) (number : ℕ) (rest line after : List ℕ) (c : Command) (old new newer : Option (List ℕ)) → SoFar bytes stage v number rest old new → lines_of rest ≡ line ∷ lines_of after
+pub so_far-command : Laws → (bytes : List ℕ) (stage next : Stage) (v : WorldView) (number : ℕ) (rest line after : List ℕ) (c : Command) (old new newer : Option (List ℕ)) → SoFar bytes stage v number rest old new → lines_of rest ≡ line ∷ lines_of after
     → line_command line ≡ Some (Some c) → next_stage stage c ≡ Some next → Appends new newer (text_of (lines.Do c ∷ lines_by v c)) → SoFar bytes next (after_step v c) (number + 1) after old newer
 so_far-command laws bytes stage next v number rest line after c old new newer s is command comes put =
     let done = reverse s.before in
     let G = facts_after (journal_of done) in
-    let step = stepped stage next s.before G v c s.shown comes in
+    let step = stepped laws.wire laws.views stage next s.before G v c (laws.flowing done (done_placed laws bytes done _ s.scenario_is)) s.shown comes in
     let may : may_stand s.before c ≡ true = sym (stage_tells stage s.before G v c s.shown) ∙ ap is_some comes in
     let more : reverse (c ∷ s.before) ≡ done ++ c ∷ [] = reverse-append (c ∷ []) s.before in
     let facts : after_lines G (step_lines G c) ≡ facts_after (journal_of (reverse (c ∷ s.before))) = sym (laws.facts (journal_of done) (step_lines G c)) ∙ ap facts_after (sym (laws.journal done c)) ∙ ap (λ cs. facts_after (journal_of cs)) (sym more) in
@@ -90,15 +89,14 @@ so_far-command laws bytes stage next v number rest line after c old new newer s 
       put = subst (Appends old newer) text (Appends-trans old new newer _ _ s.put put);
     }
 
+-- the world may take the next step
+pub next_step : Laws → (bytes : List ℕ) (stage next : Stage) (v : WorldView) (number : ℕ) (rest : List ℕ) (c : Command) (old new : Option (List ℕ)) → SoFar bytes stage v number rest old new → next_stage stage c ≡ Some next → CanStep v c × IsReady v
+next_step laws bytes stage next v number rest c old new s comes =
+    let done = reverse s.before in
+    let flowing = laws.flowing done (done_placed laws bytes done _ s.scenario_is) in
+    ((stepped laws.wire laws.views stage next s.before (facts_after (journal_of done)) v c flowing s.shown comes).0, ready_at stage s.before (facts_after (journal_of done)) v flowing s.shown)
+
 -- ---- what each end leaves
-
-placed_front : (xs ys before : List Command) → IsPlacedAfter before (xs ++ ys) → IsPlacedAfter before xs
-placed_front [] ys before placed = tt
-placed_front (x ∷ xs) ys before placed = (placed.0, placed_front xs ys (x ∷ before) placed.1)
-
--- the commands that were done stand where they may
-done_placed : Laws → (bytes : List ℕ) (done : List Command) (left : Scenario) → scenario_of bytes ≡ onto_scenario done left → IsPlaced done
-done_placed laws bytes done left is = placed_front done left.commands [] (subst IsPlaced (ap (λ s. s.commands) is) (laws.placed bytes))
 
 -- the journal of first commands of the scenario
 run_so_far : Laws → (bytes : List ℕ) (done : List Command) (left : Scenario) → scenario_of bytes ≡ onto_scenario done left → IsRunSoFar bytes (text_of (journal_of done))
@@ -106,7 +104,7 @@ run_so_far laws bytes done left is = record {
   journal = journal_of done;
   text = refl;
   commands = record { rest = left.commands; is = ap (λ s. s.commands) is ∙ ap (λ cs. cs ++ left.commands) (sym (laws.commands done)) };
-  history = record { legal = laws.legal done (done_placed laws bytes done left is); told = laws.told done };
+  history = record { legal = laws.legal done (done_placed laws bytes done left is); carried = laws.carried done (done_placed laws bytes done left is); told = laws.told done };
   whole = laws.whole done;
 }
 
@@ -116,45 +114,45 @@ run_whole laws bytes done left is none = record {
   journal = journal_of done;
   text = refl;
   commands = laws.commands done ∙ sym (ap (λ s. s.commands) is ∙ ap (λ cs. done ++ cs) none ∙ append-nil done);
-  history = record { legal = laws.legal done (done_placed laws bytes done left is); told = laws.told done };
+  history = record { legal = laws.legal done (done_placed laws bytes done left is); carried = laws.carried done (done_placed laws bytes done left is); told = laws.told done };
   whole = laws.whole done;
 }
 
-pub leaves_memory : Laws → (bytes : List ℕ) (stage : Stage) (v : MachineView) (number : ℕ) (rest : List ℕ) (old new newer : Option (List ℕ)) → SoFar bytes stage v number rest old new → Appends new newer [] → LeavesIn old newer statuses.Memory bytes
+pub leaves_memory : Laws → (bytes : List ℕ) (stage : Stage) (v : WorldView) (number : ℕ) (rest : List ℕ) (old new newer : Option (List ℕ)) → SoFar bytes stage v number rest old new → Appends new newer [] → LeavesIn old newer statuses.Memory bytes
 leaves_memory laws bytes stage v number rest old new newer s none =
     let text = text_of (journal_of (reverse s.before)) in
     (text, subst (Appends old newer) (append-nil text) (Appends-trans old new newer text [] s.put none), run_so_far laws bytes (reverse s.before) _ s.scenario_is)
 
 -- a line that isn't built ends the scenario
-leaves_unbuilt : Laws → (bytes : List ℕ) (stage : Stage) (v : MachineView) (number : ℕ) (rest line after : List ℕ) (old new : Option (List ℕ)) → (s : SoFar bytes stage v number rest old new) → lines_of rest ≡ line ∷ lines_of after → said s.before line ≡ None
+leaves_unbuilt : Laws → (bytes : List ℕ) (stage : Stage) (v : WorldView) (number : ℕ) (rest line after : List ℕ) (old new : Option (List ℕ)) → (s : SoFar bytes stage v number rest old new) → lines_of rest ≡ line ∷ lines_of after → said s.before line ≡ None
     → LeavesIn old new (statuses.Unbuilt number) bytes
 leaves_unbuilt laws bytes stage v number rest line after old new s is nothing =
     let here : scenario_from s.before number (lines_of rest) ≡ record { commands = []; unbuilt = Some number } = ap (scenario_from s.before number) is ∙ rw nothing refl in
     let scenario : scenario_of bytes ≡ onto_scenario (reverse s.before) (record { commands = []; unbuilt = Some number }) = s.scenario_is ∙ ap (onto_scenario (reverse s.before)) here in
     (text_of (journal_of (reverse s.before)), s.put, (ap (λ x. x.unbuilt) scenario, run_whole laws bytes (reverse s.before) _ scenario refl))
 
-pub leaves_unknown : Laws → (bytes : List ℕ) (stage : Stage) (v : MachineView) (number : ℕ) (rest line after : List ℕ) (old new : Option (List ℕ)) → SoFar bytes stage v number rest old new → lines_of rest ≡ line ∷ lines_of after → line_command line ≡ None
+pub leaves_unknown : Laws → (bytes : List ℕ) (stage : Stage) (v : WorldView) (number : ℕ) (rest line after : List ℕ) (old new : Option (List ℕ)) → SoFar bytes stage v number rest old new → lines_of rest ≡ line ∷ lines_of after → line_command line ≡ None
     → LeavesIn old new (statuses.Unbuilt number) bytes
 leaves_unknown laws bytes stage v number rest line after old new s is unknown = leaves_unbuilt laws bytes stage v number rest line after old new s is (said_unknown s.before line unknown)
 
-pub leaves_early : Laws → (bytes : List ℕ) (stage : Stage) (v : MachineView) (number : ℕ) (rest line after : List ℕ) (c : Command) (old new : Option (List ℕ)) → SoFar bytes stage v number rest old new → lines_of rest ≡ line ∷ lines_of after → line_command line ≡ Some (Some c)
+pub leaves_early : Laws → (bytes : List ℕ) (stage : Stage) (v : WorldView) (number : ℕ) (rest line after : List ℕ) (c : Command) (old new : Option (List ℕ)) → SoFar bytes stage v number rest old new → lines_of rest ≡ line ∷ lines_of after → line_command line ≡ Some (Some c)
     → next_stage stage c ≡ None → LeavesIn old new (statuses.Unbuilt number) bytes
 leaves_early laws bytes stage v number rest line after c old new s is command early =
     let may : may_stand s.before c ≡ false = sym (stage_tells stage s.before _ v c s.shown) ∙ ap is_some early in
     leaves_unbuilt laws bytes stage v number rest line after old new s is (said_early s.before line c command may)
 
-pub leaves_ok : Laws → (bytes : List ℕ) (stage : Stage) (v : MachineView) (number : ℕ) (rest : List ℕ) (old new : Option (List ℕ)) → SoFar bytes stage v number rest old new → rest ≡ [] → LeavesIn old new statuses.Ok bytes
+pub leaves_ok : Laws → (bytes : List ℕ) (stage : Stage) (v : WorldView) (number : ℕ) (rest : List ℕ) (old new : Option (List ℕ)) → SoFar bytes stage v number rest old new → rest ≡ [] → LeavesIn old new statuses.Ok bytes
 leaves_ok laws bytes stage v number rest old new s end =
     let here : scenario_from s.before number (lines_of rest) ≡ record { commands = []; unbuilt = None } = ap (λ r. scenario_from s.before number (lines_of r)) end in
     let scenario : scenario_of bytes ≡ onto_scenario (reverse s.before) (record { commands = []; unbuilt = None }) = s.scenario_is ∙ ap (onto_scenario (reverse s.before)) here in
     (text_of (journal_of (reverse s.before)), s.put, (ap (λ x. x.unbuilt) scenario, run_whole laws bytes (reverse s.before) _ scenario refl))
 
-pub leaves_write : Laws → (bytes : List ℕ) (stage next : Stage) (v : MachineView) (number : ℕ) (rest line after : List ℕ) (c : Command) (old new newer : Option (List ℕ)) → SoFar bytes stage v number rest old new → lines_of rest ≡ line ∷ lines_of after
+pub leaves_write : Laws → (bytes : List ℕ) (stage next : Stage) (v : WorldView) (number : ℕ) (rest line after : List ℕ) (c : Command) (old new newer : Option (List ℕ)) → SoFar bytes stage v number rest old new → lines_of rest ≡ line ∷ lines_of after
     → line_command line ≡ Some (Some c) → next_stage stage c ≡ Some next → AppendsFront new newer (text_of (lines.Do c ∷ lines_by v c)) → LeavesIn old newer statuses.WriteFault bytes
 leaves_write laws bytes stage next v number rest line after c old new newer s is command comes front =
     let done = reverse s.before in
     let n = front.0 in
-    let step = stepped stage next s.before (facts_after (journal_of done)) v c s.shown comes in
+    let step = stepped laws.wire laws.views stage next s.before (facts_after (journal_of done)) v c (laws.flowing done (done_placed laws bytes done _ s.scenario_is)) s.shown comes in
     let may : may_stand s.before c ≡ true = sym (stage_tells stage s.before (facts_after (journal_of done)) v c s.shown) ∙ ap is_some comes in
     let piece = text_of (lines.Do c ∷ lines_by v c) in
     let all : text_of (journal_of (done ++ c ∷ [])) ≡ text_of (journal_of done) ++ piece = text_more laws done c ∙ ap (λ xs. text_of (journal_of done) ++ text_of (lines.Do c ∷ xs)) step.1 in
@@ -194,6 +192,6 @@ no_run bytes = record {
   journal = [];
   text = refl;
   commands = record { rest = (scenario_of bytes).commands; is = refl };
-  history = record { legal = tt; told = tt };
+  history = record { legal = tt; carried = tt; told = tt };
   whole = refl;
 }

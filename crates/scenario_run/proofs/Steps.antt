@@ -30,11 +30,10 @@ use Rattle.scenario_run.specs.Memory.{MemoryView, frames_from, left_of, alloc_li
 use Rattle.scenario_run.specs.World.{WorldView, unborn, IsChildReady, IsReady, CanStep, no_child, new_child, next_child, hop_in, after_deliver, lines_by, after_step}
 use Rattle.scenario_run.specs.declared.world.Hop.{Hop}
 use Rattle.scenario_run.specs.declared.world.Hop.TheVariants as hops
-use Rattle.scenario_run.proofs.ChannelLemmas.{WireLaws}
+use Rattle.scenario_run.specs.Laws.{WireLaws, ViewLaws}
 use Rattle.scenario_run.proofs.Runs.{take-range, range-append}
 use Rattle.scenario_run.proofs.Shown.{IsHosted, frame_mapping, Shows, take-map, unused_frames_are, taken_is, free_at, pages_run, own_from-frames, own_from-owners, All-append, the_host, the_process}
 use Rattle.scenario_run.proofs.Tables.{at_put}
-use Rattle.scenario_run.proofs.Deliveries.{ViewLaws}
 use Rattle.scenario_run.proofs.Worlds.{IsWorld, world_ready}
 use Rattle.scenario_run.proofs.Births.{IsTied, with_pool, pooled, tied_host, tied_boot}
 use Rattle.scenario_run.proofs.Hops.{tied_deliver, tied_show, same_facts}

@@ -1,6 +1,5 @@
 -- What has been written of a text after one piece more, and after a piece that was cut.
-use Rattle.std.proofs.Common.{◌≡◌, ◌+◌, ◌-◌, ◌≤◌, ℕ, List, [], ◌++◌, length, take, drop, true, false, Option, Result, Ok, Err, OnErr, OnOk, refl, sym, ap, ◌∙◌, subst, arith, length-take, length-drop}
-use Rattle.std.specs.Result.{is_err}
+use Rattle.std.proofs.Common.{◌≡◌, ◌+◌, ◌-◌, ◌≤◌, ℕ, List, length, take, drop, Option, Result, Ok, Err, OnErr, sym, ap, ◌∙◌, subst, arith, length-take, length-drop}
 use Rattle.std.specs.Io.KnownBytes.{Appends}
 use Rattle.std.proofs.KnownBytes.{Appends-trans}
 use Rattle.std.proofs.Math.Seq.{take-add}
@@ -10,14 +9,6 @@ use Rattle.xm_edge.specs.Whole.{AppendsFront}
 pub on_err : {T E X : Type 0} (r : Result T E) → X → OnErr r X
 on_err (Ok x) h = tt
 on_err (Err e) h = h
-
-pub at_err : {T E : Type 0} (X : Type 0) (r : Result T E) → is_err r ≡ true → OnErr r X → X
-at_err X (Ok x) e h = cc
-at_err X (Err d) e h = h
-
-pub at_ok : {T E : Type 0} (X : Type 0) (r : Result T E) → is_err r ≡ false → OnOk r X → X
-at_ok X (Ok x) e h = h
-at_ok X (Err d) e h = cc
 
 -- one piece more
 pub piece_put : (a b c : Option (List ℕ)) (text : List ℕ) (at m : ℕ) → Appends a b (take at text) → Appends b c (take ((at + m) - at) (drop at text)) → Appends a c (take (at + m) text)

@@ -3,6 +3,7 @@ pub mod Channels
 pub mod Memory
 pub mod World
 pub mod Stage
+pub mod Laws
 pub mod Run
 pub mod Digits
 pub mod Reading

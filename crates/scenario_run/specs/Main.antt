@@ -1,8 +1,8 @@
 -- What the top call takes from its source and appends to its sink, by its status. A source or a sink that doesn't tell
 -- its bytes meets each of these.
-use Rattle.std.specs.Prelude.{◌≡◌, ◌≤◌, ◌<◌, ◌∷◌, [], ℕ, List, map, codes, String, string_bytes, length, Option, None, Some}
+use Rattle.std.specs.Prelude.{◌≡◌, ◌≤◌, ◌<◌, ◌⊎◌, ◌∷◌, [], ℕ, List, map, codes, String, string_bytes, length, Option, None, Some}
 use Rattle.std.specs.Global.{Global}
-use Rattle.std.specs.Io.KnownBytes.{Appends, Consumes, Keeps}
+use Rattle.std.specs.Io.KnownBytes.{Appends, Consumes, IsAtEnd, Keeps}
 use Rattle.xm_edge.specs.Whole.{GivesAll}
 use Rattle.global_model.specs.Scenario.{scenario_of}
 use Rattle.scenario_run.specs.Run.{IsRun, IsRunSoFar, IsRunCut}
@@ -53,6 +53,7 @@ pub record StopsForMemory (left left_new put put_new : Option (List ℕ)) : Type
   pub written : List ℕ
   pub wrote : Appends put put_new written
   pub run : IsRunSoFar bytes written
+  pub idle : IsAtEnd left_new ⊎ (written ≡ [])
 
 -- So many bytes were taken that no scenario has, and nothing was appended.
 pub record StopsAtLimit (left left_new put put_new : Option (List ℕ)) : Type 0 where

@@ -1,13 +1,11 @@
 -- What a run takes and writes.
-use Rattle.std.specs.Prelude.{◌≡◌, ◌≤◌, ◌<◌, ◌++◌, ◌∷◌, [], ℕ, List, map, codes, String, string_bytes, length, take, Option, None, Some}
-use Rattle.std.specs.Global.{Global}
-use Rattle.std.specs.Io.KnownBytes.{Appends, Consumes, Keeps}
-use Rattle.xm_edge.specs.Whole.{AppendsFront, GivesAll}
+use Rattle.std.specs.Prelude.{◌≡◌, ◌++◌, [], ℕ, List, take, Option, None, Some}
+use Rattle.std.specs.Io.KnownBytes.{Appends}
+use Rattle.xm_edge.specs.Whole.{AppendsFront}
 use Rattle.global_model.specs.declared.command.Command.{Command}
 use Rattle.global_model.specs.declared.line.Line.{Line}
 use Rattle.global_model.specs.Scenario.{scenario_of}
 use Rattle.global_model.specs.Spelling.{text_of}
-use Rattle.global_model.specs.Due.{journal_of}
 use Rattle.global_model.specs.History.{do_commands, IsHistory, IsWhole}
 use Rattle.scenario_run.specs.declared.status.Status.{Status}
 use Rattle.scenario_run.specs.declared.status.Status.TheVariants as statuses

@@ -5,11 +5,11 @@ ghost use Rattle.xemem_wire.specs.Spelling.{is_valid, AreValid};
 ghost use Rattle.scenario_run.specs.Channels as spec;
 ghost use Rattle.scenario_run.specs.Channels.{Flows};
 
+use crate::laws::laws;
 use byte_link::Link;
 use global_model::Line;
 use std::alloc::{AllocError, Global};
 use std::marker::Model;
-use xemem_wire::laws::{cut_spelling, spellings_are_read};
 use xemem_wire::{Decoder, FeedFault, Record, encode};
 
 // The most bytes that a channel takes in all, so that a place in its stream has a number.
@@ -93,8 +93,7 @@ impl Channel {
         ensures fed { OnOk result (self.new ≡ spec.with_fed self.old count) }
         ensures valid { self.old.decoding.records ≡ [] → OnOk result (AreValid self.new.decoding.records) }
     {
-        cut_spelling();
-        spellings_are_read();
+        laws();
         if self.fed > MOST_TAKEN {
             return Err(AllocError);
         }

@@ -5,11 +5,11 @@ ghost use Rattle.xm_edge.specs.Faults.{HasCause, Rose};
 ghost use Rattle.xm_edge.specs.Whole.{AppendsFront};
 ghost use Rattle.global_model.specs.declared.line.Line.TheVariants as lines;
 ghost use Rattle.global_model.specs.Spelling.{text_of};
-ghost use Rattle.scenario_run.specs.Machine.{CanStep, lines_by, after_step};
+ghost use Rattle.scenario_run.specs.World.{IsReady, CanStep, lines_by, after_step};
 ghost use Rattle.scenario_run.specs.Run.{FaultLeaves};
 
-use crate::machine::Machine;
 use crate::print::print_lines;
+use crate::world::World;
 use global_model::{Command, Lines};
 use std::alloc::Global;
 use xm_edge::{Sink, WriteFailed, write_all};
@@ -55,21 +55,22 @@ fn write_lines<K: Sink>(sink: &mut K, text: &[u8]) -> Result<(), WriteFailed>
 /// Executes a command and writes its lines. They are printed into `text` first, whose bytes are lost.
 pub fn execute<K: Sink>(
     alloc: Global,
-    machine: &mut Machine,
+    world: &mut World,
     command: &Command,
     text: &mut Vec<u8>,
     sink: &mut K,
 ) -> Result<(), Fault>
-    requires { CanStep machine.old command.now }
-    ensures after { OnOk result (machine.new ≡ after_step machine.old command.now) }
-    ensures written { OnOk result (Appends (K.contents sink.old) (K.contents sink.new) (text_of (lines.Do command.now ∷ lines_by machine.old command.now))) }
-    ensures failed { IfErr result (FaultLeaves (K.contents sink.old) (K.contents sink.new) (text_of (lines.Do command.now ∷ lines_by machine.old command.now))) }
+    requires can { CanStep world.old command.now }
+    requires ready { IsReady world.old }
+    ensures after { OnOk result (world.new ≡ after_step world.old command.now) }
+    ensures written { OnOk result (Appends (K.contents sink.old) (K.contents sink.new) (text_of (lines.Do command.now ∷ lines_by world.old command.now))) }
+    ensures failed { IfErr result (FaultLeaves (K.contents sink.old) (K.contents sink.new) (text_of (lines.Do command.now ∷ lines_by world.old command.now))) }
     ensures later { K.faults sink.old ≤ K.faults sink.new }
     ensures kept { OnOk result (K.faults sink.new ≡ K.faults sink.old) }
     ensures write { result ≡ Err Fault.Write → Rose (K.faults sink.old) (K.faults sink.new) }
 {
     let mut lines = Lines::new(alloc);
-    if machine.step(alloc, command, &mut lines).is_err() {
+    if world.step(alloc, command, &mut lines).is_err() {
         return Err(Fault::Memory);
     }
     text.clear();

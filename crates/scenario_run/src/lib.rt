@@ -4,6 +4,7 @@
 mod channel;
 mod child;
 mod execute;
+mod laws;
 mod main_call;
 mod memory;
 mod node;

@@ -1,5 +1,5 @@
 // The mapped pages of a process.
-ghost use Rattle.std.specs.Prelude.{◌≡◌, ◌≤◌, [], OnOk};
+ghost use Rattle.std.specs.Prelude.{◌≡◌, ◌≤◌, [], OnOk, OnErr};
 ghost use Rattle.scenario_run.specs.Rows as spec;
 
 use std::alloc::{AllocError, Global};
@@ -40,9 +40,10 @@ impl Pages {
         self.rows.get(&page.0).copied()
     }
 
-    /// Maps a page.
+    /// Maps a page. For want of memory the pages stay as they were.
     pub fn insert(&mut self, page: Vpn, frame: Frame) -> Result<(), AllocError>
         ensures ok { OnOk result (self.new ≡ spec.put self.old page.0 frame) }
+        ensures err { OnErr result (self.new ≡ self.old) }
     {
         self.rows.insert(page.0, frame)?;
         Ok(())

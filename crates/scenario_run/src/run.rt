@@ -5,10 +5,10 @@ ghost use Rattle.scenario_run.specs.Run.{LeavesIn};
 
 use crate::Status;
 use crate::execute::{Fault, execute};
-use crate::machine::Machine;
+use crate::laws::laws;
 use crate::read::{Reading, first_line, read_line};
 use crate::stage::{Stage, next_stage};
-use global_model::{journals_are_legal, journals_grow, one_journal, scenarios_are_placed};
+use crate::world::World;
 use std::alloc::Global;
 use xm_edge::Sink;
 
@@ -19,11 +19,8 @@ pub fn run<K: Sink>(alloc: Global, bytes: &[u8], sink: &mut K) -> Status
     ensures later { K.faults sink.old ≤ K.faults sink.new }
     ensures write { result ≡ Status.WriteFault → Rose (K.faults sink.old) (K.faults sink.new) }
 {
-    one_journal();
-    journals_grow();
-    journals_are_legal();
-    scenarios_are_placed();
-    let mut machine = Machine::new(alloc);
+    laws();
+    let mut world = World::new(alloc);
     let mut stage = Stage::Pool;
     let mut text = Vec::new(alloc);
     let mut rest = bytes;
@@ -37,7 +34,7 @@ pub fn run<K: Sink>(alloc: Global, bytes: &[u8], sink: &mut K) -> Status
                 let Some(next) = next_stage(stage, &command) else {
                     return Status::Unbuilt { line: number };
                 };
-                match execute(alloc, &mut machine, &command, &mut text, sink) {
+                match execute(alloc, &mut world, &command, &mut text, sink) {
                     Ok(()) => stage = next,
                     Err(Fault::Memory) => return Status::Memory,
                     Err(Fault::Write) => return Status::WriteFault,

@@ -1,5 +1,5 @@
 -- A decoder's state after pieces of a stream.
-use Rattle.std.proofs.Common.{◌≡◌, ℕ, ◌+◌, ◌-◌, ◌<◌, ◌≤◌, Bool, true, false, Option, Some, None, List, [], ◌∷◌, ◌++◌, length, take, drop, refl, sym, ap, ◌∙◌, subst, if◌then◌else◌, inl, inr, arith, append_assoc, length-append}
+use Rattle.std.proofs.Common.{◌≡◌, ℕ, ◌+◌, ◌-◌, ◌≤◌, Bool, true, false, Option, Some, None, List, [], ◌++◌, length, refl, sym, ap, ◌∙◌, if◌then◌else◌, inl, inr, arith, append_assoc, length-append}
 use Rattle.std.specs.Prelude.{is_some}
 use Rattle.std.specs.Option.{option_map}
 use Rattle.std.proofs.lemmas.Bool.{cases_Bool}
@@ -8,7 +8,7 @@ use Rattle.std.proofs.lemmas.List.{append-nil}
 use Rattle.xemem_wire.specs.declared.format.Record.{Record}
 use Rattle.xemem_wire.specs.declared.format.BadField.{BadField}
 use Rattle.xemem_wire.specs.Faults.{fault_of}
-use Rattle.xemem_wire.specs.Stream.{front_record, Reading, after_records, nothing_read, reading_of, records_of, rest_of, moved, first_bad}
+use Rattle.xemem_wire.specs.Stream.{after_records, reading_of, records_of, rest_of, moved, first_bad}
 use Rattle.xemem_wire.specs.Decoding.{Decoding, taken, after_piece}
 use Rattle.xemem_wire.proofs.FaultLemmas.{fault_of-append}
 use Rattle.xemem_wire.proofs.StreamLemmas.{option_cases, moved_twice, reading_of-none, reading_of-append, length-rest_of, fault_stops, first_bad-append}

@@ -1,6 +1,6 @@
 -- The first bad field of a record's front, when more bytes come.
-use Rattle.std.proofs.Common.{◌≡◌, ℕ, ◌≤◌, nat_le, Bool, true, false, not, Option, Some, None, List, [], ◌∷◌, ◌++◌, length, take, refl, sym, inl, inr, arith, length-append, lit≤}
-use Rattle.std.proofs.lemmas.Bool.{cases_Bool, and_parts, and_cases, le-leb}
+use Rattle.std.proofs.Common.{◌≡◌, ℕ, ◌≤◌, nat_le, Bool, true, false, not, Some, None, List, [], ◌∷◌, ◌++◌, length, take, refl, sym, inl, inr, arith, length-append, lit≤}
+use Rattle.std.proofs.lemmas.Bool.{cases_Bool, and_parts, le-leb}
 use Rattle.std.proofs.lemmas.Option.{none-some}
 use Rattle.std.proofs.lemmas.List.{take-append-le}
 use borrow.Author.Tests.{leb-true}

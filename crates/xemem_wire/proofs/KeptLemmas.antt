@@ -1,20 +1,20 @@
 -- How a decoder keeps its bytes, through its calls.
-use Rattle.std.proofs.Common.{◌≡◌, ℕ, ◌+◌, ◌-◌, ◌<◌, ◌≤◌, Bool, true, false, Option, Some, None, List, [], ◌∷◌, ◌++◌, length, take, drop, get_or, refl, sym, ap, ◌∙◌, subst, if◌then◌else◌, inl, inr, arith, append_assoc, length-append, length-drop, length-take, drop-drop, take-append-drop}
+use Rattle.std.proofs.Common.{◌≡◌, ℕ, ◌+◌, ◌-◌, ◌<◌, ◌≤◌, Option, Some, None, List, [], ◌∷◌, ◌++◌, length, take, drop, refl, sym, ap, ◌∙◌, subst, if◌then◌else◌, inl, inr, arith, length-drop, drop-drop}
 use Rattle.std.specs.Prelude.{is_some}
 use Rattle.std.specs.Option.{option_map}
 use Rattle.std.proofs.lemmas.Bool.{cases_lt, false≢true}
 use Rattle.std.proofs.lemmas.Option.{none-some}
 use Rattle.std.proofs.lemmas.List.{append-nil, drop-append-le, drop-take, take_at, length-take-le, take_rest, drop_all}
-use Rattle.xemem_wire.specs.declared.format.Record.{Record}
 use Rattle.xemem_wire.specs.declared.format.BadField.{BadField}
 use Rattle.xemem_wire.specs.Table.{u32_at}
 use Rattle.xemem_wire.specs.Spelling.{spelling_of, spellings_of}
 use Rattle.xemem_wire.specs.Faults.{first_failed, fault_of}
 use Rattle.xemem_wire.specs.Stream.{record_at, front_record, Reading, onto, after_records, nothing_read, reading_of, records_of, rest_of, moved, first_bad}
-use Rattle.xemem_wire.specs.Decoding.{Decoding, decoded, nothing_taken, IsKept, Takes, taken, after_piece}
-use Rattle.xemem_wire.proofs.SpellingLemmas.{IsBytes, u32_at-spelling_of, spelling_long, told_length}
-use Rattle.xemem_wire.proofs.StreamLemmas.{option_cases, Begins, front_record_begins, front_record_short, front_record-spelling_of, reading_of-none, reading_of-some, reading_of-spellings, reading_of-append, Splits, splits, length-rest_of, front_record-is, whole_found}
-use Rattle.xemem_wire.proofs.DecodingLemmas.{decoding_equal, taken-fine, taken-bad, going_on, stopped_at, after_piece-going}
+use Rattle.xemem_wire.specs.Decoding.{Decoding, nothing_taken, after_piece}
+use Rattle.xemem_wire.specs.Kept.{decoded, IsKept, Takes}
+use Rattle.xemem_wire.proofs.SpellingLemmas.{IsBytes, u32_at-spelling_of, told_length}
+use Rattle.xemem_wire.proofs.StreamLemmas.{option_cases, Begins, front_record_begins, front_record_short, reading_of-none, reading_of-some, reading_of-spellings, reading_of-append, Splits, splits, length-rest_of, front_record-is, whole_found}
+use Rattle.xemem_wire.proofs.DecodingLemmas.{decoding_equal, taken-fine, taken-bad, stopped_at, after_piece-going}
 
 pub reading_of-empty : reading_of [] ≡ nothing_read []
 reading_of-empty = reading_of-none [] (front_record_short [] (omega arith))

@@ -1,5 +1,5 @@
 -- The laws of spellings and of streams.
-use Rattle.std.proofs.Common.{◌≡◌, ℕ, ◌+◌, ◌-◌, ◌<◌, Bool, true, false, if◌then◌else◌, Option, Some, None, List, [], ◌∷◌, ◌++◌, length, take, drop, fold, refl, sym, ap, ◌∙◌, arith, append_assoc, length-append}
+use Rattle.std.proofs.Common.{◌≡◌, ℕ, ◌+◌, ◌-◌, ◌<◌, true, if◌then◌else◌, Option, Some, None, List, [], ◌∷◌, ◌++◌, length, take, drop, fold, refl, sym, ap, ◌∙◌, arith, append_assoc, length-append}
 use Rattle.std.specs.Prelude.{is_some}
 use Rattle.std.specs.List.{flat_map}
 use Rattle.std.specs.Option.{option_map}
@@ -10,9 +10,9 @@ use Rattle.xemem_wire.specs.declared.format.BadField.{BadField}
 use Rattle.xemem_wire.specs.Spelling.{spelling_of, spellings_of, is_valid, AreValid}
 use Rattle.xemem_wire.specs.Faults.{first_failed, fault_of}
 use Rattle.xemem_wire.specs.Stream.{front_record, after_records, nothing_read, reading_of, records_of, rest_of, moved, first_bad, IsSplit}
-use Rattle.xemem_wire.specs.Decoding.{Decoding, nothing_taken, taken, after_piece, from_the_start}
-use Rattle.xemem_wire.proofs.StreamLemmas.{option_cases, moved_twice, front_record-spelling_of, Begins, front_record_begins, Splits, splits, reading_of-splits, reading_of-spellings, reading_of-take, fault_of-take, length-rest_of}
-use Rattle.xemem_wire.proofs.DecodingLemmas.{decoding_equal, after_piece-going, after_piece-append}
+use Rattle.xemem_wire.specs.Decoding.{nothing_taken, taken, after_piece, from_the_start}
+use Rattle.xemem_wire.proofs.StreamLemmas.{option_cases, moved_twice, front_record-spelling_of, Begins, front_record_begins, Splits, splits, reading_of-append, reading_of-splits, reading_of-spellings, reading_of-take, fault_of-take, length-rest_of}
+use Rattle.xemem_wire.proofs.DecodingLemmas.{first_bad-fault, decoding_equal, after_piece-going, after_piece-append}
 use Rattle.xemem_wire.proofs.KeptLemmas.{reading_of-empty}
 
 pub one_spelling : (r s : Record) (x y : List ℕ) → is_valid r ≡ true → is_valid s ≡ true → spelling_of r ++ x ≡ spelling_of s ++ y → (r ≡ s) × (x ≡ y)
@@ -68,6 +68,37 @@ first_bad-cut rs r n h k short =
     first_bad-spellings rs (take n (spelling_of r)) h
     ∙ ap (option_map (moved (length (spellings_of rs)))) (first_bad-take r n k short)
 
+-- the empty stream
+fault_of-empty : fault_of [] ≡ None
+unfolding fault_of first_failed
+fault_of-empty = refl
+
+first_bad-empty : first_bad [] ≡ None
+unfolding first_bad
+first_bad-empty =
+    ap (option_map (moved (0 - length (rest_of [])))) (ap fault_of (ap (λ reading. reading.rest) reading_of-empty) ∙ fault_of-empty)
+
+-- a front of valid records has no bad field
+pub first_bad-front : (rs : List Record) (bytes more : List ℕ) → AreValid rs → bytes ++ more ≡ spellings_of rs → first_bad bytes ≡ None
+first_bad-front rs bytes more h e =
+    let all : first_bad (bytes ++ more) ≡ None
+    = ap first_bad (e ∙ sym (append-nil (spellings_of rs))) ∙ first_bad-spellings rs [] h
+    ∙ ap (option_map (moved (length (spellings_of rs)))) first_bad-empty in
+    option_cases (first_bad bytes) (λ none. none)
+    (λ bad found. absurd (none-some bad (sym all ∙ first_bad-fault bytes more bad found)))
+
+-- the records of a front are the first ones
+pub records_of-front : (rs : List Record) (bytes more : List ℕ) → AreValid rs → bytes ++ more ≡ spellings_of rs → (later : List Record) × (rs ≡ records_of bytes ++ later) × (rest_of bytes ++ more ≡ spellings_of later)
+records_of-front rs bytes more h e =
+    let left : List ℕ = rest_of bytes ++ more in
+    let read = sym (reading_of-append bytes more) ∙ ap reading_of (e ∙ sym (append-nil (spellings_of rs)))
+    ∙ reading_of-spellings rs [] h ∙ ap (after_records rs) reading_of-empty in
+    let none : rest_of left ≡ [] = ap (λ reading. reading.rest) read in (
+      records_of left,
+      sym (ap (λ reading. reading.records) read ∙ append-nil rs),
+      (splits left).whole ∙ ap (λ xs. spellings_of (records_of left) ++ xs) none ∙ append-nil (spellings_of (records_of left)),
+    )
+
 -- a decoder that has taken a whole stream
 moved_none : (bad : Option BadField) → option_map (moved 0) bad ≡ bad
 moved_none None = refl
@@ -77,15 +108,6 @@ after_piece-nothing_taken : (bytes : List ℕ) → after_piece nothing_taken byt
 after_piece-nothing_taken bytes =
     after_piece-going nothing_taken bytes refl
     ∙ decoding_equal (taken nothing_taken bytes) (from_the_start bytes) refl refl (omega arith) (moved_none (first_bad bytes))
-
-fault_of-empty : fault_of [] ≡ None
-unfolding fault_of first_failed
-fault_of-empty = refl
-
-first_bad-empty : first_bad [] ≡ None
-unfolding first_bad
-first_bad-empty =
-    ap (option_map (moved (0 - length (rest_of [])))) (ap fault_of (ap (λ reading. reading.rest) reading_of-empty) ∙ fault_of-empty)
 
 from_nothing : from_the_start [] ≡ nothing_taken
 from_nothing =

@@ -1,17 +1,17 @@
 -- The spelling of a valid record has no bad field and gives the record back; a front without a bad field is a spelling.
-use Rattle.std.proofs.Common.{◌≡◌, ℕ, ◌+◌, ◌*◌, ◌/◌, ◌%◌, ◌^◌, ◌<◌, ◌≤◌, Bool, true, false, not, inl, inr, Option, Some, None, List, [], ◌∷◌, ◌++◌, eqb, leb, lit<, length, take, drop, get_or, refl, sym, ap, ◌∙◌, subst, arith, rules}
-use Rattle.std.proofs.lemmas.Bool.{cases_Bool, and_parts, and_from, and_right, not_from_true, ne_eqb, eqb-true}
+use Rattle.std.proofs.Common.{◌≡◌, ℕ, ◌+◌, ◌*◌, ◌/◌, ◌%◌, ◌^◌, ◌<◌, ◌≤◌, true, not, inl, inr, Option, Some, None, List, ◌∷◌, ◌++◌, eqb, leb, lit<, length, take, drop, get_or, refl, sym, ap, ◌∙◌, arith}
+use Rattle.std.proofs.lemmas.Bool.{cases_Bool, and_parts, and_from, ne_eqb, eqb-true}
 use Rattle.std.proofs.lemmas.List.{get_or-take}
 use Rattle.std.proofs.lemmas.Bool.Decides.{nat_tests}
 use borrow.Author.Tests.{leb-true, ltb-true}
+use Rattle.std.specs.List.{AllByRecursion}
 use Rattle.xm_num.specs.declared.Enclave.{Enclave}
 use Rattle.xemem_wire.specs.declared.format.Record.{Record}
 use Rattle.xemem_wire.specs.declared.format.Body.{Body}
 use Rattle.xemem_wire.specs.declared.format.Body.TheVariants as bodies
-use Rattle.xemem_wire.specs.declared.format.BadField.{BadField}
-use Rattle.xemem_wire.specs.Table.{kind_of, is_built, body_of, is_enclave, has_call, is_undirected, is_destination, is_call, destination_of, destination_number, u8_at, u16_at, u32_at}
+use Rattle.xemem_wire.specs.Table.{kind_of, is_built, body_of, is_enclave, has_call, is_undirected, is_destination, is_call, destination_of, destination_number, u32_at}
 use Rattle.xemem_wire.specs.Spelling.{header_of, spelling_of, is_valid}
-use Rattle.xemem_wire.specs.Faults.{Check, checks, is_failed, first_failed, fault_of}
+use Rattle.xemem_wire.specs.Faults.{checks, fault_of}
 use Rattle.xemem_wire.specs.Stream.{record_at}
 use Rattle.xemem_wire.proofs.FaultLemmas.{first_failed-met, met-first_failed}
 
@@ -22,6 +22,9 @@ length-spelling_of r = refl
 -- a spelling has a whole header
 pub spelling_long : (r : Record) → 16 ≤ length (spelling_of r)
 spelling_long r = omega (arith, length-spelling_of r)
+
+pub spelling_short : (r : Record) → is_valid r ≡ true → length (spelling_of r) ≤ 16404
+spelling_short r h = omega (arith, length-spelling_of r)
 
 -- and begins with its length
 pub u32_at-spelling_of : (r : Record) (more : List ℕ) → u32_at (spelling_of r ++ more) 0 ≡ length (spelling_of r)
@@ -75,6 +78,14 @@ valid_parts r h =
     let two = and_parts _ _ three.0 in
     let one = and_parts _ _ two.0 in
     record { built = one.0; origin = one.1; dest = two.1; call = three.1 }
+
+-- it consists of bytes
+pub spelling_bytes : (r : Record) → is_valid r ≡ true → AllByRecursion (λ byte. byte < 256) (spelling_of r)
+unfolding spelling_of header_of
+spelling_bytes r h =
+    let v : Valid r = valid_parts r h in
+    let kind : kind_of r.body ≤ 4 = leb-true (kind_of r.body) 4 (and_parts (leb 1 (kind_of r.body)) (leb (kind_of r.body) 4) v.built).1 in
+    (omega arith, (omega arith, (omega arith, (omega arith, (omega arith, (omega arith, (omega arith, (omega arith, (omega arith, (omega arith, (omega arith, (omega arith, (omega arith, (omega arith, (omega arith, (omega arith, tt))))))))))))))))
 
 pub record_at-spelling_of : (r : Record) (more : List ℕ) → is_valid r ≡ true → record_at (spelling_of r ++ more) ≡ r
 unfolding spelling_of header_of record_at

@@ -1,11 +1,10 @@
 -- What a decoder has of its stream.
-use Rattle.std.specs.Prelude.{◌≡◌, ℕ, ◌+◌, ◌-◌, ◌≤◌, Bool, true, Option, Some, None, List, [], ◌++◌, length, take, drop, is_some, if◌then◌else◌}
+use Rattle.std.specs.Prelude.{◌≡◌, ℕ, ◌+◌, ◌-◌, Option, Some, None, List, [], ◌++◌, length, is_some, if◌then◌else◌}
 use Rattle.std.specs.Option.{option_map}
 use Rattle.xemem_wire.specs.declared.format.Record.{Record}
 use Rattle.xemem_wire.specs.declared.format.BadField.{BadField}
 use Rattle.xemem_wire.specs.declared.format.FeedFault.{FeedFault}
 use Rattle.xemem_wire.specs.declared.format.FeedFault.TheVariants as feeds
-use Rattle.xemem_wire.specs.Faults.{fault_of}
 use Rattle.xemem_wire.specs.Stream.{records_of, rest_of, first_bad, moved}
 
 -- the whole records that weren't given yet, the bytes after the last whole record, how many bytes of the stream
@@ -18,26 +17,6 @@ pub record Decoding : Type 0 where
 
 abbrev pub nothing_taken : Decoding
 nothing_taken = record { records = []; rest = []; before = 0; bad = None }
-
--- what these bytes are, where so many came before
-abbrev pub decoded : List ℕ → ℕ → Option BadField → Decoding
-decoded bytes before bad = record { records = records_of bytes; rest = rest_of bytes; before = before; bad = bad }
-
--- how a decoder keeps its bytes: the next record begins at given, and the rest at whole
-pub record IsKept (bytes : List ℕ) (given whole : ℕ) (bad : Option BadField) : Type 0 where
-  pub order : given ≤ whole
-  pub within : whole ≤ length bytes
-  pub rest : rest_of (drop given bytes) ≡ drop whole bytes
-  pub fine : fault_of (drop whole bytes) ≡ None
-  pub stopped : is_some bad ≡ true → whole ≡ length bytes
-
--- a piece is taken behind the kept bytes: the rest begins at start, and is dropped where it has a bad field
-pub record Takes (bytes piece new : List ℕ) (whole start : ℕ) (bad : Option BadField) : Type 0 where
-  pub order : whole ≤ start
-  pub within : start ≤ length (bytes ++ piece)
-  pub rest : drop start (bytes ++ piece) ≡ rest_of (drop whole (bytes ++ piece))
-  pub bad_is : bad ≡ fault_of (drop start (bytes ++ piece))
-  pub new_is : new ≡ (if is_some bad then take start (bytes ++ piece) else (bytes ++ piece))
 
 -- the next bytes are taken; at a bad field the bytes after the last whole record go
 abbrev pub taken : Decoding → List ℕ → Decoding

@@ -16,48 +16,50 @@ abbrev pub kind_at : List ℕ → ℕ
 kind_at front = u8_at front 5
 
 -- the length is judged twice: for its range, and for the kind once that is there
-abbrev pub range : Check
-range = record {
+abbrev pub range_check : Check
+range_check = record {
   needs = 4;
   place = 0;
   fault = faults.Length;
   is_met = λ front. nat_le 16 (u32_at front 0) && nat_le (u32_at front 0) 16404;
 }
 
-abbrev pub version : Check
-version = record { needs = 5; place = 4; fault = faults.Version; is_met = λ front. u8_at front 4 == 1 }
+abbrev pub version_check : Check
+version_check = record { needs = 5; place = 4; fault = faults.Version; is_met = λ front. u8_at front 4 == 1 }
 
-abbrev pub kind : Check
-kind = record { needs = 6; place = 5; fault = faults.Kind; is_met = λ front. is_built (kind_at front) }
+abbrev pub kind_check : Check
+kind_check = record { needs = 6; place = 5; fault = faults.Kind; is_met = λ front. is_built (kind_at front) }
 
-abbrev pub kind_length : Check
-kind_length = record {
+abbrev pub kind_length_check : Check
+kind_length_check = record {
   needs = 6;
   place = 0;
   fault = faults.Length;
   is_met = λ front. is_length (kind_at front) (u32_at front 0);
 }
 
-abbrev pub origin : Check
-origin = record { needs = 8; place = 6; fault = faults.Field; is_met = λ front. is_enclave (u16_at front 6) }
+abbrev pub origin_check : Check
+origin_check = record { needs = 8; place = 6; fault = faults.Field; is_met = λ front. is_enclave (u16_at front 6) }
 
-abbrev pub destination : Check
-destination = record {
+abbrev pub destination_check : Check
+destination_check = record {
   needs = 10;
   place = 8;
   fault = faults.Field;
   is_met = λ front. is_destination (kind_at front) (destination_of (u16_at front 8));
 }
 
-abbrev pub zero_field : Check
-zero_field = record { needs = 12; place = 10; fault = faults.Zero; is_met = λ front. u16_at front 10 == 0 }
+abbrev pub zero_check : Check
+zero_check = record { needs = 12; place = 10; fault = faults.Zero; is_met = λ front. u16_at front 10 == 0 }
 
-abbrev pub call : Check
-call = record { needs = 16; place = 12; fault = faults.Field; is_met = λ front. is_call (kind_at front) (u32_at front 12) }
+abbrev pub call_check : Check
+call_check = record { needs = 16; place = 12; fault = faults.Field; is_met = λ front. is_call (kind_at front) (u32_at front 12) }
 
 -- in the order in which they are judged; the kinds that are built have no fields after the header
 abbrev pub checks : List Check
-checks = range ∷ version ∷ kind ∷ kind_length ∷ origin ∷ destination ∷ zero_field ∷ call ∷ []
+checks =
+    range_check ∷ version_check ∷ kind_check ∷ kind_length_check ∷ origin_check ∷ destination_check ∷ zero_check
+    ∷ call_check ∷ []
 
 -- the field is there and isn't allowed
 abbrev pub is_failed : List ℕ → Check → Bool

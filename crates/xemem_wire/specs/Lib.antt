@@ -3,3 +3,4 @@ pub mod Spelling
 pub mod Faults
 pub mod Stream
 pub mod Decoding
+pub mod Kept

@@ -1,6 +1,6 @@
 // A decoder for a stream of records that comes in any pieces.
 ghost use Rattle.std.specs.Prelude.{◌≡◌, ◌+◌, ◌^◌, ◌<◌, ◌≤◌, length, drop, slice_get, vec_len, IsSome, IfSome, IsErrOf, IfErr, IfOk, OnOk, OnErr, None, Some};
-ghost use Rattle.xemem_wire.specs.Decoding.{Takes};
+ghost use Rattle.xemem_wire.specs.Kept.{Takes};
 
 use crate::judge::{fault_in, u32_at};
 use crate::read::{record_in, rest_start, short_length};
@@ -11,7 +11,8 @@ use std::marker::Model;
 /// Takes a stream of records in any pieces and gives the whole records in order. At the first bad field it stops.
 ///
 /// The bytes of records that weren't given yet stay as they came. Those of given records go when they are half of all,
-/// so a byte is moved a constant number of times.
+/// so a byte is moved a constant number of times. What has come of a record is judged anew with each piece until the
+/// record is whole; it has 16 bytes, so each is read a constant number of times, also where they come one at a time.
 #[derive(Drop)]
 pub struct Decoder {
     bytes: Vec<u8>,
@@ -23,7 +24,8 @@ pub struct Decoder {
 
 impl Model for Decoder {
     ghost use Rattle.std.specs.Prelude.{drop};
-    ghost use Rattle.xemem_wire.specs.Decoding.{Decoding, decoded, IsKept};
+    ghost use Rattle.xemem_wire.specs.Decoding.{Decoding};
+    ghost use Rattle.xemem_wire.specs.Kept.{decoded, IsKept};
 
     ghost Value = { Decoding };
 

@@ -1,7 +1,7 @@
 // Which field of a record's front is the first that isn't allowed.
 ghost use Rattle.std.specs.Prelude.{◌≡◌, ℕ, ◌+◌, ◌<◌, ◌≤◌, length, IfSome};
 ghost use Rattle.xemem_wire.specs.Table.{u16_at, u32_at, is_undirected, has_call, is_built, is_enclave, is_destination, is_call, destination_of};
-ghost use Rattle.xemem_wire.specs.Faults.{is_failed, range, version, kind, kind_length, origin, destination, zero_field, call, fault_of};
+ghost use Rattle.xemem_wire.specs.Faults.{is_failed, range_check, version_check, kind_check, kind_length_check, origin_check, destination_check, zero_check, call_check, fault_of};
 
 use crate::{BadField, WireFault};
 use xm_num::Enclave;
@@ -88,56 +88,56 @@ pub(crate) fn destination_of(number: u16) -> Option<Enclave>
 
 /// Whether the length is there and out of its range.
 fn fails_range(front: &[u8]) -> bool
-    ensures { result ≡ is_failed front.now range }
+    ensures { result ≡ is_failed front.now range_check }
 {
     front.len() >= 4 && !(16..=16404).contains(&u32_at(front, 0))
 }
 
 /// Whether the version is there and isn't 1.
 fn fails_version(front: &[u8]) -> bool
-    ensures { result ≡ is_failed front.now version }
+    ensures { result ≡ is_failed front.now version_check }
 {
     front.len() >= 5 && front[4] != 1
 }
 
 /// Whether the kind is there and isn't built.
 fn fails_kind(front: &[u8]) -> bool
-    ensures { result ≡ is_failed front.now kind }
+    ensures { result ≡ is_failed front.now kind_check }
 {
     front.len() >= 6 && !is_built(front[5])
 }
 
 /// Whether the kind is there and has another length.
 fn fails_kind_length(front: &[u8]) -> bool
-    ensures { result ≡ is_failed front.now kind_length }
+    ensures { result ≡ is_failed front.now kind_length_check }
 {
     front.len() >= 6 && u32_at(front, 0) != 16
 }
 
 /// Whether the origin is there and is no enclave.
 fn fails_origin(front: &[u8]) -> bool
-    ensures { result ≡ is_failed front.now origin }
+    ensures { result ≡ is_failed front.now origin_check }
 {
     front.len() >= 8 && !is_enclave(u16_at(front, 6))
 }
 
 /// Whether the destination is there and isn't one of the kind.
 fn fails_destination(front: &[u8]) -> bool
-    ensures { result ≡ is_failed front.now destination }
+    ensures { result ≡ is_failed front.now destination_check }
 {
     front.len() >= 10 && !is_destination(front[5], destination_of(u16_at(front, 8)))
 }
 
 /// Whether the zero field is there and isn't 0.
 fn fails_zero(front: &[u8]) -> bool
-    ensures { result ≡ is_failed front.now zero_field }
+    ensures { result ≡ is_failed front.now zero_check }
 {
     front.len() >= 12 && u16_at(front, 10) != 0
 }
 
 /// Whether the call is there and isn't one of the kind.
 fn fails_call(front: &[u8]) -> bool
-    ensures { result ≡ is_failed front.now call }
+    ensures { result ≡ is_failed front.now call_check }
 {
     front.len() >= 16 && !is_call(front[5], u32_at(front, 12))
 }

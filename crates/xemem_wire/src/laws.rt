@@ -1,9 +1,10 @@
 // The laws of spellings and of streams. Each is the contract of a function that does nothing.
-ghost use Rattle.std.specs.Prelude.{◌≡◌, ◌≢◌, ℕ, ◌+◌, ◌-◌, ◌<◌, true, Option, None, Some, List, [], ◌∷◌, ◌++◌, length, take, fold};
-ghost use Rattle.std.specs.List.{flat_map};
+ghost use Rattle.std.specs.Prelude.{◌≡◌, ℕ, ◌<◌, ◌≤◌, true, None, Some, List, ◌++◌, length, take, fold};
+ghost use Rattle.std.specs.List.{flat_map, AllByRecursion};
 ghost use Rattle.std.specs.Option.{option_map};
+ghost use Rattle.xemem_wire.specs.Table.{u32_at};
 ghost use Rattle.xemem_wire.specs.Spelling.{spelling_of, spellings_of, is_valid, AreValid};
-ghost use Rattle.xemem_wire.specs.Stream.{Reading, reading_of, records_of, rest_of, onto, after_records, nothing_read, first_bad, moved, IsSplit};
+ghost use Rattle.xemem_wire.specs.Stream.{reading_of, records_of, rest_of, onto, after_records, nothing_read, first_bad, moved, IsSplit};
 ghost use Rattle.xemem_wire.specs.Decoding.{Decoding, nothing_taken, after_piece, from_the_start};
 ghost use Rattle.xemem_wire.specs.declared.format.Record.{Record};
 ghost use Rattle.xemem_wire.specs.declared.format.BadField.{BadField};
@@ -31,6 +32,14 @@ pub fn spellings_are_read()
         first_bad (spellings_of rs ++ more) ≡ option_map (moved (length (spellings_of rs))) (first_bad more) }
 {}
 
+/// The spelling of a valid record has the length that it tells, from a header to a longest record, and consists of bytes.
+pub fn spelling_length()
+    ensures told { (r : Record) (more : List ℕ) → u32_at (spelling_of r ++ more) 0 ≡ length (spelling_of r) }
+    ensures least { (r : Record) → 16 ≤ length (spelling_of r) }
+    ensures most { (r : Record) → is_valid r ≡ true → length (spelling_of r) ≤ 16404 }
+    ensures bytes { (r : Record) → is_valid r ≡ true → AllByRecursion (λ byte. byte < 256) (spelling_of r) }
+{}
+
 /// Where the last of several valid records is cut, the others are read, its front is the rest, and no field is bad.
 pub fn cut_spelling()
     ensures reading { (rs : List Record) (r : Record) (n : ℕ) → AreValid rs → is_valid r ≡ true →
@@ -38,6 +47,15 @@ pub fn cut_spelling()
         ≡ after_records rs (nothing_read (take n (spelling_of r))) }
     ensures fine { (rs : List Record) (r : Record) (n : ℕ) → AreValid rs → is_valid r ≡ true →
         n < length (spelling_of r) → first_bad (spellings_of rs ++ take n (spelling_of r)) ≡ None }
+{}
+
+/// A front of what valid records spell has no bad field. It is read as the first of these records, and what is left of it
+/// spells the others together with what is still to come.
+pub fn front_of_spellings()
+    ensures fine { (rs : List Record) (bytes more : List ℕ) → AreValid rs → bytes ++ more ≡ spellings_of rs →
+        first_bad bytes ≡ None }
+    ensures first { (rs : List Record) (bytes more : List ℕ) → AreValid rs → bytes ++ more ≡ spellings_of rs →
+        (later : List Record) × (rs ≡ records_of bytes ++ later) × (rest_of bytes ++ more ≡ spellings_of later) }
 {}
 
 /// After a bad field no more records come, and it stays the first.

@@ -46,61 +46,109 @@ pub struct Block(pub u16);
 /// The kind of an enclave.
 #[derive(Clone, Copy, Debug, PartialEq, Eq)]
 pub enum Kind {
+    /// The first enclave, which has no parent.
     Host,
+    /// A co-kernel on the machine's own frames.
     Cokernel,
+    /// A virtual machine, whose frames its monitor numbers anew.
     Vm,
 }
 
 /// What the pages of a permit may be used for.
 #[derive(Clone, Copy, Debug, PartialEq, Eq)]
 pub enum Access {
+    /// To read.
     ReadOnly,
+    /// To read and to write.
     ReadWrite,
 }
 
 /// What a touch wants of a page.
 #[derive(Clone, Copy, Debug, PartialEq, Eq)]
 pub enum Want {
+    /// To read a byte.
     Read,
+    /// To write a byte.
     Write,
 }
 
 /// An end of one of an enclave's channels, as that enclave sees it: its parent, or one of its children.
 #[derive(Clone, Copy, Debug, PartialEq, Eq)]
 pub enum Neighbour {
+    /// The parent.
     Up,
+    /// This child.
     Down(Enclave),
 }
 
 /// Why a command was refused.
 #[derive(Clone, Copy, Debug, PartialEq, Eq)]
 pub enum Cause {
+    /// The enclave isn't admitted, or there is no name server.
     NotReady,
+    /// The enclave has no such living process.
     NoProcess,
+    /// The process waits for an answer, or the enclave has something living.
     Busy,
+    /// An address, a size or an offset isn't a multiple of 4,096.
     BadAlign,
+    /// A size is 0, or pages lie outside what may be named.
     BadRange,
+    /// No live segment has the name.
     NoSegment,
+    /// The mode of the segment or the access of the page doesn't allow it.
     Denied,
+    /// There is no such permit.
     NoPermit,
+    /// A page is mapped already, or no run of pages is free.
     Taken,
+    /// The owner was heard dead.
     OwnerDied,
+    /// The enclave has too few unused frames.
     NoFrames,
+    /// The pool has too few free blocks.
     NoBlocks,
+    /// There are more than 4,096 pages.
     TooLarge,
+    /// Another process made the segment.
     NotOwner,
+    /// The page isn't mapped as it would have to be.
     NotMapped,
+    /// There is no such living enclave.
     NoEnclave,
+    /// A virtual machine can't be a parent.
     BadParent,
+    /// The enclave can't end: it is the host, or it or an enclave below it holds the name server.
     NameServerHeld,
+    /// An enclave was born with the name server.
     NameServerTaken,
+    /// A number has come to its limit.
     TooMany,
+    /// Neither enclave is the other's parent.
     NoLink,
 }
 
 #[cfg(test)]
 mod tests {
     use super::*;
+    use std::alloc::AllocError;
+
+    #[test]
+    fn lists_grow_at_their_end(rt: HostRuntime) -> Result<(), AllocError> {
+        let mut frames = FrameList::new(rt.alloc());
+        assert_eq!(rt; frames.len(), 0);
+        assert_eq!(rt; frames.get(0), None);
+        for number in [7, 3, 7] {
+            frames.push(Frame(number))?;
+        }
+        assert_eq!(rt; frames.len(), 3);
+        assert_eq!(rt; frames.get(1), Some(Frame(3)));
+        assert_eq!(rt;
+            frames.as_slice(),
+            [Frame(7), Frame(3), Frame(7)].as_slice()
+        );
+        Ok(())
+    }
 
     #[test]
     fn pages_of_sizes(rt: HostRuntime) {

@@ -1,5 +1,4 @@
 use Rattle.std.proofs.Common.{arith, sym, ap, ◌∙◌}
-use Rattle.std.proofs.lemmas.Option.{same_Some}
 use Rattle.std.specs.Prelude.{is_some, Some}
 use Rattle.xemem_wire.proofs.StreamLemmas.{none_short, none_faulty, none_partial, some_whole}
 use Rattle.xemem_wire.proofs.read.whole_length.Goals as goal

@@ -3,12 +3,13 @@ use Rattle.byte_link.specs.Channel.{waiting_bytes}
 use Rattle.xemem_wire.specs.Spelling.{AreValid}
 use Rattle.xemem_wire.specs.Decoding.{after_piece}
 use Rattle.scenario_run.specs.Channels.{ChannelView, Flows, with_fed}
-use Rattle.scenario_run.proofs.ChannelLemmas.{WireLaws, never_bad, came-valid}
+use Rattle.scenario_run.specs.Laws.{WireLaws}
+use Rattle.scenario_run.proofs.ChannelLemmas.{never_bad, came-valid}
 use Rattle.scenario_run.proofs.channel.Channel.take.Goals as goal
 
 pub unreachable-requires : goal.unreachable-requires
 unreachable-requires c =
-    let laws : WireLaws = record { first = c.spellings_are_read.ensures.first; bad = c.spellings_are_read.ensures.bad; reading = c.cut_spelling.ensures.reading; fine = c.cut_spelling.ensures.fine } in
+    let laws : WireLaws = c.laws.ensures.wire in
     let v : ChannelView = record { link = c.self.inside.link; decoding = c.self.inside.decoder } in
     let flows : Flows v = subst Flows (sym c.self.view_is) c.requires.flows in
     let refused = rw c.in-Err-Bad.field-0-is at c.in-Err-Bad.ensures.refused in
@@ -16,7 +17,7 @@ unreachable-requires c =
 
 pub returns-in-Ok-clause-valid : goal.returns-in-Ok-clause-valid
 returns-in-Ok-clause-valid c = λ none.
-    let laws : WireLaws = record { first = c.spellings_are_read.ensures.first; bad = c.spellings_are_read.ensures.bad; reading = c.cut_spelling.ensures.reading; fine = c.cut_spelling.ensures.fine } in
+    let laws : WireLaws = c.laws.ensures.wire in
     let v : ChannelView = record { link = c.self.inside.link; decoding = c.self.inside.decoder } in
     let flows : Flows v = subst Flows (sym c.self.view_is) c.requires.flows in
     let waits = subst (λ w. c.args.count ≤ length (waiting_bytes w.link)) (sym c.self.view_is) c.requires.waits in

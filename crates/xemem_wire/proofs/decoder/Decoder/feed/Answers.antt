@@ -1,7 +1,6 @@
-use Rattle.std.proofs.Common.{◌≡◌, ◌+◌, ◌-◌, length, None, drop, refl, sym, ap, ◌∙◌, arith}
-use Rattle.std.specs.Prelude.{is_some, Some}
-use Rattle.xemem_wire.specs.declared.format.BadField.{BadField}
-use Rattle.xemem_wire.specs.Decoding.{Decoding, decoded, after_piece}
+use Rattle.std.proofs.Common.{◌≡◌, ◌+◌, ◌-◌, length, None, refl, sym, ap, ◌∙◌, arith}
+use Rattle.std.specs.Prelude.{is_some}
+use Rattle.xemem_wire.specs.Decoding.{Decoding, after_piece}
 use Rattle.xemem_wire.proofs.DecodingLemmas.{after_piece-stopped, after_piece-count}
 use Rattle.xemem_wire.proofs.KeptLemmas.{Goes, goes, Stops, stops_at}
 use Rattle.xemem_wire.proofs.decoder.Decoder.feed.Goals as goal
