@@ -525,23 +525,12 @@ fn append_line(out: &mut Vec<u8>, line: &Line) -> Result<(), AllocError>
     Ok(())
 }
 
-// Appends the texts of lines. For want of memory a part of them may stand.
-fn append_lines(out: &mut Vec<u8>, lines: &[Line]) -> Result<(), AllocError>
+/// Appends the texts of lines. For want of memory a part of them may stand.
+pub fn print_lines(lines: &[Line], out: &mut Vec<u8>) -> Result<(), AllocError>
     ensures { OnOk result (out.new.items ≡ out.old.items ++ text_of lines.now) }
 {
     for line in lines {
         append_line(out, line)?;
     }
-    Ok(())
-}
-
-/// Appends the texts of lines in one piece. For want of memory the buffer stays as it was.
-pub fn print_lines(lines: &[Line], out: &mut Vec<u8>) -> Result<(), AllocError>
-    ensures ok { OnOk result (out.new.items ≡ out.old.items ++ text_of lines.now) }
-    ensures err { OnErr result (out.new.items ≡ out.old.items) }
-{
-    let mut text = Vec::new(*out.allocator());
-    append_lines(&mut text, lines)?;
-    out.extend_from_slice(&text)?;
     Ok(())
 }
