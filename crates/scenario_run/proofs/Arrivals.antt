@@ -5,14 +5,14 @@ use Rattle.xm_num.specs.declared.Enclave.{Enclave}
 use Rattle.xemem_wire.specs.declared.format.Record.{Record}
 use Rattle.xemem_wire.specs.declared.format.Body.{Body}
 use Rattle.xemem_wire.specs.declared.format.Body.TheVariants as bodies
-use Rattle.xemem_wire.specs.Spelling.{is_valid, AreValid}
+use Rattle.xemem_wire.specs.Spelling.{AreValid}
 use Rattle.global_model.specs.declared.line.Line.{Line}
 use Rattle.global_model.specs.declared.line.Line.TheVariants as lines
 use Rattle.global_model.specs.Facts.{Facts, EnclaveFact, ChannelFact, as_admitted, at_number, is_living_enclave, at_pair, with_sent, with_got, after_line, after_lines}
 use Rattle.global_model.specs.View.{View, knows_way, is_for, here_of, register_of, admit_of, drop_lines, body_lines, record_lines, own_lines, lines_of_records}
 use Rattle.scenario_run.specs.Channels.{sent_in}
 use Rattle.scenario_run.proofs.Links.{with_sents, with_got_all}
-use Rattle.scenario_run.proofs.ReceiveLemmas.{sent_in-append, own_lines-me, own_lines-append, record_lines-valid, own_of}
+use Rattle.scenario_run.proofs.ReceiveLemmas.{sent_in-append, own_lines-me, record_lines-valid, own_of}
 
 -- ---- which lines there are
 

@@ -1,34 +1,29 @@
 -- The host and a child are born by the facts as in the world, which shows the facts after it.
-use Rattle.std.proofs.Common.{◌≡◌, ◌≢◌, ◌+◌, ◌-◌, ◌*◌, ◌<◌, ◌≤◌, ℕ, zero, suc, List, [], ◌∷◌, ◌++◌, length, take, map, Bool, true, false, cond, eqb, ltb, leb, not, ◌&&◌, ◌||◌, Option, None, Some, refl, sym, ap, ◌∙◌, subst, inl, inr, arith, length-append}
+use Rattle.std.proofs.Common.{◌≡◌, ◌≢◌, ◌+◌, ◌-◌, ◌<◌, ◌≤◌, ℕ, List, [], ◌∷◌, ◌++◌, length, take, map, Bool, true, false, cond, eqb, ltb, leb, not, ◌&&◌, ◌||◌, Option, None, refl, sym, ap, ◌∙◌, subst, inl, inr, arith, length-append}
 use Rattle.std.specs.List.{range_with_len}
 use Rattle.std.specs.Prelude.{◌⊎◌, slice_index_or, filter}
 use Rattle.std.proofs.Math.ListN.{get_or-append}
 use Rattle.std.proofs.Math.Seq.{get_or-append_seam}
-use Rattle.std.proofs.lemmas.Bool.{cases_Bool, eqb-true, leb-true, leb-false, ltb-true, ltb-false, lt-ltb, le-ltb, le-leb, lt-leb, eq-eqb, ne_eqb}
+use Rattle.std.proofs.lemmas.Bool.{cases_Bool, leb-true, leb-false, ltb-true, ltb-false, le-ltb, le-leb, lt-leb, eq-eqb, ne_eqb}
 use Rattle.std.proofs.lemmas.List.{length-map}
 use Rattle.std.proofs.lemmas.List.FromFn.{length-range_with_len}
 use Rattle.std.proofs.lemmas.List.Elements.{filter_agree}
-use Rattle.xm_num.specs.declared.Enclave.{Enclave}
 use Rattle.xm_num.specs.declared.Block.{Block}
 use Rattle.xm_num.specs.declared.Kind.{Kind}
-use Rattle.xm_num.specs.declared.Cause.TheVariants as causes
-use Rattle.xemem_wire.specs.Spelling.{is_valid}
 use Rattle.global_model.specs.declared.command.Command.{Command}
 use Rattle.global_model.specs.declared.command.Command.TheVariants as commands
 use Rattle.global_model.specs.declared.line.Line.{Line}
 use Rattle.global_model.specs.declared.line.Line.TheVariants as lines
-use Rattle.global_model.specs.Facts.{Facts, BlockFact, Absent, Free, Lent, EnclaveFact, no_facts, no_channel, at_pair, with_sent, with_lent, is_listed, is_free, is_lent_to, is_living_enclave, is_holder, is_admitted, has_parent, after_line, after_lines}
+use Rattle.global_model.specs.Facts.{Facts, BlockFact, Absent, Free, Lent, EnclaveFact, no_facts, no_channel, with_sent, with_lent, is_listed, is_free, is_lent_to, is_living_enclave, is_holder, is_admitted, has_parent, after_line, after_lines}
 use Rattle.global_model.specs.Channels.{is_neighbour}
 use Rattle.global_model.specs.Space.{free_blocks}
-use Rattle.global_model.specs.Flow.{IsStar, IsFlowing}
-use Rattle.global_model.specs.View.{View, view_of, query_of}
+use Rattle.global_model.specs.Flow.{IsFlowing}
+use Rattle.global_model.specs.View.{view_of, query_of}
 use Rattle.global_model.specs.Due.{host, command_lines, step_lines}
-use Rattle.scenario_run.specs.declared.child.Child.{Child}
 use Rattle.scenario_run.specs.Channels.{no_bytes, with_record}
-use Rattle.scenario_run.specs.Memory.{MemoryView}
-use Rattle.scenario_run.specs.World.{WorldView, unborn, blocks_from, host_lines, after_host, new_child, no_child, next_child, is_full, is_short, boot_lines, after_boot, child_at}
+use Rattle.scenario_run.specs.World.{WorldView, unborn, blocks_from, host_lines, after_host, new_child, no_child, next_child, boot_lines, after_boot, child_at}
 use Rattle.scenario_run.proofs.Runs.{take-range, within, window_of_run}
-use Rattle.scenario_run.proofs.Shown.{IsHosted, take-map, born_blocks, listed_run}
+use Rattle.scenario_run.proofs.Shown.{take-map, born_blocks, listed_run}
 use Rattle.scenario_run.proofs.ReceiveLemmas.{query_valid}
 use Rattle.scenario_run.proofs.Links.{IsChannel, fresh_channel, channel_sent}
 use Rattle.scenario_run.proofs.Arrivals.{pair_same, pair_other}
@@ -227,7 +222,7 @@ child_world G v flowing h kind blocks room enough =
   where
     place : (n : ℕ) → length (v.children ++ new_child (next_child v) false ∷ []) ≡ n + 1 → ((i : ℕ) → i < length v.children → IsChildAt (after_lines G (child_born v kind blocks)) (i + 1) (child_at v i))
         → IsChildAt (after_lines G (child_born v kind blocks)) (length v.children + 1) (new_child (next_child v) false)
-        → (i : ℕ) → i < length (v.children ++ new_child (next_child v) false ∷ []) → (ltb i (length v.children) ≡ true) ⊎  (ltb i (length v.children) ≡ false)
+        → (i : ℕ) → i < length (v.children ++ new_child (next_child v) false ∷ []) → (ltb i (length v.children) ≡ true) ⊎ (ltb i (length v.children) ≡ false)
         → IsChildAt (after_lines G (child_born v kind blocks)) (i + 1) (slice_index_or (v.children ++ new_child (next_child v) false ∷ []) i no_child)
     place n one_more older newest i lt (inl old) =
         let within : i < length v.children = ltb-true i (length v.children) old in
@@ -255,12 +250,12 @@ tied_boot G v flowing h kind blocks =
       | inr room ↦ elim (cases_Bool (ltb (v.pool - v.lent) blocks)) [
         | inl short ↦ rw (full, room, count, short) (refl, h)
         | inr enough ↦
-        let fits : blocks ≤ v.pool - v.lent = ltb-false _ _ enough in
-        let some : length v.children < 255 = leb-false 255 (length v.children) room in
-        let lent = lent_are G v h blocks fits in
-        let same : (n : ℕ) → n ≡ length v.children + 1 → made n (blocks_from v.lent blocks) ≡ child_born v kind blocks = λ n is. ap (λ k. made k (blocks_from v.lent blocks)) is in
-        let ls : command_lines G (commands.Boot kind host blocks false) ≡ child_born v kind blocks = rw (full, room, count, enough, lent) (same G.born h.born) in
-        rw (room, enough) (ls, subst (λ more. IsWorld (after_lines G (lines.Do (commands.Boot kind host blocks false) ∷ more)) (record v { lent = v.lent + blocks; children = v.children ++ new_child (next_child v) false ∷ [] })) (sym ls) (child_world G v flowing h kind blocks some fits))
+            let fits : blocks ≤ v.pool - v.lent = ltb-false _ _ enough in
+            let some : length v.children < 255 = leb-false 255 (length v.children) room in
+            let lent = lent_are G v h blocks fits in
+            let same : (n : ℕ) → n ≡ length v.children + 1 → made n (blocks_from v.lent blocks) ≡ child_born v kind blocks = λ n is. ap (λ k. made k (blocks_from v.lent blocks)) is in
+            let ls : command_lines G (commands.Boot kind host blocks false) ≡ child_born v kind blocks = rw (full, room, count, enough, lent) (same G.born h.born) in
+            rw (room, enough) (ls, subst (λ more. IsWorld (after_lines G (lines.Do (commands.Boot kind host blocks false) ∷ more)) (record v { lent = v.lent + blocks; children = v.children ++ new_child (next_child v) false ∷ [] })) (sym ls) (child_world G v flowing h kind blocks some fits))
       ]
     ]
   where

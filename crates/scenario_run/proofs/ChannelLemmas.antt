@@ -11,7 +11,7 @@ use Rattle.xemem_wire.specs.declared.format.WireFault.{WireFault}
 use Rattle.xemem_wire.specs.declared.format.FeedFault.TheVariants as feeds
 use Rattle.xemem_wire.specs.Spelling.{spelling_of, header_of, spellings_of, is_valid, AreValid}
 use Rattle.xemem_wire.specs.Faults.{fault_of, first_failed}
-use Rattle.xemem_wire.specs.Stream.{reading_of, reading_within, records_of, onto, after_records, nothing_read, first_bad, moved}
+use Rattle.xemem_wire.specs.Stream.{reading_of, reading_within, records_of, onto, nothing_read, first_bad, moved}
 use Rattle.xemem_wire.specs.Decoding.{Decoding, after_piece, Leaves}
 use Rattle.global_model.specs.Channels.{size_of, whole_records}
 use Rattle.scenario_run.specs.Laws.{WireLaws}

@@ -1,12 +1,11 @@
 -- A delivery by the facts is the one that the world makes, and its nodes and channels show the facts after it.
-use Rattle.std.proofs.Common.{min, ◌≡◌, ◌≢◌, ◌+◌, ◌≤◌, ℕ, List, [], ◌∷◌, length, Bool, true, false, cond, eqb, refl, sym, ap, ◌∙◌, subst, arith}
+use Rattle.std.proofs.Common.{min, ◌≡◌, ◌≢◌, ◌≤◌, ℕ, List, [], ◌∷◌, length, Bool, true, false, cond, eqb, refl, sym, ap, ◌∙◌, subst, arith}
 use Rattle.xm_num.specs.declared.Enclave.{Enclave}
 use Rattle.byte_link.specs.Channel.{waiting_bytes}
-use Rattle.xemem_wire.specs.declared.format.Record.{Record}
 use Rattle.xemem_wire.specs.Spelling.{AreValid}
 use Rattle.global_model.specs.declared.line.Line.{Line}
 use Rattle.global_model.specs.declared.line.Line.TheVariants as lines
-use Rattle.global_model.specs.Facts.{Facts, ChannelFact, with_taken, is_living_enclave, after_line, after_lines}
+use Rattle.global_model.specs.Facts.{Facts, with_taken, is_living_enclave, after_line, after_lines}
 use Rattle.global_model.specs.Channels.{arriving, waiting_of}
 use Rattle.global_model.specs.View.{View, view_of, own_lines, lines_of_records}
 use Rattle.global_model.specs.Due.{got_lines, took_lines, deliver_lines}

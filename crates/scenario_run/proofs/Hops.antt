@@ -1,30 +1,26 @@
 -- What is delivered and shown by the facts is what the world delivers and shows.
-use Rattle.std.proofs.Common.{◌≡◌, ◌≢◌, ◌+◌, ◌-◌, ◌<◌, ◌≤◌, ℕ, zero, suc, List, [], ◌∷◌, length, Bool, true, false, cond, eqb, ltb, leb, not, ◌&&◌, ◌||◌, Option, None, Some, refl, sym, ap, ◌∙◌, subst, inl, inr, arith}
+use Rattle.std.proofs.Common.{◌≡◌, ◌≢◌, ◌+◌, ◌-◌, ◌<◌, ℕ, zero, suc, List, [], ◌∷◌, length, Bool, true, false, eqb, ltb, leb, not, ◌&&◌, ◌||◌, None, Some, refl, sym, ap, ◌∙◌, subst, inl, inr, arith}
 use Rattle.std.specs.Prelude.{◌⊎◌, slice_set, slice_index_or, drop}
 use Rattle.std.proofs.lemmas.Bool.{eqb-true, eqb-false, leb-true, leb-false, lt-ltb, le-ltb, le-leb, ne_eqb, and_parts}
 use Rattle.std.proofs.lemmas.List.{get_or-set_same, get_or-set_other, length-set}
 use Rattle.xm_num.specs.declared.Enclave.{Enclave}
 use Rattle.xm_num.specs.declared.Cause.{Cause}
 use Rattle.xm_num.specs.declared.Cause.TheVariants as causes
-use Rattle.byte_link.specs.Channel.{waiting_bytes}
-use Rattle.global_model.specs.declared.command.Command.{Command}
 use Rattle.global_model.specs.declared.command.Command.TheVariants as commands
-use Rattle.global_model.specs.declared.line.Line.{Line}
-use Rattle.global_model.specs.declared.line.Line.TheVariants as lines
 use Rattle.global_model.specs.Facts.{Facts, is_free, is_living_enclave, after_lines}
 use Rattle.global_model.specs.Channels.{is_neighbour, was_born, waiting_of}
 use Rattle.global_model.specs.Flow.{IsStar}
 use Rattle.global_model.specs.Refusals.{link_conditions, first_cause}
-use Rattle.global_model.specs.View.{View, view_of}
+use Rattle.global_model.specs.View.{view_of}
 use Rattle.global_model.specs.Due.{host, command_lines, bytes_lines}
 use Rattle.scenario_run.specs.declared.child.Child.{Child}
 use Rattle.scenario_run.specs.declared.world.Hop.{Hop}
 use Rattle.scenario_run.specs.declared.world.Hop.TheVariants as hops
 use Rattle.scenario_run.specs.Channels.{ChannelView}
-use Rattle.scenario_run.specs.World.{WorldView, hop_of, hop_in, channel_lines, node_after, inbound_after, outbound_after, no_child, child_at, deliver_lines, child_after_up, child_after_down, after_deliver, shown_lines, show_lines}
+use Rattle.scenario_run.specs.World.{WorldView, hop_of, hop_in, channel_lines, node_after, outbound_after, no_child, child_at, deliver_lines, child_after_up, child_after_down, after_deliver, shown_lines, show_lines}
 use Rattle.scenario_run.specs.Laws.{WireLaws, ViewLaws}
 use Rattle.scenario_run.proofs.Links.{IsChannel, waiting_is}
-use Rattle.scenario_run.proofs.Deliveries.{IsDelivered, IsMade, delivered}
+use Rattle.scenario_run.proofs.Deliveries.{IsMade, delivered}
 use Rattle.scenario_run.proofs.Worlds.{IsWorld, IsChildAt, enclave, hosted_other}
 use Rattle.scenario_run.proofs.Births.{IsTied}
 

@@ -1,19 +1,19 @@
 -- A channel shows the facts of what went over it.
-use Rattle.std.proofs.Common.{◌≡◌, ◌+◌, ◌-◌, ◌<◌, ◌≤◌, ℕ, zero, suc, List, [], ◌∷◌, ◌++◌, length, take, drop, Bool, true, false, cond, leb, Option, None, Some, refl, sym, ap, ◌∙◌, subst, arith, append-nil, append_assoc, length-append}
+use Rattle.std.proofs.Common.{◌≡◌, ◌+◌, ◌-◌, ◌≤◌, ℕ, zero, suc, List, [], ◌∷◌, ◌++◌, length, take, drop, true, false, cond, leb, None, refl, sym, ap, ◌∙◌, subst, arith, append-nil, append_assoc, length-append}
 use Rattle.std.specs.List.{concat}
 use Rattle.std.proofs.Math.Seq.{drop-append-add}
 use Rattle.std.proofs.lemmas.List.{drop_at}
-use Rattle.std.proofs.lemmas.Bool.{leb-true, le-leb}
+use Rattle.std.proofs.lemmas.Bool.{le-leb}
 use Rattle.std.proofs.lemmas.Grind.{flat_map-append}
 use Rattle.byte_link.specs.Channel.{Channel, waiting_bytes, filled, later_bytes, taken, sent}
 use Rattle.xemem_wire.specs.declared.format.Record.{Record}
 use Rattle.xemem_wire.specs.Spelling.{spelling_of, spellings_of, is_valid, AreValid}
 use Rattle.xemem_wire.specs.Stream.{reading_of, first_bad}
 use Rattle.xemem_wire.specs.Decoding.{Decoding, after_piece}
-use Rattle.global_model.specs.Facts.{ChannelFact, no_channel, with_sent, with_taken, with_got}
+use Rattle.global_model.specs.Facts.{ChannelFact, no_channel, with_sent, with_taken}
 use Rattle.global_model.specs.Channels.{size_of, whole_records, arriving, waiting_of}
 use Rattle.scenario_run.specs.Channels.{ChannelView, Flows, no_bytes, with_record, with_records, with_fed, with_all_given}
-use Rattle.scenario_run.specs.World.{IsDrained, taken_by, inbound_after, is_idle}
+use Rattle.scenario_run.specs.World.{IsDrained}
 use Rattle.scenario_run.specs.Laws.{WireLaws}
 use Rattle.scenario_run.proofs.ChannelLemmas.{IsFront, front_of_flow, front_bytes}
 

@@ -7,13 +7,11 @@ use Rattle.std.proofs.lemmas.List.{reverse-append}
 use Rattle.std.proofs.lemmas.List.Concat.{flat_map-append}
 use Rattle.xm_edge.specs.Whole.{AppendsFront}
 use Rattle.global_model.specs.declared.command.Command.{Command}
-use Rattle.global_model.specs.declared.line.Line.{Line}
 use Rattle.global_model.specs.declared.line.Line.TheVariants as lines
 use Rattle.global_model.specs.Words.{lines_of}
 use Rattle.global_model.specs.Scenario.{Scenario, scenario_of, scenario_from, said, line_command, may_stand, onto_scenario, IsPlaced, IsPlacedAfter}
 use Rattle.global_model.specs.Facts.{facts_after, after_lines}
 use Rattle.global_model.specs.Due.{journal_of, step_lines}
-use Rattle.global_model.specs.History.{do_commands, IsLegal, IsTold, IsWhole}
 use Rattle.global_model.specs.Spelling.{line_text, text_of}
 use Rattle.scenario_run.specs.declared.stage.Stage.{Stage}
 use Rattle.scenario_run.specs.Stage.{next_stage}

@@ -1,37 +1,29 @@
 -- The host's memory shows the facts.
-use Rattle.std.proofs.Common.{◌≡◌, ◌+◌, ◌-◌, ◌*◌, ◌/◌, ◌^◌, ◌<◌, ◌≤◌, ℕ, zero, suc, List, [], ◌∷◌, ◌++◌, length, take, map, filter, find, Bool, true, false, cond, eqb, ltb, leb, not, ◌&&◌, ◌||◌, Option, None, Some, is_some, is_none, refl, sym, ap, ◌∙◌, subst, inl, inr, arith, append-nil, append_assoc}
+use Rattle.std.proofs.Common.{◌≡◌, ◌+◌, ◌*◌, ◌/◌, ◌<◌, ◌≤◌, ℕ, zero, suc, List, [], ◌∷◌, ◌++◌, take, map, find, Bool, true, false, cond, eqb, ltb, leb, ◌&&◌, ◌||◌, Option, None, Some, is_some, refl, sym, ap, ◌∙◌, arith, append-nil, append_assoc}
 use Rattle.std.specs.List.{range_with_len, list_any, AllByRecursion}
-use Rattle.std.specs.Option.{option_map, option_map_or, option_or}
+use Rattle.std.specs.Option.{option_map, option_or}
 use Rattle.std.specs.Cmp.{unsigned_tied}
 use Rattle.std.specs.Ordering.{nat_cmp}
 use Rattle.std.specs.BTreeMap.{is_at}
 use Rattle.std.specs.Map.{lookup}
 use Rattle.std.proofs.lemmas.List.Folds.{find-append}
-use Rattle.std.proofs.lemmas.Bool.{cases_Bool, eqb-true, leb-true, leb-false, le-leb, lt-ltb, le-ltb, ne_eqb, and_parts}
-use Rattle.std.proofs.lemmas.List.{map-append, length-map}
-use Rattle.std.proofs.lemmas.List.FromFn.{length-range_with_len}
+use Rattle.std.proofs.lemmas.Bool.{eqb-true, le-leb, lt-ltb, ne_eqb}
 use Rattle.std.proofs.lemmas.List.Elements.{filter_agree}
 use Rattle.xm_num.specs.declared.Enclave.{Enclave}
 use Rattle.xm_num.specs.declared.Pid.{Pid}
-use Rattle.xm_num.specs.declared.Vpn.{Vpn}
 use Rattle.xm_num.specs.declared.Frame.{Frame}
 use Rattle.xm_num.specs.declared.Block.{Block}
-use Rattle.xm_num.specs.declared.Want.{Want}
 use Rattle.xm_num.specs.declared.Access.TheVariants as accesses
-use Rattle.xm_num.specs.declared.Cause.TheVariants as causes
-use Rattle.global_model.specs.declared.command.Command.{Command}
 use Rattle.global_model.specs.declared.command.Command.TheVariants as commands
-use Rattle.global_model.specs.declared.line.Line.{Line}
 use Rattle.global_model.specs.declared.line.Line.TheVariants as lines
-use Rattle.global_model.specs.Facts.{Facts, BlockFact, Absent, Free, Lent, OwnPage, no_facts, after_line, after_lines, own_from, is_listed, with_lent, is_free, is_lent_to, is_living_enclave}
+use Rattle.global_model.specs.Facts.{Facts, Absent, Free, OwnPage, no_facts, after_line, own_from, is_listed, is_free, is_lent_to, is_living_enclave}
 use Rattle.global_model.specs.Space.{Mapping, is_page_of, own_mapping, space_of, is_own_frame, is_unused, frame_list, unused_frames, free_blocks}
-use Rattle.global_model.specs.Refusals.{is_taken, refusal_of}
-use Rattle.global_model.specs.Scenario.{is_pool_for, is_proc, may_stand}
-use Rattle.global_model.specs.Due.{host, acts_of, command_lines, step_lines, touched_lines}
+use Rattle.global_model.specs.Refusals.{is_taken}
+use Rattle.global_model.specs.Due.{host}
 use Rattle.scenario_run.specs.Rows.{at, put, put_run, any_between}
 use Rattle.scenario_run.specs.Memory.{MemoryView, frames_from, left_of}
 use Rattle.scenario_run.specs.World.{blocks_from}
-use Rattle.scenario_run.proofs.Runs.{first_any, range_any, take-range, within, window_of_run, below_run, block_below, range-append}
+use Rattle.scenario_run.proofs.Runs.{first_any, range_any, take-range, within, window_of_run, below_run, block_below}
 use Rattle.scenario_run.proofs.Tables.{at_put}
 
 process : ℕ

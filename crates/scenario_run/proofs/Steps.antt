@@ -1,7 +1,7 @@
 -- Each command's lines are those that the rules give, and the world shows the facts after them.
-use Rattle.std.proofs.Common.{◌≡◌, ◌+◌, ◌-◌, ◌*◌, ◌/◌, ◌^◌, ◌<◌, ◌≤◌, ℕ, zero, suc, List, [], ◌∷◌, ◌++◌, length, take, map, Bool, true, false, cond, eqb, ltb, leb, not, ◌&&◌, ◌||◌, Option, None, Some, is_some, refl, sym, ap, ◌∙◌, subst, inl, inr, arith}
+use Rattle.std.proofs.Common.{◌≡◌, ◌+◌, ◌-◌, ◌/◌, ◌^◌, ◌<◌, ◌≤◌, ℕ, zero, suc, List, [], ◌∷◌, ◌++◌, length, take, map, Bool, true, false, cond, eqb, ltb, leb, not, ◌&&◌, ◌||◌, Option, None, Some, is_some, refl, sym, ap, ◌∙◌, subst, inl, inr, arith}
 use Rattle.std.specs.List.{range_with_len, list_any}
-use Rattle.std.proofs.lemmas.Bool.{cases_Bool, eqb-true, leb-true, leb-false, ltb-true, ltb-false, le-leb, ne_eqb, and_parts}
+use Rattle.std.proofs.lemmas.Bool.{cases_Bool, leb-true, leb-false, ltb-false, le-leb, ne_eqb, and_parts}
 use Rattle.std.proofs.lemmas.List.{map-append, length-map}
 use Rattle.std.proofs.lemmas.List.FromFn.{length-range_with_len}
 use Rattle.std.proofs.lemmas.List.Elements.{All-from_get_or}
@@ -10,32 +10,31 @@ use Rattle.xm_num.specs.declared.Pid.{Pid}
 use Rattle.xm_num.specs.declared.Vpn.{Vpn}
 use Rattle.xm_num.specs.declared.Frame.{Frame}
 use Rattle.xm_num.specs.declared.Kind.{Kind}
-use Rattle.xm_num.specs.declared.Kind.TheVariants as kinds
 use Rattle.xm_num.specs.declared.Want.{Want}
 use Rattle.global_model.specs.declared.command.Command.{Command}
 use Rattle.global_model.specs.declared.command.Command.TheVariants as commands
 use Rattle.global_model.specs.declared.line.Line.{Line}
 use Rattle.global_model.specs.declared.line.Line.TheVariants as lines
-use Rattle.global_model.specs.Facts.{Facts, no_facts, after_line, after_lines, own_from}
+use Rattle.global_model.specs.Facts.{Facts, no_facts, after_lines, own_from}
 use Rattle.global_model.specs.Space.{Mapping, space_of, frame_list, unused_frames}
 use Rattle.global_model.specs.Refusals.{is_taken}
-use Rattle.global_model.specs.Scenario.{is_cokernel, is_pool_for, is_proc, may_stand}
+use Rattle.global_model.specs.Scenario.{is_cokernel, is_proc, may_stand}
 use Rattle.global_model.specs.Flow.{IsFlowing}
 use Rattle.global_model.specs.Due.{host, command_lines, step_lines}
 use Rattle.scenario_run.specs.declared.stage.Stage.{Stage}
 use Rattle.scenario_run.specs.declared.stage.Stage.TheVariants as stages
 use Rattle.scenario_run.specs.Stage.{next_stage}
 use Rattle.scenario_run.specs.Rows.{at, put_run, any_between}
-use Rattle.scenario_run.specs.Memory.{MemoryView, frames_from, left_of, alloc_lines, after_alloc, page_of, found_lines, touch_lines}
+use Rattle.scenario_run.specs.Memory.{MemoryView, frames_from, left_of, alloc_lines, after_alloc, page_of, touch_lines}
 use Rattle.scenario_run.specs.World.{WorldView, unborn, IsChildReady, IsReady, CanStep, no_child, new_child, next_child, hop_in, after_deliver, lines_by, after_step}
 use Rattle.scenario_run.specs.declared.world.Hop.{Hop}
 use Rattle.scenario_run.specs.declared.world.Hop.TheVariants as hops
 use Rattle.scenario_run.specs.Laws.{WireLaws, ViewLaws}
 use Rattle.scenario_run.proofs.Runs.{take-range, range-append}
-use Rattle.scenario_run.proofs.Shown.{IsHosted, frame_mapping, Shows, take-map, unused_frames_are, taken_is, free_at, pages_run, own_from-frames, own_from-owners, All-append, the_host, the_process}
+use Rattle.scenario_run.proofs.Shown.{IsHosted, take-map, unused_frames_are, taken_is, free_at, pages_run, own_from-frames, own_from-owners, All-append, the_host, the_process}
 use Rattle.scenario_run.proofs.Tables.{at_put}
 use Rattle.scenario_run.proofs.Worlds.{IsWorld, world_ready}
-use Rattle.scenario_run.proofs.Births.{IsTied, with_pool, pooled, tied_host, tied_boot}
+use Rattle.scenario_run.proofs.Births.{with_pool, pooled, tied_host, tied_boot}
 use Rattle.scenario_run.proofs.Hops.{tied_deliver, tied_show, same_facts}
 
 abbrev pub the_pid : Pid

@@ -1,12 +1,8 @@
 -- The world shows the facts of the journal so far.
-use Rattle.std.proofs.Common.{◌≡◌, ◌≢◌, ◌+◌, ◌-◌, ◌*◌, ◌<◌, ◌≤◌, ℕ, zero, suc, List, [], ◌∷◌, ◌++◌, length, take, map, get_or, Bool, true, false, cond, eqb, ltb, leb, not, ◌&&◌, ◌||◌, Option, None, Some, is_some, refl, sym, ap, ◌∙◌, subst, inl, inr, arith, length-append}
-use Rattle.std.specs.List.{range_with_len, list_any, All}
-use Rattle.std.proofs.lemmas.Bool.{eqb-true, leb-true, leb-false, ltb-true, ltb-false, lt-ltb, le-ltb, le-leb, ne_eqb}
+use Rattle.std.proofs.Common.{◌≡◌, ◌+◌, ◌<◌, ◌≤◌, ℕ, length, true, ltb, leb, ◌&&◌, None, sym, subst, arith}
 use Rattle.std.proofs.lemmas.List.Elements.{All-from_get_or}
 use Rattle.xm_num.specs.declared.Enclave.{Enclave}
-use Rattle.global_model.specs.declared.line.Line.{Line}
-use Rattle.global_model.specs.declared.line.Line.TheVariants as lines
-use Rattle.global_model.specs.Facts.{Facts, BlockFact, Absent, Free, Lent, is_free, is_lent_to, is_living_enclave, after_lines}
+use Rattle.global_model.specs.Facts.{Facts, is_free, is_living_enclave}
 use Rattle.global_model.specs.View.{View, view_of}
 use Rattle.global_model.specs.Flow.{IsStar}
 use Rattle.global_model.specs.Due.{host}

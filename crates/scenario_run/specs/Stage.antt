@@ -1,5 +1,5 @@
 -- How far a scenario has come: which commands may come next.
-use Rattle.std.specs.Prelude.{◌+◌, Bool, true, false, not, ◌&&◌, ◌==◌, nat_le, if◌then◌else◌, Option, None, Some}
+use Rattle.std.specs.Prelude.{◌+◌, true, false, not, ◌&&◌, ◌==◌, nat_le, if◌then◌else◌, Option, None, Some}
 use Rattle.global_model.specs.declared.command.Command.{Command}
 use Rattle.global_model.specs.declared.command.Command.TheVariants as commands
 use Rattle.global_model.specs.Scenario.{is_cokernel}

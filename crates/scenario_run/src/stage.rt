@@ -52,9 +52,12 @@ fn while_running(started: bool, command: &Command) -> Option<Stage>
     ensures { result ≡ next_stage (Stage.Running started) command.now }
 {
     match command {
-        Command::Boot { kind: Kind::Cokernel, parent, ns, .. } if parent.0 == 0 && !*ns => Some(
-            Stage::Running { started },
-        ),
+        Command::Boot {
+            kind: Kind::Cokernel,
+            parent,
+            ns,
+            ..
+        } if parent.0 == 0 && !*ns => Some(Stage::Running { started }),
         Command::Proc { enclave, .. } if !started && enclave.0 == 0 => Some(Stage::Running {
             started: true,
         }),
@@ -63,8 +66,12 @@ fn while_running(started: bool, command: &Command) -> Option<Stage>
             pid,
             at,
             pages,
-        } if started && enclave.0 == 0 && pid.0 == 1 && u64::from(at.0) + u64::from(*pages) <= 16_777_216 =>
-            Some(Stage::Running { started }),
+        } if started
+            && enclave.0 == 0
+            && pid.0 == 1
+            && u64::from(at.0) + u64::from(*pages) <= 16_777_216 => Some(Stage::Running {
+            started,
+        }),
         Command::Touch { enclave, pid, .. } if started && enclave.0 == 0 && pid.0 == 1 => Some(
             Stage::Running { started },
         ),
