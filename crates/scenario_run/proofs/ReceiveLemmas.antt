@@ -1,5 +1,5 @@
 -- What an enclave sends for records.
-use Rattle.std.proofs.Common.{◌≡◌, ◌≤◌, ℕ, List, [], ◌∷◌, ◌++◌, length, take, drop, ◌-◌, Bool, true, false, cond, eqb, None, Some, refl, sym, ap, ◌∙◌, append_assoc}
+use Rattle.std.proofs.Common.{◌≡◌, ◌≤◌, ℕ, List, [], ◌∷◌, ◌++◌, length, take, drop, ◌-◌, Bool, true, false, cond, eqb, Some, refl, sym, ap, ◌∙◌, append_assoc}
 use Rattle.std.specs.List.{slice_get}
 use Rattle.std.proofs.lemmas.List.{drop_at, take_rest}
 use Rattle.std.proofs.lemmas.Bool.{le-leb, leb-true, and_parts}
@@ -77,10 +77,6 @@ record_lines-valid v from r me valid = when_else (eqb r.origin.0 v.me.0) (drop_l
 pub first_is : (rs : List Record) (r : Record) → Some r ≡ slice_get rs 0 → rs ≡ r ∷ drop 1 rs
 first_is [] r is = cc
 first_is (x ∷ rs) r is = let same : x ≡ r = cc in ap (λ y. y ∷ rs) same
-
-pub none_left : (rs : List Record) → None ≡ slice_get rs 0 → rs ≡ []
-none_left [] is = refl
-none_left (x ∷ rs) is = cc
 
 -- the lines of one record, at the end of those before them
 pub own_part : (before out : List Line) (v : View) (from : Enclave) (r : Record) (n : ℕ) → n ≡ length before → out ≡ (before ++ lines.Got from v.me ∷ []) ++ record_lines v from r → take (length out - n) (drop n out) ≡ lines.Got from v.me ∷ record_lines v from r

@@ -1,17 +1,14 @@
 -- How the host's memory and its process are seen, and what commands make of them.
-use Rattle.std.specs.Prelude.{◌+◌, ◌-◌, ◌*◌, ◌/◌, ℕ, List, [], ◌∷◌, Bool, nat_le, nat_lt, if◌then◌else◌, Option, None, Some, map}
+use Rattle.std.specs.Prelude.{◌+◌, ◌-◌, ◌*◌, ◌/◌, ℕ, List, [], ◌∷◌, nat_le, nat_lt, if◌then◌else◌, Option, None, Some}
 use Rattle.std.specs.List.{range_with_len}
 use Rattle.xm_num.specs.declared.Enclave.{Enclave}
 use Rattle.xm_num.specs.declared.Pid.{Pid}
 use Rattle.xm_num.specs.declared.Vpn.{Vpn}
 use Rattle.xm_num.specs.declared.Frame.{Frame}
-use Rattle.xm_num.specs.declared.Block.{Block}
-use Rattle.xm_num.specs.declared.Kind.TheVariants as kinds
 use Rattle.xm_num.specs.declared.Cause.TheVariants as causes
 use Rattle.global_model.specs.declared.line.Line.{Line}
 use Rattle.global_model.specs.declared.line.Line.TheVariants as lines
 use Rattle.global_model.specs.Space.{frame_list}
-use Rattle.global_model.specs.Due.{host}
 use Rattle.scenario_run.specs.Rows.{at, any_between, put_run}
 
 -- how many blocks the host has, which are the first ones; how many processes it started; its next unused frame; the
@@ -25,18 +22,12 @@ pub record MemoryView : Type 0 where
 abbrev pub no_memory : MemoryView
 no_memory = record { blocks = 0; started = 0; next = 0; pages = [] }
 
-abbrev pub first_blocks : ℕ → List Block
-first_blocks count = map (λ b. record { 0 = b }) (range_with_len 0 count)
-
 abbrev pub frames_from : ℕ → ℕ → List Frame
 frames_from first count = frame_list (range_with_len first count)
 
 -- how many frames are unused
 abbrev pub left_of : MemoryView → ℕ
 left_of v = 64 * v.blocks - v.next
-
-abbrev pub born_lines : ℕ → Bool → List Line
-born_lines blocks ns = lines.Born host kinds.Host host ns (first_blocks blocks) ∷ (if ns then lines.Admitted host ∷ [] else [])
 
 abbrev pub alloc_lines : MemoryView → Enclave → Pid → Vpn → ℕ → List Line
 alloc_lines v e p page count =

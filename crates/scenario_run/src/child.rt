@@ -50,7 +50,8 @@ pub fn receive(
     Ok(())
 }
 
-/// Takes at most `count` waiting bytes of a channel, and handles the records that are whole then.
+/// Takes at most `count` waiting bytes of a channel, and handles the records that are whole then. For want of memory
+/// the node and both channels aren't to be used again.
 pub fn deliver(
     alloc: Global,
     node: &mut Node,

@@ -3,6 +3,8 @@
 
 mod channel;
 mod child;
+#[cfg(test)]
+mod child_tests;
 mod execute;
 mod laws;
 mod main_call;

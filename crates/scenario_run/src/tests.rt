@@ -18,7 +18,7 @@ const REFUSED_JOURNAL: &[u8] =
 
 // A scenario, the calls of the source and of the sink that fail, the status and what is written.
 #[derive(Drop)]
-struct Row<'a> {
+pub struct Row<'a> {
     scenario: &'a [u8],
     failing_takes: &'a [u32],
     failing_puts: &'a [u32],
@@ -26,7 +26,7 @@ struct Row<'a> {
     journal: &'a [u8],
 }
 
-fn plain_row<'a>(scenario: &'a [u8], status: Status, journal: &'a [u8]) -> Row<'a> {
+pub fn plain_row<'a>(scenario: &'a [u8], status: Status, journal: &'a [u8]) -> Row<'a> {
     Row {
         scenario,
         failing_takes: &[],
@@ -36,7 +36,7 @@ fn plain_row<'a>(scenario: &'a [u8], status: Status, journal: &'a [u8]) -> Row<'
     }
 }
 
-fn words(alloc: Global, texts: &[&str]) -> Result<Vec<String>, AllocError> {
+pub fn words(alloc: Global, texts: &[&str]) -> Result<Vec<String>, AllocError> {
     let mut words = Vec::new(alloc);
     for text in texts {
         words.push(String::from_str(alloc, text)?)?;
@@ -109,7 +109,7 @@ fn faults_and_limits(rt: HostRuntime) -> Result<(), Fail> {
     Ok(())
 }
 
-fn run_row(rt: &impl Abort, alloc: Global, row: &Row) -> Result<(), AllocError> {
+pub fn run_row(rt: &impl Abort, alloc: Global, row: &Row) -> Result<(), AllocError> {
     let mut source = MemSource::new(
         Vec::from_slice(alloc, row.scenario)?,
         Vec::from_slice(alloc, row.failing_takes)?,

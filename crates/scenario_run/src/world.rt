@@ -107,7 +107,8 @@ impl World {
         }
     }
 
-    /// Executes one command, and appends its lines.
+    /// Executes one command, and appends its lines. For want of memory some of them may stand, and the world isn't to
+    /// be used again.
     pub fn step(
         &mut self,
         alloc: Global,
