@@ -127,12 +127,15 @@ unused_unmapped G sound e frame unused mapped =
     let lent : G.block (frame.0 / 64) ≡ Lent e = lent_is e _ first.1 in
     let number : b.own.frame.0 ≡ frame.0 = ap (λ f. f.0) b.frame_is in
     let owners : Lent b.own.enclave.0 ≡ Lent e = sym b.owned ∙ ap (λ n. G.block (n / 64)) number ∙ lent in
-    let same : b.own.enclave.0 ≡ e = cc in
+    let same : b.own.enclave.0 ≡ e = one_owner _ _ owners in
     let test : (eqb b.own.enclave.0 e && eqb b.own.frame.0 frame.0) ≡ true = rw (eq-eqb _ _ same, eq-eqb _ _ number) refl in
     let some : is_own_frame G e frame.0 ≡ true = b.listed (λ own. eqb own.enclave.0 e && eqb own.frame.0 frame.0) test in
     let none : not (is_own_frame G e frame.0) ≡ true = tests.1 in
     clash _ some none
   where
+    one_owner : (a b : ℕ) → Lent a ≡ Lent b → a ≡ b
+    one_owner a b same = cc
+
     clash : (x : Bool) → x ≡ true → not x ≡ true → ⊥
     clash true a c = cc
     clash false a c = cc
