@@ -4,6 +4,7 @@
 //! 4,096 bytes, and a block is 64 frames.
 #![tactic(auto)]
 
+pub mod laws;
 mod list;
 mod numbers;
 mod sizes;
@@ -61,6 +62,15 @@ pub enum Access {
     ReadOnly,
     /// To read and to write.
     ReadWrite,
+}
+
+/// What a page of a process is mapped to.
+#[derive(Clone, Copy, Debug, PartialEq, Eq)]
+pub struct Page {
+    pub frame: Frame,
+    pub access: Access,
+    /// Whether it is an own page of the process, and not an attached one.
+    pub own: bool,
 }
 
 /// What a touch wants of a page.

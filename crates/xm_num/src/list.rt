@@ -1,5 +1,5 @@
 // Lists that grow at their end, and that contracts see as lists.
-ghost use Rattle.std.specs.Prelude.{◌≡◌, [], ◌∷◌, ◌++◌, length, slice_get, OnOk, OnErr};
+ghost use Rattle.std.specs.Prelude.{◌≡◌, ◌<◌, ◌^◌, [], ◌∷◌, ◌++◌, length, slice_get, OnOk, OnErr};
 
 use crate::{Block, Enclave, Frame};
 use std::alloc::{AllocError, Global};
@@ -49,7 +49,8 @@ impl<T: Copy> ItemList<T> {
 
     /// How many items there are.
     pub fn len(&self) -> usize
-        ensures { result ≡ length self.now }
+        ensures count { result ≡ length self.now }
+        ensures small { result < 2 ^ 63 }
     {
         self.items.len()
     }
