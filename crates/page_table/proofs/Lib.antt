@@ -1,0 +1,5 @@
+pub mod Firsts
+pub mod Gaps
+pub mod Within
+pub mod Runs
+pub mod Held

@@ -1,0 +1,10 @@
+use Rattle.page_table.proofs.Held.{held_less_all}
+use Rattle.page_table.proofs.table.PageTableAddressSpace.disown.Goals as goal
+
+pub invariant_of-self : goal.invariant_of-self
+invariant_of-self c =
+    record {
+      within = c.remove_all.ensures.within c.args.self.now.within;
+      held = rw c.remove_all.ensures.rows
+          (held_less_all c.args.self.now.pages c.args.self.now.rights c.args.at.0 c.args.n c.remove_all.ensures.was_ascending c.requires c.args.self.now.held);
+    }
