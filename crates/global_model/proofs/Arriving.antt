@@ -11,7 +11,8 @@ use Rattle.global_model.specs.declared.line.Line.{Line}
 use Rattle.global_model.specs.declared.line.Line.TheVariants as lines
 use Rattle.global_model.specs.Facts.{Facts, ChannelFact, no_channel, at_pair, with_sent, with_got, after_line, after_lines, facts_at}
 use Rattle.global_model.specs.Channels.{is_neighbour, arriving}
-use Rattle.global_model.specs.View.{View, view_of, knows_way, is_for, here_of, register_of, admit_of, drop_lines, query_lines, here_lines, register_lines, admit_lines, body_lines, record_lines}
+use Rattle.global_model.specs.View.{View, view_of}
+use Rattle.global_model.specs.Steps.{knows_way, is_for, is_stray, here_of, register_of, admit_of, drop_lines, query_lines, here_lines, register_lines, admit_lines, body_lines, record_lines}
 use Rattle.global_model.specs.Due.{got_lines}
 use Rattle.global_model.specs.Lawful.{CarriedAt}
 use Rattle.global_model.specs.History.{Follows, onto}
@@ -144,6 +145,10 @@ proper_lines x y rs born (l ∷ ls) past same proper old =
 
 -- ---- what is written for a record
 
+pub proper-append : (born : ℕ) (ls ms : List Line) → AreProper born ls → AreProper born ms → AreProper born (ls ++ ms)
+proper-append born [] ms first more = more
+proper-append born (l ∷ ls) ms first more = (first.0, proper-append born ls ms first.1 more)
+
 pub proper_either : (born : ℕ) (b : Bool) (ls ms : List Line) → AreProper born ls → AreProper born ms → AreProper born (cond b ls ms)
 proper_either born true ls ms left right = left
 proper_either born false ls ms left right = right
@@ -179,7 +184,7 @@ proper_body born v from r bodies.Admit linked me valid = proper_admit born v r.d
 proper_body born v from r _ linked me valid = (tt, tt)
 
 proper_record : (born : ℕ) (v : View) (from : Enclave) (r : Record) → IsLinked born v.me.0 from.0 → is_enclave v.me.0 ≡ true → is_valid r ≡ true → AreProper born (record_lines v from r)
-proper_record born v from r linked me valid = proper_either born (eqb r.origin.0 v.me.0) (drop_lines v) (body_lines v from r r.body) (tt, tt) (proper_body born v from r r.body linked me valid)
+proper_record born v from r linked me valid = proper_either born (is_stray v r) (drop_lines v) (body_lines v from r r.body) (tt, tt) (proper_body born v from r r.body linked me valid)
 
 -- ---- records are got
 

@@ -1,10 +1,10 @@
 -- The journal of commands that stand where they may is legal.
-use Rattle.std.proofs.Common.{◌≡◌, ◌+◌, ◌*◌, ◌/◌, ◌<◌, ◌≤◌, ℕ, zero, suc, List, [], ◌∷◌, length, take, get_or, find, Bool, true, false, cond, eqb, not, ◌&&◌, ◌||◌, Option, None, Some, refl, sym, ap, ◌∙◌, subst, arith}
+use Rattle.std.proofs.Common.{◌≡◌, ◌+◌, ◌*◌, ◌/◌, ◌<◌, ◌≤◌, ℕ, zero, suc, List, [], ◌∷◌, length, take, get_or, filter, Bool, true, false, cond, eqb, not, ◌&&◌, ◌||◌, Option, None, Some, refl, sym, ap, ◌∙◌, subst, arith}
 use Rattle.std.specs.List.{All, range_with_len, list_any}
 use Rattle.std.specs.Option.{option_map, option_map_or}
 use Rattle.std.proofs.lemmas.Bool.{eqb-true, eq-eqb, and_parts}
 use Rattle.std.proofs.lemmas.List.{take_min, length-take}
-use Rattle.std.proofs.lemmas.List.Elements.{All-nil, All-map, All-take, filter_passes, All-append}
+use Rattle.std.proofs.lemmas.List.Elements.{All-nil, All-map, All-take, All-filter, filter_passes, All-append}
 use Rattle.xm_num.specs.declared.Enclave.{Enclave}
 use Rattle.xm_num.specs.declared.Pid.{Pid}
 use Rattle.xm_num.specs.declared.Vpn.{Vpn}
@@ -15,19 +15,24 @@ use Rattle.xm_num.specs.declared.Cause.{Cause}
 use Rattle.xm_num.specs.declared.Kind.{Kind}
 use Rattle.xm_num.specs.declared.Kind.TheVariants as kinds
 use Rattle.xm_num.specs.declared.Access.{Access}
-use Rattle.xm_num.specs.declared.Access.TheVariants as accesses
+use Rattle.xm_num.specs.declared.Page.{Page}
+use Rattle.xm_num.specs.Rows.{at, put}
+use Rattle.xm_num.proofs.RowLemmas.{at_put}
 use Rattle.global_model.specs.declared.command.Command.{Command}
 use Rattle.global_model.specs.declared.command.Command.TheVariants as commands
 use Rattle.global_model.specs.declared.line.Line.{Line}
 use Rattle.global_model.specs.declared.line.Line.TheVariants as lines
-use Rattle.global_model.specs.Facts.{Facts, BlockFact, Absent, Free, Lent, OwnPage, after_line, after_lines, facts_at, no_facts, own_from, is_listed, with_lent, is_free, is_lent_to}
-use Rattle.global_model.specs.Space.{Mapping, IsUnmapped, is_page_of, own_mapping, space_of, is_own_frame, is_unused, unused_frames, block_frames, free_blocks}
+use Rattle.global_model.specs.Facts.{Facts, BlockFact, Absent, Free, Lent, Held, OwnPage, after_line, after_lines, facts_at, no_facts, own_from, is_listed, with_lent, is_free, is_lent_to}
+use Rattle.global_model.specs.Space.{Mapping, IsUnmapped, is_of, own_page, with_own, pages_of, mapping_of, space_of, is_own_frame, is_unused, unused_frames, block_frames, free_blocks}
+use Rattle.global_model.specs.View.{view_of}
+use Rattle.global_model.specs.Steps.{host}
 use Rattle.global_model.specs.Refusals.{refusal_of}
 use Rattle.global_model.specs.Scenario.{may_stand, IsPlacedAfter}
-use Rattle.global_model.specs.Due.{host, next_enclave, child_lines, deliver_lines, show_lines, touched_lines, acts_of, step_lines, journal_from}
+use Rattle.global_model.specs.Due.{next_enclave, deliver_lines, show_lines, touched_lines, acts_of, step_lines, journal_from}
 use Rattle.global_model.specs.Lawful.{LawfulRefusal, IsLegalAt, cause_of}
 use Rattle.global_model.specs.History.{Follows, onto}
-use Rattle.global_model.proofs.Plain.{is_plain, ArePlain, plain_host, plain_deliver, plain_show, plain_child}
+use Rattle.global_model.proofs.Plain.{is_plain, ArePlain, plain_host, plain_deliver, plain_show, plain_birth, plain_pool}
+use Rattle.global_model.proofs.Refused.{touch_allowed}
 use Rattle.global_model.proofs.Pasts.{facts_at-onto, Follows-append}
 
 -- ---- lists
@@ -48,30 +53,19 @@ All-cons {X = X} P x xs p all = by
 All-weaker : {X : Type 0} (P Q : X → Type 0) → ((x : X) → P x → Q x) → (xs : List X) → All P xs → All Q xs
 All-weaker P Q h xs all = λ k d lt. h _ (all k d lt)
 
--- an element that was found has what all have
-found_has : {X : Type 0} (P : X → Type 0) (q : X → Bool) (xs : List X) (x : X) → All P xs → find q xs ≡ Some x → P x
-found_has P q [] x all is = cc
-found_has P q (y ∷ ys) x all is = by (λ e. found_has P q ys x (All-tail P y ys all) e) (q y) is
-  where
-    by : (find q ys ≡ Some x → P x) → (b : Bool) → cond b (Some y) (find q ys) ≡ Some x → P x
-    by more true e = let same : y ≡ x = cc in subst P same (All-head P y ys all)
-    by more false e = more e
+or_left : (a b : Bool) → a ≡ true → (a || b) ≡ true
+or_left a b e = rw e refl
 
--- and it passes a test that some element then passes
-found_any : {X : Type 0} (q r : X → Bool) (xs : List X) (x : X) → find q xs ≡ Some x → r x ≡ true → list_any r xs ≡ true
-found_any q r [] x is passes = cc
-found_any q r (y ∷ ys) x is passes = by (λ e. found_any q r ys x e passes) (q y) is
-  where
-    or_left : (a b : Bool) → a ≡ true → (a || b) ≡ true
-    or_left a b e = rw e refl
+or_right : (a b : Bool) → b ≡ true → (a || b) ≡ true
+or_right true b e = refl
+or_right false b e = e
 
-    or_right : (a b : Bool) → b ≡ true → (a || b) ≡ true
-    or_right true b e = refl
-    or_right false b e = e
-
-    by : (find q ys ≡ Some x → list_any r ys ≡ true) → (b : Bool) → cond b (Some y) (find q ys) ≡ Some x → list_any r (y ∷ ys) ≡ true
-    by more true e = let same : y ≡ x = cc in or_left (r y) (list_any r ys) (ap r same ∙ passes)
-    by more false e = or_right (r y) (list_any r ys) (more e)
+-- where an element passes a test, some element does
+all_listed : {X : Type 0} (xs : List X) → All (λ x. (r : X → Bool) → r x ≡ true → list_any r xs ≡ true) xs
+all_listed [] = All-nil _
+all_listed {X = X} (x ∷ xs) =
+    All-cons (λ y. (r : X → Bool) → r y ≡ true → list_any r (x ∷ xs) ≡ true) x xs (λ r e. or_left (r x) (list_any r xs) e)
+    (All-weaker (λ y. (r : X → Bool) → r y ≡ true → list_any r xs ≡ true) (λ y. (r : X → Bool) → r y ≡ true → list_any r (x ∷ xs) ≡ true) (λ y h r e. or_right (r x) (list_any r xs) (h r e)) xs (all_listed xs))
 
 take-length-take : {X : Type 0} (n : ℕ) (xs : List X) → take n xs ≡ take (length (take n xs)) xs
 take-length-take n xs = sym (take_min n xs) ∙ ap (λ k. take k xs) (sym (length-take n xs))
@@ -84,6 +78,25 @@ IsOwned G own = G.block (own.frame.0 / 64) ≡ Lent own.enclave.0
 pub record IsSound (G : Facts) : Type 0 where
   pub owned : All (IsOwned G) G.own
 
+-- an own page with the frame of a row, which has what all own pages have
+record IsBehind (P : OwnPage → Type 0) (page : Page) : Type 0 where
+  own : OwnPage
+  has : P own
+  is : own_page own.frame ≡ page
+
+behind_row : (P : OwnPage → Type 0) (owns : List OwnPage) (rows : List (ℕ × Page)) (k : ℕ) (page : Page) → All P owns → (at rows k ≡ Some page → IsBehind P page) → at (with_own rows owns) k ≡ Some page → IsBehind P page
+behind_row P [] rows k page all before is = before is
+behind_row P (own ∷ owns) rows k page all before is =
+    behind_row P owns (put rows own.page (own_page own.frame)) k page (All-tail P own owns all) (λ e. by (eqb own.page k) (sym (at_put rows own.page k (own_page own.frame)) ∙ e)) is
+  where
+    by : (b : Bool) → cond b (Some (own_page own.frame)) (at rows k) ≡ Some page → IsBehind P page
+    by true e = let same : own_page own.frame ≡ page = cc in record { own = own; has = All-head P own owns all; is = same }
+    by false e = before e
+
+behind_page : (P : OwnPage → Type 0) (owns : List OwnPage) (k : ℕ) (page : Page) → All P owns → at (with_own [] owns) k ≡ Some page → IsBehind P page
+unfolding at
+behind_page P owns k page all is = behind_row P owns [] k page all (λ none. cc) is
+
 -- the own page behind a mapping
 pub record Behind (G : Facts) (frame : Frame) : Type 0 where
   pub own : OwnPage
@@ -91,31 +104,36 @@ pub record Behind (G : Facts) (frame : Frame) : Type 0 where
   pub frame_is : own.frame ≡ frame
   pub listed : (r : OwnPage → Bool) → r own ≡ true → list_any r G.own ≡ true
 
+abbrev IsKept : Facts → OwnPage → Type 0
+IsKept G own = IsOwned G own × ((r : OwnPage → Bool) → r own ≡ true → list_any r G.own ≡ true)
+
+all_kept : (G : Facts) → IsSound G → All (IsKept G) G.own
+all_kept G sound = λ k d lt. (sound.owned k d lt, all_listed G.own k d lt)
+
 behind_found : (G : Facts) → IsSound G → (e p page : ℕ) (frame : Frame) (access : Access) → space_of G e p page ≡ Some (record { frame = frame; access = access }) → Behind G frame
-behind_found G sound e p page frame access is = by (find (is_page_of e p page) G.own) refl is
+behind_found G sound e p page frame access is = by (at (pages_of G e p) page) refl is
   where
     the_frame : (m n : Mapping) → Some m ≡ Some n → m.frame ≡ n.frame
     the_frame m n same = let inner : m ≡ n = cc in ap (λ x. x.frame) inner
 
-    by : (o : Option OwnPage) → find (is_page_of e p page) G.own ≡ o → option_map own_mapping o ≡ Some (record { frame = frame; access = access }) → Behind G frame
+    by : (o : Option Page) → at (pages_of G e p) page ≡ o → option_map mapping_of o ≡ Some (record { frame = frame; access = access }) → Behind G frame
     by None found same = cc
-    by (Some own) found same =
-        record {
-          own = own;
-          owned = found_has (IsOwned G) (is_page_of e p page) G.own own sound.owned found;
-          frame_is = the_frame (own_mapping own) (record { frame = frame; access = access }) same;
-          listed = λ r passes. found_any (is_page_of e p page) r G.own own found passes;
-        }
+    by (Some row) found same =
+        let b = behind_page (IsKept G) (filter (is_of e p) G.own) page row (All-filter (is_of e p) (IsKept G) G.own (all_kept G sound)) found in
+        let row_frame : row.frame ≡ frame = the_frame (mapping_of row) (record { frame = frame; access = access }) same in
+        record { own = b.own; owned = b.has.0; frame_is = ap (λ x. x.frame) b.is ∙ row_frame; listed = b.has.1 }
 
 lent_is : (e : ℕ) (b : BlockFact) → is_lent_to e b ≡ true → b ≡ Lent e
 lent_is e Absent h = cc
 lent_is e Free h = cc
 lent_is e (Lent o) h = ap Lent (eqb-true o e h)
+lent_is e (Held o) h = cc
 
 free_is : (b : BlockFact) → is_free b ≡ true → b ≡ Free
 free_is Absent h = cc
 free_is Free h = refl
 free_is (Lent o) h = cc
+free_is (Held o) h = cc
 
 -- ---- unused frames are unmapped, and so are those of free blocks
 
@@ -304,7 +322,7 @@ legal_boot : (kind : Kind) (parent : Enclave) (blocks : ℕ) (ns : Bool) (past :
 legal_boot kind parent blocks ns past sound closed =
     let child = next_enclave (facts_at past) in
     with_refusal (commands.Boot kind parent blocks ns) past closed sound
-    (λ none. legal_born (commands.Boot kind parent blocks ns) past child kind parent ns blocks (child_lines child parent ns) sound none refl (plain_child child parent ns))
+    (λ none. legal_born (commands.Boot kind parent blocks ns) past child kind parent ns blocks _ sound none refl (plain_birth child parent ns ((facts_at past).heard parent.0) (view_of (facts_at past) parent)))
 
 legal_deliver : (x y : Enclave) (count : ℕ) (past : List Line) → IsSound (facts_at past) → IsClosed past → IsLegalUpTo past (step_lines (facts_at past) (commands.Deliver x y count))
 legal_deliver x y count past sound closed =
@@ -316,12 +334,15 @@ legal_show x y past sound closed =
     with_refusal (commands.ShowLink x y) past closed sound
     (λ none. legal_plain (show_lines (facts_at past) x y) (lines.Do (commands.ShowLink x y) ∷ past) sound (λ line h. h ∙ sym none) (plain_show (facts_at past) x y))
 
+legal_show_pool : (past : List Line) → IsSound (facts_at past) → IsClosed past → IsLegalUpTo past (step_lines (facts_at past) commands.ShowPool)
+legal_show_pool past sound closed =
+    with_refusal commands.ShowPool past closed sound
+    (λ none. legal_plain (acts_of (facts_at past) commands.ShowPool) (lines.Do commands.ShowPool ∷ past) sound (λ line h. h ∙ sym none) (plain_pool (facts_at past)))
+
 legal_proc : (e : Enclave) (uid gid : ℕ) (past : List Line) → IsSound (facts_at past) → IsClosed past → IsLegalUpTo past (step_lines (facts_at past) (commands.Proc e uid gid))
-legal_proc e uid gid past sound closed = record {
-  legal = (record { lending = tt; act = tt; refusal = closed (lines.Do (commands.Proc e uid gid)) refl }, (record { lending = tt; act = tt; refusal = refl }, tt));
-  sound = record { owned = sound.owned };
-  closed = λ line h. h;
-}
+legal_proc e uid gid past sound closed =
+    with_refusal (commands.Proc e uid gid) past closed sound
+    (λ none. legal_plain (acts_of (facts_at past) (commands.Proc e uid gid)) (lines.Do (commands.Proc e uid gid) ∷ past) sound (λ line h. h ∙ sym none) (refl, tt))
 
 legal_alloc : (e : Enclave) (p : Pid) (at : Vpn) (pages : ℕ) (past : List Line) → IsSound (facts_at past) → IsClosed past → IsLegalUpTo past (step_lines (facts_at past) (commands.Alloc e p at pages))
 legal_alloc e p at pages past sound closed =
@@ -335,14 +356,6 @@ legal_alloc e p at pages past sound closed =
       closed = λ line h. h;
     })
 
--- every mapping is an own page's
-mapping_of_own : (G : Facts) (e p page : ℕ) (m : Mapping) → space_of G e p page ≡ Some m → m.access ≡ accesses.ReadWrite
-mapping_of_own G e p page m is = by (find (is_page_of e p page) G.own) is
-  where
-    by : (o : Option OwnPage) → option_map own_mapping o ≡ Some m → m.access ≡ accesses.ReadWrite
-    by None same = cc
-    by (Some own) same = let inner : own_mapping own ≡ m = cc in sym (ap (λ x. x.access) inner)
-
 legal_touch : (e : Enclave) (p : Pid) (addr : ℕ) (want : Want) (past : List Line) → IsSound (facts_at past) → IsClosed past → IsLegalUpTo past (step_lines (facts_at past) (commands.Touch e p addr want))
 legal_touch e p addr want past sound closed =
     with_refusal (commands.Touch e p addr want) past closed sound (λ none. by none (space_of (facts_at past) e.0 p.0 (addr / 4096)) refl)
@@ -350,23 +363,21 @@ legal_touch e p addr want past sound closed =
     by : refusal_of (facts_at past) (commands.Touch e p addr want) ≡ None → (o : Option Mapping) → space_of (facts_at past) e.0 p.0 (addr / 4096) ≡ o
         → IsLegalUpTo (lines.Do (commands.Touch e p addr want) ∷ past) (touched_lines e p (record { 0 = addr / 4096 }) o)
     by none None is = record { legal = tt; sound = sound; closed = λ line h. h ∙ sym none }
-    by none (Some m) is =
-        let access : m.access ≡ accesses.ReadWrite = mapping_of_own (facts_at past) e.0 p.0 (addr / 4096) m is in
-        record {
-          legal = (record { lending = tt; act = (m.access, is, rw access refl); refusal = sym none }, tt);
-          sound = record { owned = sound.owned };
-          closed = λ line h. h;
-        }
+    by none (Some m) is = record {
+      legal = (record { lending = tt; act = (m.access, is, touch_allowed (facts_at past) e p addr want m none is); refusal = sym none }, tt);
+      sound = record { owned = sound.owned };
+      closed = λ line h. h;
+    }
 
 -- ---- whole journals
 
-pub record IsReady (before : List Command) (past : List Line) : Type 0 where
+pub record IsReady (before : ℕ) (past : List Line) : Type 0 where
   pub sound : IsSound (facts_at past)
   pub closed : IsClosed past
-  pub fresh : length before ≡ 0 → (facts_at past).own ≡ []
+  pub fresh : before ≡ 0 → (facts_at past).own ≡ []
 
-legal_step : (before : List Command) (c : Command) (past : List Line) → IsReady before past → may_stand before c ≡ true → IsLegalUpTo past (step_lines (facts_at past) c)
-legal_step before (commands.Pool blocks) past ready may = legal_pool blocks past (ready.fresh (eqb-true _ _ may)) ready.closed
+legal_step : (before : ℕ) (c : Command) (past : List Line) → IsReady before past → may_stand before c ≡ true → IsLegalUpTo past (step_lines (facts_at past) c)
+legal_step before (commands.Pool blocks) past ready may = legal_pool blocks past (ready.fresh (eqb-true before 0 may)) ready.closed
 legal_step before (commands.Host blocks ns) past ready may = legal_host blocks ns past ready.sound ready.closed
 legal_step before (commands.Proc e uid gid) past ready may = legal_proc e uid gid past ready.sound ready.closed
 legal_step before (commands.Alloc e p at pages) past ready may = legal_alloc e p at pages past ready.sound ready.closed
@@ -374,15 +385,16 @@ legal_step before (commands.Touch e p addr want) past ready may = legal_touch e 
 legal_step before (commands.Boot kind parent blocks ns) past ready may = legal_boot kind parent blocks ns past ready.sound ready.closed
 legal_step before (commands.Deliver x y count) past ready may = legal_deliver x y count past ready.sound ready.closed
 legal_step before (commands.ShowLink x y) past ready may = legal_show x y past ready.sound ready.closed
+legal_step before commands.ShowPool past ready may = legal_show_pool past ready.sound ready.closed
 
-legal_journal : (cs before : List Command) (G : Facts) (past : List Line) → G ≡ facts_at past → IsReady before past → IsPlacedAfter before cs → Follows IsLegalAt past (journal_from G cs)
+legal_journal : (cs : List Command) (before : ℕ) (G : Facts) (past : List Line) → G ≡ facts_at past → IsReady before past → IsPlacedAfter before cs → Follows IsLegalAt past (journal_from G cs)
 legal_journal [] before G past is ready placed = tt
 legal_journal (c ∷ cs) before G past is ready placed =
     let ls = step_lines G c in
     let one : IsLegalUpTo past ls = rw is (legal_step before c past ready placed.0) in
     let facts : after_lines G ls ≡ facts_at (onto ls past) = ap (λ H. after_lines H ls) is ∙ sym (facts_at-onto ls past) in
-    let next : IsReady (c ∷ before) (onto ls past) = record { sound = one.sound; closed = one.closed; fresh = λ none. absurd (omega (arith, none)) } in
-    Follows-append IsLegalAt ls (journal_from (after_lines G ls) cs) past one.legal (legal_journal cs (c ∷ before) (after_lines G ls) (onto ls past) facts next placed.2)
+    let next : IsReady (before + 1) (onto ls past) = record { sound = one.sound; closed = one.closed; fresh = λ none. absurd (omega (arith, none)) } in
+    Follows-append IsLegalAt ls (journal_from (after_lines G ls) cs) past one.legal (legal_journal cs (before + 1) (after_lines G ls) (onto ls past) facts next placed.2)
 
-pub journal_of-legal : (cs : List Command) → IsPlacedAfter [] cs → Follows IsLegalAt [] (journal_from no_facts cs)
-journal_of-legal cs placed = legal_journal cs [] no_facts [] refl (record { sound = record { owned = All-nil _ }; closed = λ line h. h; fresh = λ none. refl }) placed
+pub journal_of-legal : (cs : List Command) → IsPlacedAfter 0 cs → Follows IsLegalAt [] (journal_from no_facts cs)
+journal_of-legal cs placed = legal_journal cs 0 no_facts [] refl (record { sound = record { owned = All-nil _ }; closed = λ line h. h; fresh = λ none. refl }) placed

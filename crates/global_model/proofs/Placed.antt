@@ -1,5 +1,5 @@
 -- The commands of a scenario stand where they may, their numbers in their ranges.
-use Rattle.std.proofs.Common.{◌≡◌, ◌+◌, ℕ, List, [], ◌∷◌, ◌++◌, Bool, true, false, cond, Option, None, Some, refl, sym, ap, ◌∙◌, inl, inr}
+use Rattle.std.proofs.Common.{◌≡◌, ◌+◌, ℕ, List, [], ◌∷◌, length, Bool, true, false, cond, Option, None, Some, refl, sym, ap, ◌∙◌, inl, inr, arith}
 use Rattle.std.proofs.lemmas.Bool.{cases_Bool}
 use Rattle.std.specs.Option.{option_map, option_map_or, option_and_then, option_to_list}
 use Rattle.global_model.specs.declared.command.Command.{Command}
@@ -13,11 +13,11 @@ kept true x y e = let same : x ≡ y = cc in (refl, same)
 kept false x y e = cc
 
 -- what a line says is what it spells, and may stand there
-record IsSaid (before : List Command) (line : List ℕ) (found : Option Command) : Type 0 where
+record IsSaid (before : ℕ) (line : List ℕ) (found : Option Command) : Type 0 where
   may : may_be_said before found ≡ true
   spelled : line_command line ≡ Some found
 
-is_said : (before : List Command) (line : List ℕ) (found : Option Command) → said before line ≡ Some found → IsSaid before line found
+is_said : (before : ℕ) (line : List ℕ) (found : Option Command) → said before line ≡ Some found → IsSaid before line found
 is_said before line found is = by (line_command line) refl is
   where
     by : (o : Option (Option Command)) → line_command line ≡ o → option_and_then (λ f. cond (may_be_said before f) (Some f) None) o ≡ Some found → IsSaid before line found
@@ -36,15 +36,15 @@ spelled_ranges line command is =
       | inr plain ↦ (command_of-spells (words_of line) command (unmapped (command_of (words_of line)) command (rw plain at is))).ranges
     ]
 
-placed_from : (lines : List (List ℕ)) (before : List Command) (number : ℕ) → IsPlacedAfter before (scenario_from before number lines).commands
+placed_from : (lines : List (List ℕ)) (before : ℕ) (number : ℕ) → IsPlacedAfter before (scenario_from before number lines).commands
 placed_from [] before number = tt
 placed_from (line ∷ lines) before number = by (λ bs. placed_from lines bs (number + 1)) (said before line) refl
   where
-    by : ((bs : List Command) → IsPlacedAfter bs (scenario_from bs (number + 1) lines).commands) → (o : Option (Option Command)) → said before line ≡ o
-        → IsPlacedAfter before (option_map_or (λ found. onto_scenario (option_to_list found) (scenario_from (option_to_list found ++ before) (number + 1) lines)) o (record { commands = []; unbuilt = Some number })).commands
+    by : ((bs : ℕ) → IsPlacedAfter bs (scenario_from bs (number + 1) lines).commands) → (o : Option (Option Command)) → said before line ≡ o
+        → IsPlacedAfter before (option_map_or (λ found. onto_scenario (option_to_list found) (scenario_from (before + length (option_to_list found)) (number + 1) lines)) o (record { commands = []; unbuilt = Some number })).commands
     by more None is = tt
-    by more (Some None) is = more before
-    by more (Some (Some c)) is = let k = is_said before line (Some c) is in (k.may, spelled_ranges line c k.spelled, more (c ∷ before))
+    by more (Some None) is = let none : before + 0 ≡ before = omega arith in rw none (more before)
+    by more (Some (Some c)) is = let k = is_said before line (Some c) is in (k.may, spelled_ranges line c k.spelled, more (before + 1))
 
-pub scenario_placed : (lines : List (List ℕ)) → IsPlacedAfter [] (scenario_from [] 1 lines).commands
-scenario_placed lines = placed_from lines [] 1
+pub scenario_placed : (lines : List (List ℕ)) → IsPlacedAfter 0 (scenario_from 0 1 lines).commands
+scenario_placed lines = placed_from lines 0 1

@@ -1,16 +1,18 @@
 -- Plain lines: they begin no command, are no refusal, and leave the blocks and the own pages alone.
-use Rattle.std.proofs.Common.{◌≡◌, ℕ, zero, suc, List, [], ◌∷◌, ◌++◌, length, Bool, true, false, not, ◌&&◌, Option, if◌then◌else◌, refl}
+use Rattle.std.proofs.Common.{◌≡◌, ◌+◌, ℕ, zero, suc, List, [], ◌∷◌, ◌++◌, length, map, Bool, true, false, not, ◌&&◌, Option, if◌then◌else◌, refl}
 use Rattle.std.specs.Prelude.{◌==◌, min}
+use Rattle.std.specs.List.{range_with_len}
 use Rattle.xm_num.specs.declared.Enclave.{Enclave}
 use Rattle.xemem_wire.specs.declared.format.Record.{Record}
 use Rattle.xemem_wire.specs.declared.format.Body.{Body}
 use Rattle.xemem_wire.specs.declared.format.Body.TheVariants as bodies
 use Rattle.global_model.specs.declared.line.Line.{Line}
 use Rattle.global_model.specs.declared.line.Line.TheVariants as lines
-use Rattle.global_model.specs.Facts.{Facts, after_line, after_lines}
+use Rattle.global_model.specs.Facts.{Facts, BlockFact, Absent, Free, Lent, Held, after_line, after_lines}
 use Rattle.global_model.specs.Channels.{waiting_bytes, arriving}
-use Rattle.global_model.specs.View.{View, view_of, knows_way, is_for, query_of, here_of, register_of, admit_of, drop_lines, query_lines, here_lines, register_lines, admit_lines, body_lines, record_lines}
-use Rattle.global_model.specs.Due.{host, got_lines, took_lines, deliver_lines, bytes_lines, show_lines, child_lines}
+use Rattle.global_model.specs.View.{View, view_of}
+use Rattle.global_model.specs.Steps.{host, knows_way, is_for, is_stray, query_of, here_of, register_of, admit_of, drop_lines, query_lines, here_lines, register_lines, admit_lines, body_lines, record_lines, child_lines, told_lines, adopt_lines, state_line, state_lines}
+use Rattle.global_model.specs.Due.{got_lines, took_lines, deliver_lines, bytes_lines, show_lines}
 
 abbrev pub is_plain : Line → Bool
 is_plain (lines.Do command) = false
@@ -24,7 +26,7 @@ abbrev pub ArePlain : List Line → Type 0
 ArePlain [] = Unit {0}
 ArePlain (line ∷ journal) = (is_plain line ≡ true) × ArePlain journal
 
-plain-append : (ls ms : List Line) → ArePlain ls → ArePlain ms → ArePlain (ls ++ ms)
+pub plain-append : (ls ms : List Line) → ArePlain ls → ArePlain ms → ArePlain (ls ++ ms)
 plain-append [] ms first more = more
 plain-append (l ∷ ls) ms first more = (first.0, plain-append ls ms first.1 more)
 
@@ -58,7 +60,7 @@ plain_body v from r bodies.Admit = plain_admit v r.dest
 plain_body v from r _ = plain_drop v
 
 plain_record : (v : View) (from : Enclave) (r : Record) → ArePlain (record_lines v from r)
-plain_record v from r = plain_either (r.origin.0 == v.me.0) (drop_lines v) (body_lines v from r r.body) (plain_drop v) (plain_body v from r r.body)
+plain_record v from r = plain_either (is_stray v r) (drop_lines v) (body_lines v from r r.body) (plain_drop v) (plain_body v from r r.body)
 
 -- ---- the lines of the commands over channels
 
@@ -84,8 +86,35 @@ plain_bytes x y (suc most) at (byte ∷ bytes) = (refl, plain_bytes x y most _ _
 pub plain_show : (G : Facts) (x y : Enclave) → ArePlain (show_lines G x y)
 plain_show G x y = plain_bytes x y _ 0 _
 
-pub plain_child : (child parent : Enclave) (ns : Bool) → ArePlain (child_lines child parent ns)
+plain_child : (child parent : Enclave) (ns : Bool) → ArePlain (child_lines child parent ns)
 plain_child child parent ns = plain_either ns (lines.Admitted child ∷ []) (lines.Sent child parent (query_of child) ∷ []) (refl, tt) (refl, tt)
+
+plain_told : (child : Enclave) (heard : List Enclave) → ArePlain (told_lines child heard)
+plain_told child [] = tt
+plain_told child (d ∷ heard) = (refl, plain_told child heard)
+
+plain_adopt : (v : View) (child : Enclave) → ArePlain (adopt_lines v child)
+plain_adopt v child = plain_either (knows_way v) [] (lines.Sent v.me child (query_of v.me) ∷ []) tt (refl, tt)
+
+-- what follows a birth: the deaths of which the child is told, its own lines, and its parent's
+pub plain_birth : (child parent : Enclave) (ns : Bool) (heard : List Enclave) (v : View) → ArePlain ((told_lines child heard ++ child_lines child parent ns) ++ adopt_lines v child)
+plain_birth child parent ns heard v =
+    plain-append (told_lines child heard ++ child_lines child parent ns) (adopt_lines v child)
+    (plain-append (told_lines child heard) (child_lines child parent ns) (plain_told child heard) (plain_child child parent ns))
+    (plain_adopt v child)
 
 pub plain_host : (ns : Bool) → ArePlain (if ns then lines.Admitted host ∷ [] else [])
 plain_host ns = plain_either ns (lines.Admitted host ∷ []) [] (refl, tt) tt
+
+plain_state : (b : ℕ) (s : BlockFact) → ArePlain (state_line b s)
+plain_state b Absent = tt
+plain_state b Free = (refl, tt)
+plain_state b (Lent e) = (refl, tt)
+plain_state b (Held e) = (refl, tt)
+
+plain_states : (b : ℕ) (ss : List BlockFact) → ArePlain (state_lines b ss)
+plain_states b [] = tt
+plain_states b (s ∷ ss) = plain-append (state_line b s) (state_lines (b + 1) ss) (plain_state b s) (plain_states (b + 1) ss)
+
+pub plain_pool : (G : Facts) → ArePlain (state_lines 0 (map G.block (range_with_len 0 G.pool)))
+plain_pool G = plain_states 0 (map G.block (range_with_len 0 G.pool))

@@ -47,6 +47,7 @@ command_of-words (commands.Deliver x y count) h =
     rw (number_in-decimal 0 most16 x.0 h.0.0 h.0.1 (omega arith), number_in-decimal 0 most16 y.0 h.1.0 h.1.1 (omega arith), number_in-decimal 1 most32 count h.2.0 h.2.1 (omega arith)) refl
 command_of-words (commands.ShowLink x y) h =
     rw (number_in-decimal 0 most16 x.0 h.0.0 h.0.1 (omega arith), number_in-decimal 0 most16 y.0 h.1.0 h.1.1 (omega arith)) refl
+command_of-words commands.ShowPool h = refl
 
 -- what is read was spelled
 
@@ -249,6 +250,12 @@ show_link_is words command form keyword h =
     let shape = four words form.count_is in
     rw (← is) (record { is = cc (shape, form.first_is, keyword, s.is, t.is); ranges = ((s.least, s.most), (t.least, t.most)) })
 
+show_pool_is : (words : List (List ℕ)) (command : Command) → HasForm (codes "show") 2 words → word 1 words ≡ codes "pool" → Some commands.ShowPool ≡ Some command → IsSpelled words command
+show_pool_is words command form keyword h =
+    let is : commands.ShowPool ≡ command = cc in
+    let shape = two words form.count_is in
+    rw (← is) (record { is = cc (shape, form.first_is, keyword); ranges = tt })
+
 pub command_of-spells : (words : List (List ℕ)) (command : Command) → command_of words ≡ Some command → IsSpelled words command
 unfolding command_of
 command_of-spells words command h =
@@ -262,4 +269,5 @@ command_of-spells words command h =
     chosen G _ _ _ command h7 (λ test e. boot_is words command false (plain_boot words (has_boot_form _ words test)) e) (λ h8.
     chosen G _ _ _ command h8 (λ test e. let parts = and_parts _ _ test in boot_is words command true (ns_boot words (has_boot_form _ words parts.0) ((bytes_eq-Decides _ _).0 parts.1)) e) (λ h9.
     chosen G _ _ _ command h9 (λ test e. deliver_is words command (has_form _ _ words test) e) (λ h10.
-    chosen G _ _ _ command h10 (λ test e. let parts = and_parts _ _ test in show_link_is words command (has_form _ _ words parts.0) ((bytes_eq-Decides _ _).0 parts.1) e) (λ none. cc))))))))))
+    chosen G _ _ _ command h10 (λ test e. let parts = and_parts _ _ test in show_link_is words command (has_form _ _ words parts.0) ((bytes_eq-Decides _ _).0 parts.1) e) (λ h11.
+    chosen G _ _ _ command h11 (λ test e. let parts = and_parts _ _ test in show_pool_is words command (has_form _ _ words parts.0) ((bytes_eq-Decides _ _).0 parts.1) e) (λ none. cc)))))))))))

@@ -187,11 +187,13 @@ command_in_words (commands.Boot kind parent blocks ns) =
     (name (codes "boot") refl, (kind_name kind, (name (codes "under") refl, (decimal_word parent.0, (name (codes "blocks") refl, (decimal_word blocks, ns_words ns))))))
 command_in_words (commands.Deliver x y count) = (name (codes "deliver") refl, (decimal_word x.0, (decimal_word y.0, (decimal_word count, tt))))
 command_in_words (commands.ShowLink x y) = (name (codes "show") refl, (name (codes "link") refl, (decimal_word x.0, (decimal_word y.0, tt))))
+command_in_words commands.ShowPool = (name (codes "show") refl, (name (codes "pool") refl, tt))
 
 line_in_words : (line : Line) → AreWords (line_words line)
 line_in_words (lines.Do command) = (name (codes "do") refl, command_in_words command)
 line_in_words (lines.Refused cause) = (name (codes "refused") refl, (cause_name cause, tt))
 line_in_words (lines.Born e kind parent ns blocks) = (name (codes "born") refl, (decimal_word e.0, (kind_name kind, (decimal_word parent.0, (ns_mark ns, blocks_words blocks)))))
+line_in_words (lines.Told e of) = (name (codes "told") refl, (decimal_word e.0, (decimal_word of.0, tt)))
 line_in_words (lines.Admitted e) = (name (codes "admitted") refl, (decimal_word e.0, tt))
 line_in_words (lines.Proc e p uid gid) = (name (codes "proc") refl, (decimal_word e.0, (decimal_word p.0, (decimal_word uid, (decimal_word gid, tt)))))
 line_in_words (lines.Alloc e p at frames) = (name (codes "alloc") refl, (decimal_word e.0, (decimal_word p.0, (decimal_word at.0, frames_words frames))))
@@ -200,11 +202,15 @@ line_in_words (lines.Sent x y r) = (name (codes "sent") refl, (decimal_word x.0,
 line_in_words (lines.Took x y count) = (name (codes "took") refl, (decimal_word x.0, (decimal_word y.0, (decimal_word count, tt))))
 line_in_words (lines.Idle x y) = (name (codes "idle") refl, (decimal_word x.0, (decimal_word y.0, tt)))
 line_in_words (lines.Got x y) = (name (codes "got") refl, (decimal_word x.0, (decimal_word y.0, tt)))
+line_in_words (lines.End x y torn) = (name (codes "end") refl, (decimal_word x.0, (decimal_word y.0, (decimal_word torn, tt))))
 line_in_words (lines.Dropped e) = (name (codes "drop") refl, (decimal_word e.0, tt))
 line_in_words (lines.Way e over) = (name (codes "way") refl, (decimal_word e.0, (decimal_word over.0, tt)))
 line_in_words (lines.Back e of over) = (name (codes "back") refl, (decimal_word e.0, (decimal_word of.0, (decimal_word over.0, tt))))
 line_in_words (lines.Route e of over) = (name (codes "route") refl, (decimal_word e.0, (decimal_word of.0, (decimal_word over.0, tt))))
 line_in_words (lines.Bytes x y at bytes) = (name (codes "bytes") refl, (decimal_word x.0, (decimal_word y.0, (decimal_word at, hex_in_words bytes))))
+line_in_words (lines.BlockFree b) = (name (codes "block") refl, (decimal_word b.0, (name (codes "free") refl, tt)))
+line_in_words (lines.BlockLent b e) = (name (codes "block") refl, (decimal_word b.0, (name (codes "lent") refl, (decimal_word e.0, tt))))
+line_in_words (lines.BlockHeld b e) = (name (codes "block") refl, (decimal_word b.0, (name (codes "held") refl, (decimal_word e.0, tt))))
 
 -- ---- the words of words that are joined
 
@@ -237,6 +243,7 @@ no_comment (commands.Touch e p addr want) = refl
 no_comment (commands.Boot kind parent blocks ns) = refl
 no_comment (commands.Deliver x y count) = refl
 no_comment (commands.ShowLink x y) = refl
+no_comment commands.ShowPool = refl
 
 pub line_command-words : (command : Command) → IsInRange command → line_command (join_with_byte 32 (command_words command)) ≡ Some (Some command)
 line_command-words command h = rw (words_of-joined (command_words command) (command_in_words command), no_comment command, command_of-words command h) refl

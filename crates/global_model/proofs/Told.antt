@@ -12,10 +12,11 @@ use Rattle.global_model.specs.declared.line.Line.{Line}
 use Rattle.global_model.specs.declared.line.Line.TheVariants as lines
 use Rattle.global_model.specs.Facts.{Facts, after_lines, facts_at, no_facts}
 use Rattle.global_model.specs.Space.{Mapping}
+use Rattle.global_model.specs.View.{view_of}
 use Rattle.global_model.specs.Refusals.{refusal_of}
 use Rattle.global_model.specs.Due.{next_enclave, touched_lines, acts_of, command_lines, step_lines, journal_from, journal_of, due_since, due_line}
 use Rattle.global_model.specs.History.{Follows, IsDueAt, IsTold, IsWhole, onto, do_commands}
-use Rattle.global_model.proofs.Plain.{is_plain, ArePlain, plain_host, plain_deliver, plain_show, plain_child}
+use Rattle.global_model.proofs.Plain.{is_plain, ArePlain, plain_host, plain_deliver, plain_show, plain_birth, plain_pool}
 use Rattle.global_model.proofs.Pasts.{onto-append, after_lines-append, facts_at-onto, Follows-append}
 
 -- ---- lines that begin no command
@@ -49,9 +50,10 @@ acts_of-acts G (commands.Host blocks ns) = (refl, acts_plain _ (plain_host ns))
 acts_of-acts G (commands.Proc e uid gid) = (refl, tt)
 acts_of-acts G (commands.Alloc e p at pages) = (refl, tt)
 acts_of-acts G (commands.Touch e p addr want) = acts_touched e p _ _
-acts_of-acts G (commands.Boot kind parent blocks ns) = (refl, acts_plain _ (plain_child (next_enclave G) parent ns))
+acts_of-acts G (commands.Boot kind parent blocks ns) = (refl, acts_plain _ (plain_birth (next_enclave G) parent ns (G.heard parent.0) (view_of G parent)))
 acts_of-acts G (commands.Deliver x y count) = acts_plain _ (plain_deliver G x y count)
 acts_of-acts G (commands.ShowLink x y) = acts_plain _ (plain_show G x y)
+acts_of-acts G commands.ShowPool = acts_plain _ (plain_pool G)
 
 refused_or_acts : (cause : Option Cause) (acts : List Line) → AreActs acts → AreActs (option_map_or (λ c. lines.Refused c ∷ []) cause acts)
 unfolding is_do

@@ -1,23 +1,21 @@
 -- The lines that commands are to have, and the line that is due.
-use Rattle.std.specs.Prelude.{◌+◌, ◌/◌, ℕ, zero, suc, min, List, [], ◌∷◌, ◌++◌, length, Bool, ◌==◌, if◌then◌else◌, Option, None, take, drop, slice_get}
+use Rattle.std.specs.Prelude.{◌+◌, ◌/◌, ℕ, zero, suc, min, List, [], ◌∷◌, ◌++◌, length, map, ◌==◌, if◌then◌else◌, Option, None, take, drop, slice_get}
+use Rattle.std.specs.List.{range_with_len}
 use Rattle.std.specs.Option.{option_map_or}
 use Rattle.xm_num.specs.declared.Enclave.{Enclave}
 use Rattle.xm_num.specs.declared.Pid.{Pid}
 use Rattle.xm_num.specs.declared.Vpn.{Vpn}
-use Rattle.xm_num.specs.declared.Kind.TheVariants as kinds
 use Rattle.global_model.specs.declared.command.Command.{Command}
 use Rattle.global_model.specs.declared.command.Command.TheVariants as commands
 use Rattle.global_model.specs.declared.line.Line.{Line}
 use Rattle.global_model.specs.declared.line.Line.TheVariants as lines
 use Rattle.xemem_wire.specs.declared.format.Record.{Record}
 use Rattle.global_model.specs.Channels.{waiting_bytes, arriving}
-use Rattle.global_model.specs.View.{view_of, record_lines, query_of}
+use Rattle.global_model.specs.View.{view_of}
+use Rattle.global_model.specs.Steps.{record_lines, host_lines, birth_lines, adopt_lines, state_lines}
 use Rattle.global_model.specs.Facts.{Facts, after_line, after_lines, facts_at, no_facts}
 use Rattle.global_model.specs.Space.{Mapping, space_of, unused_frames, free_blocks}
 use Rattle.global_model.specs.Refusals.{refusal_of}
-
-abbrev pub host : Enclave
-host = record { 0 = 0 }
 
 -- the number that the enclave draws for its next process
 abbrev pub next_pid : Facts → Enclave → Pid
@@ -56,10 +54,6 @@ bytes_lines x y (suc most) at (byte ∷ bytes) =
 abbrev pub show_lines : Facts → Enclave → Enclave → List Line
 show_lines G x y = let waiting = waiting_bytes G x.0 y.0 in bytes_lines x y (length waiting) 0 waiting
 
--- a child without the name server asks its parent for the way
-abbrev pub child_lines : Enclave → Enclave → Bool → List Line
-child_lines child parent ns = if ns then lines.Admitted child ∷ [] else lines.Sent child parent (query_of child) ∷ []
-
 -- the number that is drawn for the next enclave
 abbrev pub next_enclave : Facts → Enclave
 next_enclave G = record { 0 = G.born }
@@ -67,15 +61,15 @@ next_enclave G = record { 0 = G.born }
 -- the lines of a command that isn't refused
 abbrev pub acts_of : Facts → Command → List Line
 acts_of G (commands.Pool blocks) = []
-acts_of G (commands.Host blocks ns) =
-    lines.Born host kinds.Host host ns (take blocks (free_blocks G)) ∷ (if ns then lines.Admitted host ∷ [] else [])
-acts_of G (commands.Proc e uid gid) = lines.Proc e (next_pid G e) uid gid ∷ []
+acts_of G (commands.Host blocks ns) = host_lines (take blocks (free_blocks G)) ns
 acts_of G (commands.Boot kind parent blocks ns) =
-    lines.Born (next_enclave G) kind parent ns (take blocks (free_blocks G)) ∷ child_lines (next_enclave G) parent ns
+    birth_lines (next_enclave G) kind parent (take blocks (free_blocks G)) ns (G.heard parent.0) ++ adopt_lines (view_of G parent) (next_enclave G)
+acts_of G (commands.Proc e uid gid) = lines.Proc e (next_pid G e) uid gid ∷ []
 acts_of G (commands.Alloc e p at pages) = lines.Alloc e p at (take pages (unused_frames G e.0)) ∷ []
 acts_of G (commands.Touch e p addr want) = touched_lines e p (record { 0 = addr / 4096 }) (space_of G e.0 p.0 (addr / 4096))
 acts_of G (commands.Deliver x y count) = deliver_lines G x y count
 acts_of G (commands.ShowLink x y) = show_lines G x y
+acts_of G commands.ShowPool = state_lines 0 (map G.block (range_with_len 0 G.pool))
 
 -- what follows the `do` line of a command: its refusal, or its acts
 abbrev pub command_lines : Facts → Command → List Line

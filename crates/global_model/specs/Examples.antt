@@ -55,3 +55,28 @@ discovered_journal =
     ∷ codes "do deliver 0 1 1000" ∷ codes "took 0 1 16" ∷ codes "got 0 1" ∷ codes "admitted 1"
     ∷ codes "do deliver 1 1 1" ∷ codes "refused NoLink"
     ∷ codes "do deliver 0 2 1" ∷ codes "refused NoEnclave" ∷ [])
+
+-- memory of a child: its frames are those of its blocks, and the pool tells whose blocks are
+abbrev pub child_memory : List (List ℕ)
+child_memory =
+    codes "pool 4" ∷ codes "host 1 ns" ∷ codes "boot cokernel under 0 blocks 2" ∷ codes "proc 1 5 5" ∷ codes "alloc 1 1 16 64" ∷ codes "alloc 1 1 80 65"
+    ∷ codes "alloc 1 1 79 1" ∷ codes "touch 1 1 65536 r" ∷ codes "show pool" ∷ []
+
+abbrev pub child_memory_journal : List (List ℕ)
+child_memory_journal =
+    codes "do pool 4" ∷ codes "do host 1 ns" ∷ codes "born 0 host 0 ns 0" ∷ codes "admitted 0"
+    ∷ codes "do boot cokernel under 0 blocks 2" ∷ codes "born 1 cokernel 0 - 1 2" ∷ codes "sent 1 0 query 1 65535 0"
+    ∷ codes "do proc 1 5 5" ∷ codes "proc 1 1 5 5"
+    ∷ codes "do alloc 1 1 16 64" ∷ codes "alloc 1 1 16 64 65 66 67 68 69 70 71 72 73 74 75 76 77 78 79 80 81 82 83 84 85 86 87 88 89 90 91 92 93 94 95 96 97 98 99 100 101 102 103 104 105 106 107 108 109 110 111 112 113 114 115 116 117 118 119 120 121 122 123 124 125 126 127"
+    ∷ codes "do alloc 1 1 80 65" ∷ codes "refused NoFrames" ∷ codes "do alloc 1 1 79 1" ∷ codes "refused Taken"
+    ∷ codes "do touch 1 1 65536 r" ∷ codes "touched 1 1 16 64"
+    ∷ codes "do show pool" ∷ codes "block 0 lent 0" ∷ codes "block 1 lent 1" ∷ codes "block 2 lent 1" ∷ codes "block 3 free" ∷ []
+
+-- a host that is refused leaves no enclave
+abbrev pub no_host_born : List (List ℕ)
+no_host_born = codes "pool 1" ∷ codes "host 2 ns" ∷ codes "show pool" ∷ codes "proc 0 1 1" ∷ codes "touch 0 1 0 r" ∷ []
+
+abbrev pub no_host_born_journal : List (List ℕ)
+no_host_born_journal =
+    codes "do pool 1" ∷ codes "do host 2 ns" ∷ codes "refused NoBlocks" ∷ codes "do show pool" ∷ codes "refused NoEnclave"
+    ∷ codes "do proc 0 1 1" ∷ codes "refused NoEnclave" ∷ codes "do touch 0 1 0 r" ∷ codes "refused NoEnclave" ∷ []

@@ -11,11 +11,12 @@ use Rattle.global_model.specs.declared.command.Command.TheVariants as commands
 use Rattle.global_model.specs.declared.line.Line.{Line}
 use Rattle.global_model.specs.declared.line.Line.TheVariants as lines
 
--- the state of a block: beyond the pool, free, or lent to an enclave
+-- the state of a block: beyond the pool, free, lent to an enclave, or held for a dead one
 pub data BlockFact : Type 0 where
   Absent : BlockFact
   Free : BlockFact
   Lent : (enclave : ℕ) → BlockFact
+  Held : (enclave : ℕ) → BlockFact
 
 pub record EnclaveFact : Type 0 where
   pub kind : Kind
@@ -48,7 +49,8 @@ abbrev pub no_channel : ChannelFact
 no_channel = record { sent = []; taken = 0; got = 0 }
 
 -- All facts. What is asked by a number is a function of it; `born` counts the enclaves, `started` the processes of an
--- enclave. A channel is named by its sender and its receiver, and a way by the neighbour over which it goes.
+-- enclave, `starts` those of all. A channel is named by its sender and its receiver, and a way by the neighbour over which it
+-- goes. `heard` has the deaths that an enclave knows of.
 pub record Facts : Type 0 where
   pub pool : ℕ
   pub block : ℕ → BlockFact
@@ -56,12 +58,14 @@ pub record Facts : Type 0 where
   pub enclave : ℕ → Option EnclaveFact
   pub way : ℕ → Option Enclave
   pub channel : ℕ → ℕ → ChannelFact
+  pub heard : ℕ → List Enclave
+  pub starts : ℕ
   pub started : ℕ → ℕ
   pub process : ℕ → ℕ → Option ProcessFact
   pub own : List OwnPage
 
 abbrev pub no_facts : Facts
-no_facts = record { pool = 0; block = λ b. Absent; born = 0; enclave = λ e. None; way = λ e. None; channel = λ x y. no_channel; started = λ e. 0; process = λ e p. None; own = [] }
+no_facts = record { pool = 0; block = λ b. Absent; born = 0; enclave = λ e. None; way = λ e. None; channel = λ x y. no_channel; heard = λ e. []; starts = 0; started = λ e. 0; process = λ e p. None; own = [] }
 
 -- a function with another value at one number
 abbrev pub at_number : {A : Type 0} → ℕ → A → (ℕ → A) → ℕ → A
@@ -105,8 +109,10 @@ after_line G (lines.Born e kind parent ns blocks) = record G {
   born = G.born + 1;
   enclave = at_number e.0 (Some (record { kind = kind; parent = parent; blocks = blocks; ns = ns; living = true; admitted = false })) G.enclave;
 }
+after_line G (lines.Told e of) = record G { heard = at_number e.0 (G.heard e.0 ++ of ∷ []) G.heard }
 after_line G (lines.Admitted e) = record G { enclave = at_number e.0 (as_admitted (G.enclave e.0)) G.enclave }
 after_line G (lines.Proc e p uid gid) = record G {
+  starts = G.starts + 1;
   started = at_number e.0 (G.started e.0 + 1) G.started;
   process = at_number e.0 (at_number p.0 (Some (record { uid = uid; gid = gid; living = true })) (G.process e.0)) G.process;
 }
@@ -162,8 +168,10 @@ abbrev pub is_free : BlockFact → Bool
 is_free Absent = false
 is_free Free = true
 is_free (Lent e) = false
+is_free (Held e) = false
 
 abbrev pub is_lent_to : ℕ → BlockFact → Bool
 is_lent_to e Absent = false
 is_lent_to e Free = false
 is_lent_to e (Lent owner) = owner == e
+is_lent_to e (Held owner) = false

@@ -5,10 +5,12 @@ pub mod Ranges
 pub mod Facts
 pub mod Channels
 pub mod View
+pub mod Steps
 pub mod Space
 pub mod Refusals
 pub mod Flow
 pub mod Due
+pub mod Known
 pub mod Lawful
 pub mod History
 pub mod Examples

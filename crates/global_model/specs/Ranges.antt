@@ -32,3 +32,4 @@ IsInRange (commands.Alloc e p at pages) = IsWithin 0 most16 e.0 × IsWithin 0 mo
 IsInRange (commands.Touch e p addr want) = IsWithin 0 most16 e.0 × IsWithin 0 most32 p.0 × IsWithin 0 (2 ^ 64 - 1) addr
 IsInRange (commands.Deliver x y count) = IsWithin 0 most16 x.0 × IsWithin 0 most16 y.0 × IsWithin 1 most32 count
 IsInRange (commands.ShowLink x y) = IsWithin 0 most16 x.0 × IsWithin 0 most16 y.0
+IsInRange commands.ShowPool = Unit {0}

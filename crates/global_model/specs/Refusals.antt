@@ -1,14 +1,17 @@
 -- The conditions under which a command is refused.
-use Rattle.std.specs.Prelude.{◌/◌, List, [], ◌∷◌, length, Bool, not, ◌&&◌, nat_le, nat_lt, if◌then◌else◌, Option, None, Some, ℕ, is_some, is_none}
+use Rattle.std.specs.Prelude.{◌+◌, ◌/◌, List, [], ◌∷◌, length, Bool, not, ◌&&◌, nat_le, nat_lt, if◌then◌else◌, Option, None, Some, ℕ, is_some, is_none, false}
 use Rattle.std.specs.List.{range_with_len, list_any}
+use Rattle.std.specs.Option.{option_map_or}
 use Rattle.xm_num.specs.declared.Cause.{Cause}
 use Rattle.xm_num.specs.declared.Cause.TheVariants as causes
 use Rattle.global_model.specs.declared.command.Command.{Command}
 use Rattle.global_model.specs.declared.command.Command.TheVariants as commands
 use Rattle.xm_num.specs.declared.Enclave.{Enclave}
-use Rattle.global_model.specs.Facts.{Facts, is_living_enclave}
+use Rattle.xm_num.specs.declared.Pid.{Pid}
+use Rattle.xm_num.specs.declared.Want.{Want}
+use Rattle.global_model.specs.Facts.{Facts, is_living_enclave, is_living_process}
 use Rattle.global_model.specs.Channels.{was_born, is_neighbour}
-use Rattle.global_model.specs.Space.{space_of, unused_frames, free_blocks}
+use Rattle.global_model.specs.Space.{Mapping, allows, space_of, unused_frames, free_blocks}
 
 -- one of so many pages from that one on is mapped
 abbrev pub is_taken : Facts → ℕ → ℕ → ℕ → ℕ → Bool
@@ -22,6 +25,17 @@ pub record Condition : Type 0 where
 abbrev pub when : Cause → Bool → Condition
 when cause holds = record { cause = cause; holds = holds }
 
+-- the enclave doesn't live; the process doesn't
+abbrev pub no_enclave : Facts → Enclave → Condition
+no_enclave G e = when causes.NoEnclave (not (is_living_enclave (G.enclave e.0)))
+
+abbrev pub no_process : Facts → Enclave → Pid → Condition
+no_process G e p = when causes.NoProcess (not (is_living_process (G.process e.0 p.0)))
+
+-- the page is mapped, and its access doesn't allow what is wanted
+abbrev pub denies : Want → Option Mapping → Bool
+denies want mapping = option_map_or (λ found. not (allows found.access want)) mapping false
+
 -- the receiver doesn't live or the sender was never born; they aren't neighbours
 abbrev pub link_conditions : Facts → Enclave → Enclave → List Condition
 link_conditions G x y =
@@ -31,18 +45,30 @@ link_conditions G x y =
 
 -- the conditions of a command in their order, by the facts at its `do` line
 abbrev pub conditions_of : Facts → Command → List Condition
+conditions_of G (commands.Pool blocks) = []
+conditions_of G (commands.Host blocks ns) = when causes.NoBlocks (nat_lt G.pool blocks) ∷ []
+conditions_of G (commands.Boot kind parent blocks ns) =
+    no_enclave G parent
+    ∷ when causes.TooMany (nat_le 256 G.born)
+    ∷ when causes.NoBlocks (nat_lt (length (free_blocks G)) blocks)
+    ∷ []
+conditions_of G (commands.Proc e uid gid) = no_enclave G e ∷ when causes.TooMany (nat_le 1024 G.starts) ∷ []
 conditions_of G (commands.Alloc e p at pages) =
-    when causes.Taken (is_taken G e.0 p.0 at.0 pages)
+    no_enclave G e
+    ∷ no_process G e p
+    ∷ when causes.BadRange (nat_lt 16777216 (at.0 + pages))
+    ∷ when causes.Taken (is_taken G e.0 p.0 at.0 pages)
     ∷ when causes.NoFrames (nat_lt (length (unused_frames G e.0)) pages)
     ∷ []
-conditions_of G (commands.Touch e p addr want) = when causes.NotMapped (is_none (space_of G e.0 p.0 (addr / 4096))) ∷ []
-conditions_of G (commands.Boot kind parent blocks ns) =
-    when causes.TooMany (nat_le 256 G.born)
-    ∷ when causes.NoBlocks (nat_lt (length (free_blocks G)) blocks)
+conditions_of G (commands.Touch e p addr want) =
+    no_enclave G e
+    ∷ no_process G e p
+    ∷ when causes.NotMapped (is_none (space_of G e.0 p.0 (addr / 4096)))
+    ∷ when causes.Denied (denies want (space_of G e.0 p.0 (addr / 4096)))
     ∷ []
 conditions_of G (commands.Deliver x y count) = link_conditions G x y
 conditions_of G (commands.ShowLink x y) = link_conditions G x y
-conditions_of G command = []
+conditions_of G commands.ShowPool = when causes.NoEnclave (not (was_born G 0)) ∷ []
 
 abbrev pub first_cause : List Condition → Option Cause
 first_cause [] = None

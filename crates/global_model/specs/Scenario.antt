@@ -1,6 +1,5 @@
 -- The commands that a scenario's bytes spell, and its first line that isn't built.
 use Rattle.std.specs.Prelude.{◌≡◌, ◌+◌, ◌^◌, ◌-◌, ℕ, List, [], ◌∷◌, ◌++◌, length, Bool, true, false, not, ◌&&◌, ◌==◌, nat_le, if◌then◌else◌, Option, None, Some, codes, slice_index, slice_index_or}
-use Rattle.std.specs.List.{list_any}
 use Rattle.std.specs.Option.{option_map, option_map_or, option_and_then, option_to_list}
 use Rattle.std.specs.Str.{bytes_eq}
 use Rattle.xm_num.specs.declared.Kind.{Kind}
@@ -100,7 +99,8 @@ command_of words =
     else (if is_boot 7 words && bytes_eq (word 6 words) (codes "ns") then boot_form true words
     else (if is_form (codes "deliver") 4 words then deliver_form words
     else (if is_form (codes "show") 4 words && bytes_eq (word 1 words) (codes "link") then show_link_form words
-    else None)))))))))
+    else (if is_form (codes "show") 2 words && bytes_eq (word 1 words) (codes "pool") then Some commands.ShowPool
+    else None))))))))))
 
 -- a line without words, and one whose first word begins with `#`, is a comment
 abbrev pub is_comment : List (List ℕ) → Bool
@@ -113,41 +113,26 @@ line_command line = let words = words_of line in if is_comment words then Some N
 
 -- ---- where a command may stand
 
--- the command is a pool of at least so many blocks
-abbrev pub is_pool_for : ℕ → Command → Bool
-is_pool_for blocks (commands.Pool all) = nat_le blocks all
-is_pool_for blocks command = false
-
-abbrev pub is_proc : Command → Bool
-is_proc (commands.Proc e uid gid) = true
-is_proc command = false
-
 abbrev pub is_cokernel : Kind → Bool
 is_cokernel kinds.Host = false
 is_cokernel kinds.Cokernel = true
 is_cokernel kinds.Vm = false
 
--- The commands that are built may stand after these, the newest first: first `pool`, second `host` within the pool
--- and with the name server, then the others: `proc` at the host once, `alloc` and `touch` of that process, `boot` of a
--- co-kernel under the host and without the name server, `deliver` and `show link`. The pages of an `alloc` end at the
--- last page.
-abbrev pub may_stand : List Command → Command → Bool
-may_stand before (commands.Pool blocks) = length before == 0
-may_stand before (commands.Host blocks ns) = (length before == 1) && list_any (is_pool_for blocks) before && ns
-may_stand before (commands.Boot kind parent blocks ns) = nat_le 2 (length before) && is_cokernel kind && (parent.0 == 0) && not ns
-may_stand before (commands.Proc e uid gid) = nat_le 2 (length before) && not (list_any is_proc before) && (e.0 == 0)
-may_stand before (commands.Alloc e p at pages) = list_any is_proc before && (e.0 == 0) && (p.0 == 1) && nat_le (at.0 + pages) 16777216
-may_stand before (commands.Touch e p addr want) = list_any is_proc before && (e.0 == 0) && (p.0 == 1)
-may_stand before (commands.Deliver x y count) = nat_le 2 (length before)
-may_stand before (commands.ShowLink x y) = nat_le 2 (length before)
+-- The commands that are built may stand after so many others: first `pool`, second `host` with the name server, then the
+-- others, of which `boot` is of a co-kernel under the host and without the name server.
+abbrev pub may_stand : ℕ → Command → Bool
+may_stand before (commands.Pool blocks) = before == 0
+may_stand before (commands.Host blocks ns) = (before == 1) && ns
+may_stand before (commands.Boot kind parent blocks ns) = nat_le 2 before && is_cokernel kind && (parent.0 == 0) && not ns
+may_stand before command = nat_le 2 before
 
--- each command may stand after those before it, and its numbers are in their ranges
-abbrev pub IsPlacedAfter : List Command → List Command → Type 0
+-- each command may stand after those before it, of which there are so many, and its numbers are in their ranges
+abbrev pub IsPlacedAfter : ℕ → List Command → Type 0
 IsPlacedAfter before [] = Unit {0}
-IsPlacedAfter before (command ∷ commands) = (may_stand before command ≡ true) × IsInRange command × IsPlacedAfter (command ∷ before) commands
+IsPlacedAfter before (command ∷ commands) = (may_stand before command ≡ true) × IsInRange command × IsPlacedAfter (before + 1) commands
 
 abbrev pub IsPlaced : List Command → Type 0
-IsPlaced commands = IsPlacedAfter [] commands
+IsPlaced commands = IsPlacedAfter 0 commands
 
 -- ---- scenarios
 
@@ -156,20 +141,20 @@ pub record Scenario : Type 0 where
   pub commands : List Command
   pub unbuilt : Option ℕ
 
-abbrev pub may_be_said : List Command → Option Command → Bool
+abbrev pub may_be_said : ℕ → Option Command → Bool
 may_be_said before found = option_map_or (may_stand before) found true
 
--- what a line says after these commands, the newest first: nothing, or a command that may stand there
-abbrev pub said : List Command → List ℕ → Option (Option Command)
+-- what a line says after so many commands: nothing, or a command that may stand there
+abbrev pub said : ℕ → List ℕ → Option (Option Command)
 said before line = option_and_then (λ found. if may_be_said before found then Some found else None) (line_command line)
 
 abbrev pub onto_scenario : List Command → Scenario → Scenario
 onto_scenario found rest = record { commands = found ++ rest.commands; unbuilt = rest.unbuilt }
 
-abbrev pub scenario_from : List Command → ℕ → List (List ℕ) → Scenario
+abbrev pub scenario_from : ℕ → ℕ → List (List ℕ) → Scenario
 scenario_from before number [] = record { commands = []; unbuilt = None }
 scenario_from before number (line ∷ lines) =
-    option_map_or (λ found. onto_scenario (option_to_list found) (scenario_from (option_to_list found ++ before) (number + 1) lines)) (said before line) (record { commands = []; unbuilt = Some number })
+    option_map_or (λ found. onto_scenario (option_to_list found) (scenario_from (before + length (option_to_list found)) (number + 1) lines)) (said before line) (record { commands = []; unbuilt = Some number })
 
 abbrev pub scenario_of : List ℕ → Scenario
-scenario_of bytes = scenario_from [] 1 (lines_of bytes)
+scenario_of bytes = scenario_from 0 1 (lines_of bytes)

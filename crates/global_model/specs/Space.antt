@@ -1,9 +1,11 @@
 -- The space of a process, the frames that are mapped, and those that are unused.
-use Rattle.std.specs.Prelude.{◌≡◌, ◌*◌, ◌/◌, ℕ, List, Bool, true, not, ◌&&◌, ◌==◌, Option, Some, filter, find, map, false}
+use Rattle.std.specs.Prelude.{◌≡◌, ◌*◌, ◌/◌, ℕ, List, [], ◌∷◌, Bool, true, not, ◌&&◌, ◌==◌, Option, Some, filter, map, false}
 use Rattle.std.specs.List.{range_with_len, list_any}
 use Rattle.std.specs.Option.{option_map}
 use Rattle.xm_num.specs.declared.Frame.{Frame}
 use Rattle.xm_num.specs.declared.Block.{Block}
+use Rattle.xm_num.specs.declared.Page.{Page}
+use Rattle.xm_num.specs.Rows.{at, put}
 use Rattle.xm_num.specs.declared.Access.{Access}
 use Rattle.xm_num.specs.declared.Access.TheVariants as accesses
 use Rattle.xm_num.specs.declared.Want.{Want}
@@ -15,16 +17,28 @@ pub record Mapping : Type 0 where
   pub frame : Frame
   pub access : Access
 
-abbrev pub is_page_of : ℕ → ℕ → ℕ → OwnPage → Bool
-is_page_of e p page own = (own.enclave.0 == e) && (own.pid.0 == p) && (own.page == page)
+abbrev pub is_of : ℕ → ℕ → OwnPage → Bool
+is_of e p own = (own.enclave.0 == e) && (own.pid.0 == p)
 
 -- an own page may be read and written
-abbrev pub own_mapping : OwnPage → Mapping
-own_mapping own = record { frame = own.frame; access = accesses.ReadWrite }
+abbrev pub own_page : Frame → Page
+own_page frame = record { frame = frame; access = accesses.ReadWrite; own = true }
+
+-- the rows with these own pages put in, by their numbers
+abbrev pub with_own : List (ℕ × Page) → List OwnPage → List (ℕ × Page)
+with_own rows [] = rows
+with_own rows (own ∷ owns) = with_own (put rows own.page (own_page own.frame)) owns
+
+-- the pages of a process, ascending
+abbrev pub pages_of : Facts → ℕ → ℕ → List (ℕ × Page)
+pages_of G e p = with_own [] (filter (is_of e p) G.own)
+
+abbrev pub mapping_of : Page → Mapping
+mapping_of page = record { frame = page.frame; access = page.access }
 
 -- the space of a process: what each page is mapped to
 abbrev pub space_of : Facts → ℕ → ℕ → ℕ → Option Mapping
-space_of G e p page = option_map own_mapping (find (is_page_of e p page) G.own)
+space_of G e p page = option_map mapping_of (at (pages_of G e p) page)
 
 -- the access allows what is wanted
 abbrev pub allows : Access → Want → Bool

@@ -1,5 +1,5 @@
 -- How commands and journal lines are spelled, and the text of a journal.
-use Rattle.std.specs.Prelude.{ℕ, List, [], ◌∷◌, ◌++◌, codes, decimal, map, Bool, if◌then◌else◌}
+use Rattle.std.specs.Prelude.{◌+◌, ℕ, List, [], ◌∷◌, ◌++◌, codes, decimal, length, map, Bool, if◌then◌else◌}
 use Rattle.std.specs.List.{join_with_byte, flat_map}
 use Rattle.xm_num.specs.declared.Kind.{Kind}
 use Rattle.xm_num.specs.declared.Kind.TheVariants as kinds
@@ -62,6 +62,7 @@ command_words (commands.Touch e p addr want) = codes "touch" ∷ decimal e.0 ∷
 command_words (commands.Boot kind parent blocks ns) = codes "boot" ∷ kind_word kind ∷ codes "under" ∷ decimal parent.0 ∷ codes "blocks" ∷ decimal blocks ∷ ns_word ns
 command_words (commands.Deliver x y count) = codes "deliver" ∷ decimal x.0 ∷ decimal y.0 ∷ decimal count ∷ []
 command_words (commands.ShowLink x y) = codes "show" ∷ codes "link" ∷ decimal x.0 ∷ decimal y.0 ∷ []
+command_words commands.ShowPool = codes "show" ∷ codes "pool" ∷ []
 
 -- the name of a record
 abbrev pub name_word : Body → List ℕ
@@ -101,6 +102,7 @@ line_words (lines.Do command) = codes "do" ∷ command_words command
 line_words (lines.Refused cause) = codes "refused" ∷ cause_word cause ∷ []
 line_words (lines.Born e kind parent ns blocks) =
     codes "born" ∷ decimal e.0 ∷ kind_word kind ∷ decimal parent.0 ∷ (if ns then codes "ns" else codes "-") ∷ map (λ b. decimal b.0) blocks
+line_words (lines.Told e of) = codes "told" ∷ decimal e.0 ∷ decimal of.0 ∷ []
 line_words (lines.Admitted e) = codes "admitted" ∷ decimal e.0 ∷ []
 line_words (lines.Proc e p uid gid) = codes "proc" ∷ decimal e.0 ∷ decimal p.0 ∷ decimal uid ∷ decimal gid ∷ []
 line_words (lines.Alloc e p at frames) = codes "alloc" ∷ decimal e.0 ∷ decimal p.0 ∷ decimal at.0 ∷ map (λ f. decimal f.0) frames
@@ -109,11 +111,20 @@ line_words (lines.Sent x y r) = codes "sent" ∷ decimal x.0 ∷ decimal y.0 ∷
 line_words (lines.Took x y count) = codes "took" ∷ decimal x.0 ∷ decimal y.0 ∷ decimal count ∷ []
 line_words (lines.Idle x y) = codes "idle" ∷ decimal x.0 ∷ decimal y.0 ∷ []
 line_words (lines.Got x y) = codes "got" ∷ decimal x.0 ∷ decimal y.0 ∷ []
+line_words (lines.End x y torn) = codes "end" ∷ decimal x.0 ∷ decimal y.0 ∷ decimal torn ∷ []
 line_words (lines.Dropped e) = codes "drop" ∷ decimal e.0 ∷ []
 line_words (lines.Way e over) = codes "way" ∷ decimal e.0 ∷ decimal over.0 ∷ []
 line_words (lines.Back e of over) = codes "back" ∷ decimal e.0 ∷ decimal of.0 ∷ decimal over.0 ∷ []
 line_words (lines.Route e of over) = codes "route" ∷ decimal e.0 ∷ decimal of.0 ∷ decimal over.0 ∷ []
 line_words (lines.Bytes x y at bytes) = codes "bytes" ∷ decimal x.0 ∷ decimal y.0 ∷ decimal at ∷ hex_words bytes
+line_words (lines.BlockFree b) = codes "block" ∷ decimal b.0 ∷ codes "free" ∷ []
+line_words (lines.BlockLent b e) = codes "block" ∷ decimal b.0 ∷ codes "lent" ∷ decimal e.0 ∷ []
+line_words (lines.BlockHeld b e) = codes "block" ∷ decimal b.0 ∷ codes "held" ∷ decimal e.0 ∷ []
+
+-- how many words a journal has
+abbrev pub words_in : List Line → ℕ
+words_in [] = 0
+words_in (line ∷ journal) = length (line_words line) + words_in journal
 
 -- each word with a space before it
 abbrev pub spaced : List (List ℕ) → List ℕ

@@ -1,91 +1,158 @@
--- What an enclave knows, and what it writes for a record: a function of its view and of the record at hand alone.
-use Rattle.std.specs.Prelude.{List, [], ◌∷◌, ◌++◌, Bool, true, not, ◌&&◌, ◌||◌, ◌==◌, if◌then◌else◌, Option, None, Some, is_some, false}
-use Rattle.std.specs.Option.{option_map_or}
+-- What an enclave knows, and what a line of its own changes in it.
+use Rattle.std.specs.Prelude.{◌+◌, ◌-◌, ℕ, List, [], ◌∷◌, ◌++◌, length, drop, map, filter, Bool, true, false, ◌||◌, ◌==◌, if◌then◌else◌, Option, None, Some, slice_set, slice_index_or}
+use Rattle.std.specs.List.{range_with_len, flat_map}
 use Rattle.xm_num.specs.declared.Enclave.{Enclave}
-use Rattle.xemem_wire.specs.declared.format.Record.{Record}
-use Rattle.xemem_wire.specs.declared.format.Body.{Body}
-use Rattle.xemem_wire.specs.declared.format.Body.TheVariants as bodies
+use Rattle.xm_num.specs.declared.Kind.{Kind}
+use Rattle.xm_num.specs.declared.Kind.TheVariants as kinds
+use Rattle.xm_num.specs.declared.Block.{Block}
+use Rattle.xm_num.specs.declared.Frame.{Frame}
+use Rattle.xm_num.specs.declared.Page.{Page}
+use Rattle.xm_num.specs.Rows.{put, put_all}
 use Rattle.global_model.specs.declared.line.Line.{Line}
 use Rattle.global_model.specs.declared.line.Line.TheVariants as lines
-use Rattle.global_model.specs.Facts.{Facts, is_holder, is_admitted}
+use Rattle.global_model.specs.Facts.{Facts, BlockFact, Lent, EnclaveFact, ProcessFact, is_listed}
+use Rattle.global_model.specs.Channels.{is_child_of}
+use Rattle.global_model.specs.Space.{own_page, pages_of, unused_frames, block_frames}
 
--- The view of an enclave: whether it holds the name server, whether it is admitted, and the neighbour over which its way to
--- the name server goes.
+-- a process: its user and group, and its pages, ascending
+pub record ProcessView : Type 0 where
+  pub uid : ℕ
+  pub gid : ℕ
+  pub pages : List (ℕ × Page)
+
+-- what the host keeps for the machine: the state of each block, and the parent of each enclave, both by their numbers
+pub record HostView : Type 0 where
+  pub states : List BlockFact
+  pub parents : List Enclave
+
+-- The view of an enclave: its number, kind, parent and blocks; whether it holds the name server, and is admitted; the deaths
+-- it knows of; the neighbour over which its way to the name server goes; its unused frames, ascending; its processes, of
+-- which the first is process 1; its children and their kinds, ascending; and what it keeps as the host.
 pub record View : Type 0 where
   pub me : Enclave
+  pub kind : Kind
+  pub parent : Enclave
+  pub blocks : List Block
   pub holder : Bool
   pub admitted : Bool
+  pub heard : List Enclave
   pub way : Option Enclave
+  pub free : List Frame
+  pub processes : List ProcessView
+  pub children : List (ℕ × Kind)
+  pub host : HostView
+
+-- ---- the view, by the facts
+
+-- an enclave that isn't born
+abbrev pub unborn_fact : EnclaveFact
+unborn_fact = record { kind = kinds.Host; parent = record { 0 = 0 }; blocks = []; ns = false; living = false; admitted = false }
+
+abbrev pub fact_of : Option EnclaveFact → EnclaveFact
+fact_of None = unborn_fact
+fact_of (Some fact) = fact
+
+abbrev pub user_of : Option ProcessFact → ProcessFact
+user_of None = record { uid = 0; gid = 0; living = false }
+user_of (Some fact) = fact
+
+abbrev pub process_of : Facts → ℕ → ℕ → ProcessView
+process_of G e p = record { uid = (user_of (G.process e p)).uid; gid = (user_of (G.process e p)).gid; pages = pages_of G e p }
+
+abbrev pub child_row : Facts → ℕ → ℕ × Kind
+child_row G c = (c, (fact_of (G.enclave c)).kind)
+
+abbrev pub no_host : HostView
+no_host = record { states = []; parents = [] }
+
+abbrev pub host_of : Facts → HostView
+host_of G = record { states = map G.block (range_with_len 0 G.pool); parents = map (λ e. (fact_of (G.enclave e)).parent) (range_with_len 0 G.born) }
 
 abbrev pub view_of : Facts → Enclave → View
-view_of G e = record { me = e; holder = is_holder (G.enclave e.0); admitted = is_admitted (G.enclave e.0); way = G.way e.0 }
+view_of G e = record {
+  me = e;
+  kind = (fact_of (G.enclave e.0)).kind;
+  parent = (fact_of (G.enclave e.0)).parent;
+  blocks = (fact_of (G.enclave e.0)).blocks;
+  holder = (fact_of (G.enclave e.0)).ns;
+  admitted = (fact_of (G.enclave e.0)).admitted;
+  heard = G.heard e.0;
+  way = G.way e.0;
+  free = unused_frames G e.0;
+  processes = map (process_of G e.0) (range_with_len 1 (G.started e.0));
+  children = map (child_row G) (filter (λ c. is_child_of G c e.0) (range_with_len 0 G.born));
+  host = if e.0 == 0 then host_of G else no_host;
+}
 
-abbrev pub knows_way : View → Bool
-knows_way v = v.holder || is_some v.way
+-- ---- what a line of its own changes
 
--- ---- the records of discovery
+-- the states of the blocks from that number on, once these are lent to the enclave
+abbrev pub lend_from : ℕ → List Block → Enclave → List BlockFact → List BlockFact
+lend_from k blocks e [] = []
+lend_from k blocks e (s ∷ ss) = (if is_listed blocks k then Lent e.0 else s) ∷ lend_from (k + 1) blocks e ss
 
-abbrev pub query_of : Enclave → Record
-query_of e = record { origin = e; dest = None; call = 0; body = bodies.Query }
+abbrev pub frames_of : List Block → List Frame
+frames_of blocks = flat_map block_frames blocks
 
-abbrev pub here_of : Enclave → Record
-here_of e = record { origin = e; dest = None; call = 0; body = bodies.Here }
+-- the enclave itself is born
+abbrev pub as_born : Kind → Enclave → Bool → List Block → View → View
+as_born kind parent ns blocks v = record v { kind = kind; parent = parent; blocks = blocks; holder = ns; free = frames_of blocks }
 
-abbrev pub register_of : Enclave → Record
-register_of e = record { origin = e; dest = None; call = 0; body = bodies.Register }
+-- a child of this kind is born under the enclave
+abbrev pub with_child : Enclave → Kind → View → View
+with_child child kind v = record v { children = put v.children child.0 kind }
 
-abbrev pub admit_of : Enclave → Enclave → Record
-admit_of e d = record { origin = e; dest = Some d; call = 0; body = bodies.Admit }
+-- the host lends these blocks to an enclave that is born, and records its parent
+abbrev pub with_record : Enclave → Enclave → List Block → View → View
+with_record child parent blocks v = record v { host = record { states = lend_from 0 blocks child v.host.states; parents = v.host.parents ++ parent ∷ [] } }
 
--- ---- what an enclave writes for a record from a neighbour
+abbrev pub with_birth : Enclave → Kind → Enclave → Bool → List Block → View → View
+with_birth child kind parent ns blocks v =
+    let one = if child.0 == v.me.0 then as_born kind parent ns blocks v else (if parent.0 == v.me.0 then with_child child kind v else v) in
+    if v.me.0 == 0 then with_record child parent blocks one else one
 
-abbrev pub drop_lines : View → List Line
-drop_lines v = lines.Dropped v.me ∷ []
+abbrev pub new_process : ℕ → ℕ → ProcessView
+new_process uid gid = record { uid = uid; gid = gid; pages = [] }
 
--- a query is answered where the way is known
-abbrev pub query_lines : View → Enclave → List Line
-query_lines v from = if knows_way v then lines.Sent v.me from (here_of v.me) ∷ [] else drop_lines v
+-- the process at that place with these frames as own pages from that one on
+abbrev pub with_pages : List ProcessView → ℕ → ℕ → List Frame → List ProcessView
+with_pages processes i page frames =
+    let process = slice_index_or processes i (new_process 0 0) in
+    slice_set processes i (record process { pages = put_all process.pages page (map own_page frames) })
 
--- the first here fixes the way, and the enclave registers over it
-abbrev pub here_lines : View → Enclave → List Line
-here_lines v from = if knows_way v then drop_lines v else lines.Way v.me from ∷ lines.Sent v.me from (register_of v.me) ∷ []
-
--- the holder of the name server learns the route and admits
-abbrev pub register_lines : View → Enclave → Enclave → List Line
-register_lines v from of =
-    if v.holder then lines.Back v.me of from ∷ lines.Route v.me of from ∷ lines.Sent v.me from (admit_of v.me of) ∷ []
-    else drop_lines v
-
-abbrev pub is_for : View → Option Enclave → Bool
-is_for v dest = option_map_or (λ d. d.0 == v.me.0) dest false
-
-abbrev pub admit_lines : View → Option Enclave → List Line
-admit_lines v dest = if is_for v dest && not v.admitted then lines.Admitted v.me ∷ [] else drop_lines v
-
-abbrev pub body_lines : View → Enclave → Record → Body → List Line
-body_lines v from r bodies.Query = query_lines v from
-body_lines v from r bodies.Here = here_lines v from
-body_lines v from r bodies.Register = register_lines v from r.origin
-body_lines v from r bodies.Admit = admit_lines v r.dest
-body_lines v from r body = drop_lines v
-
--- a record that comes back to its origin is dropped
-abbrev pub record_lines : View → Enclave → Record → List Line
-record_lines v from r = if r.origin.0 == v.me.0 then drop_lines v else body_lines v from r r.body
-
--- what a line of its own changes in an enclave's view
+-- what a line at the enclave changes in its view
 abbrev pub own_line : View → Line → View
-own_line v (lines.Way e over) = record v { way = Some over }
+own_line v (lines.Born child kind parent ns blocks) = with_birth child kind parent ns blocks v
+own_line v (lines.Told e of) = record v { heard = v.heard ++ of ∷ [] }
 own_line v (lines.Admitted e) = record v { admitted = true }
+own_line v (lines.Proc e p uid gid) = record v { processes = v.processes ++ new_process uid gid ∷ [] }
+own_line v (lines.Alloc e p page frames) = record v { free = drop (length frames) v.free; processes = with_pages v.processes (p.0 - 1) page.0 frames }
+own_line v (lines.Way e over) = record v { way = Some over }
 own_line v line = v
 
 abbrev pub own_lines : View → List Line → View
 own_lines v [] = v
 own_lines v (line ∷ journal) = own_lines (own_line v line) journal
 
--- the lines of records that come from a neighbour one after the other, each by the view after the lines before it
-abbrev pub lines_of_records : View → Enclave → List Record → List Line
-lines_of_records v from [] = []
-lines_of_records v from (r ∷ rs) =
-    let own = lines.Got from v.me ∷ record_lines v from r in
-    own ++ lines_of_records (own_lines v own) from rs
+-- the line is at the enclave: its step wrote it; a birth is also at the parent and at the host
+abbrev pub is_at : Enclave → Line → Bool
+is_at e (lines.Born child kind parent ns blocks) = (child.0 == e.0) || (parent.0 == e.0) || (e.0 == 0)
+is_at e (lines.Told of dead) = of.0 == e.0
+is_at e (lines.Admitted of) = of.0 == e.0
+is_at e (lines.Proc of p uid gid) = of.0 == e.0
+is_at e (lines.Alloc of p page frames) = of.0 == e.0
+is_at e (lines.Touched of p page frame) = of.0 == e.0
+is_at e (lines.Sent x y r) = x.0 == e.0
+is_at e (lines.Took x y count) = y.0 == e.0
+is_at e (lines.Got x y) = y.0 == e.0
+is_at e (lines.End x y torn) = y.0 == e.0
+is_at e (lines.Dropped of) = of.0 == e.0
+is_at e (lines.Way of over) = of.0 == e.0
+is_at e (lines.Back of d over) = of.0 == e.0
+is_at e (lines.Route of d over) = of.0 == e.0
+is_at e line = false
+
+-- what the lines of a journal change in a view: those that are at the enclave, and no others
+abbrev pub seen_lines : View → List Line → View
+seen_lines v [] = v
+seen_lines v (line ∷ journal) = seen_lines (if is_at v.me line then own_line v line else v) journal

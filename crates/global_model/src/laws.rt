@@ -1,6 +1,6 @@
 // Laws of the definitions: each is the contract of a function with an empty body, which a crate above calls to have it.
-ghost use Rattle.std.specs.Prelude.{◌≡◌, ◌≢◌, ◌≤◌, ◌-◌, ℕ, List, [], ◌∷◌, ◌++◌, length, take, drop, true, None, Some, codes};
-ghost use Rattle.global_model.specs.Examples.{Gives, text, smallest, smallest_journal, refused, refused_journal, one_byte_short, one_byte_short_journal, discovered, discovered_journal};
+ghost use Rattle.std.specs.Prelude.{◌≡◌, ◌≢◌, ◌≤◌, ◌-◌, ℕ, List, [], ◌∷◌, ◌++◌, length, take, drop, Bool, true, nat_lt, if◌then◌else◌, None, Some, codes};
+ghost use Rattle.global_model.specs.Examples.{Gives, text, smallest, smallest_journal, refused, refused_journal, one_byte_short, one_byte_short_journal, discovered, discovered_journal, child_memory, child_memory_journal, no_host_born, no_host_born_journal};
 ghost use Rattle.xm_num.specs.declared.Enclave.{Enclave as Enclaves};
 ghost use Rattle.xemem_wire.specs.declared.format.Record.{Record as WireRecord};
 ghost use Rattle.xemem_wire.specs.Spelling.{spellings_of};
@@ -9,8 +9,12 @@ ghost use Rattle.global_model.specs.declared.line.Line.{Line as JournalLine};
 ghost use Rattle.global_model.specs.Scenario.{IsPlaced, scenario_of};
 ghost use Rattle.global_model.specs.Facts.{Facts, after_lines, facts_after, is_living_enclave};
 ghost use Rattle.global_model.specs.Channels.{whole_records};
-ghost use Rattle.global_model.specs.View.{view_of, own_lines, lines_of_records};
-ghost use Rattle.global_model.specs.Due.{got_lines, journal_of, step_lines};
+ghost use Rattle.xm_num.specs.declared.Cause.TheVariants as causes;
+ghost use Rattle.global_model.specs.declared.command.Command.TheVariants as command;
+ghost use Rattle.global_model.specs.View.{View, view_of, own_lines, seen_lines};
+ghost use Rattle.global_model.specs.Steps.{refusal, host_lines, first_blocks, lines_of_records};
+ghost use Rattle.global_model.specs.Known.{IsAnswered, unborn_view};
+ghost use Rattle.global_model.specs.Due.{got_lines, command_lines, journal_of, step_lines};
 ghost use Rattle.global_model.specs.Flow.{IsFlowing};
 ghost use Rattle.global_model.specs.History.{do_commands, IsCarried, IsLegal, IsTold, IsWhole};
 
@@ -53,15 +57,35 @@ pub fn whole_records_stay()
         → drop k (whole_records n rs) ≡ whole_records (n - length (spellings_of (take k rs))) (drop k rs) }
 {}
 
-/// The records that arrive at a living enclave are answered by its view alone, which these lines change by themselves;
-/// they leave the views of the others as they are.
+/// The records that arrive at a living enclave are answered by its view alone. What is written for them changes its view
+/// line by line, and leaves the views of the others as they are.
 pub fn view_step()
     ensures records { (G : Facts) (x y : Enclaves) (rs : List WireRecord) → is_living_enclave (G.enclave y.0) ≡ true
         → got_lines G x y rs ≡ lines_of_records (view_of G y) x rs }
-    ensures own { (G : Facts) (x y : Enclaves) (rs : List WireRecord) → is_living_enclave (G.enclave y.0) ≡ true
-        → view_of (after_lines G (got_lines G x y rs)) y ≡ own_lines (view_of G y) (got_lines G x y rs) }
-    ensures others { (G : Facts) (x y z : Enclaves) (rs : List WireRecord) → z.0 ≢ y.0
-        → view_of (after_lines G (got_lines G x y rs)) z ≡ view_of G z }
+    ensures own { (v : View) (x : Enclaves) (rs : List WireRecord)
+        → seen_lines v (lines_of_records v x rs) ≡ own_lines v (lines_of_records v x rs) }
+    ensures others { (v w : View) (x : Enclaves) (rs : List WireRecord) → w.me.0 ≢ v.me.0
+        → seen_lines w (lines_of_records v x rs) ≡ w }
+{}
+
+/// What a command writes follows from the views of the enclaves that it names. The host is born with the first blocks.
+pub fn views_answer()
+    ensures answered { (commands : List Commands) → IsPlaced commands → IsAnswered (facts_after (journal_of commands)) }
+    ensures host { (pool blocks : ℕ) (ns : Bool)
+        → command_lines (facts_after (journal_of (command.Pool pool ∷ []))) (command.Host blocks ns)
+        ≡ (if nat_lt pool blocks then refusal causes.NoBlocks else host_lines (first_blocks blocks) ns) }
+{}
+
+/// An enclave that isn't born knows nothing. What the lines of a command change in the view of a living enclave is what those of
+/// them change that are at it, each by the view and itself alone; a line elsewhere leaves the view as it is.
+pub fn views_follow()
+    ensures unborn { (commands : List Commands) → IsPlaced commands → (e : Enclaves)
+        → (facts_after (journal_of commands)).born ≤ e.0
+        → view_of (facts_after (journal_of commands)) e ≡ unborn_view (facts_after (journal_of commands)).pool e }
+    ensures seen { (commands : List Commands) (one : Commands) → IsPlaced (commands ++ one ∷ []) → (e : Enclaves)
+        → is_living_enclave ((facts_after (journal_of (commands ++ one ∷ []))).enclave e.0) ≡ true
+        → view_of (facts_after (journal_of (commands ++ one ∷ []))) e
+        ≡ seen_lines (view_of (facts_after (journal_of commands)) e) (step_lines (facts_after (journal_of commands)) one) }
 {}
 
 /// Each command of a scenario may stand after those before it.
@@ -75,6 +99,8 @@ pub fn worked_examples()
     ensures refused { Gives (text refused) None (text refused_journal) }
     ensures one_byte_short { Gives (text one_byte_short) None (text one_byte_short_journal) }
     ensures discovered { Gives (text discovered) None (text discovered_journal) }
+    ensures child_memory { Gives (text child_memory) None (text child_memory_journal) }
+    ensures no_host_born { Gives (text no_host_born) None (text no_host_born_journal) }
     ensures comment { Gives (codes "# nothing") None [] }
-    ensures unbuilt { Gives (text (codes "pool 2" ∷ codes "  # a comment" ∷ codes "host 3 ns" ∷ [])) (Some 3) (text (codes "do pool 2" ∷ [])) }
+    ensures unbuilt { Gives (text (codes "pool 2" ∷ codes "  # a comment" ∷ codes "host 1" ∷ [])) (Some 3) (text (codes "do pool 2" ∷ [])) }
 {}

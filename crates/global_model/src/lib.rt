@@ -9,10 +9,10 @@ mod lines;
 mod text_laws;
 
 pub use command::Command;
-pub use count::words;
+pub use count::{word_count, words};
 pub use laws::{
     journals_are_carried, journals_are_legal, journals_grow, one_journal, scenarios_are_placed,
-    view_step, whole_records_stay, worked_examples,
+    view_step, views_answer, views_follow, whole_records_stay, worked_examples,
 };
 pub use line::{ByteList, Line};
 pub use lines::Lines;

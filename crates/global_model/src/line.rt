@@ -1,6 +1,6 @@
 use crate::Command;
 use xemem_wire::Record;
-use xm_num::{BlockList, Cause, Enclave, Frame, FrameList, ItemList, Kind, Pid, Vpn};
+use xm_num::{Block, BlockList, Cause, Enclave, Frame, FrameList, ItemList, Kind, Pid, Vpn};
 
 /// A list of bytes.
 pub type ByteList = ItemList<u8>;
@@ -23,6 +23,11 @@ pub enum Line {
         parent: Enclave,
         ns: bool,
         blocks: BlockList,
+    },
+    /// The enclave is born knowing that another is dead.
+    Told {
+        enclave: Enclave,
+        of: Enclave,
     },
     /// The enclave is ready.
     Admitted {
@@ -71,6 +76,12 @@ pub enum Line {
         from: Enclave,
         to: Enclave,
     },
+    /// The receiver takes the end mark of a child, and drops so many bytes of a record that was torn.
+    End {
+        from: Enclave,
+        to: Enclave,
+        torn: u32,
+    },
     /// The enclave drops the record at hand.
     Dropped {
         enclave: Enclave,
@@ -98,5 +109,19 @@ pub enum Line {
         to: Enclave,
         at: u32,
         bytes: ByteList,
+    },
+    /// The block is free.
+    BlockFree {
+        block: Block,
+    },
+    /// The block is lent to the enclave.
+    BlockLent {
+        block: Block,
+        enclave: Enclave,
+    },
+    /// The block is held for a dead enclave.
+    BlockHeld {
+        block: Block,
+        enclave: Enclave,
     },
 }

@@ -1,6 +1,7 @@
-ghost use Rattle.std.specs.Prelude.{◌≡◌, [], ◌∷◌, ◌++◌, length, slice_get, option_copied, OnOk, OnErr};
+ghost use Rattle.std.specs.Prelude.{◌≡◌, ◌-◌, ◌^◌, min, [], ◌∷◌, ◌++◌, length, slice_get, take, option_copied, OnOk, OnErr};
+ghost use Rattle.global_model.specs.Spelling.{words_in};
 
-use crate::Line;
+use crate::{Line, word_count};
 use std::alloc::{AllocError, Global};
 use std::marker::Model;
 
@@ -36,6 +37,33 @@ impl Lines {
     {
         self.items.push(item)?;
         Ok(())
+    }
+
+    /// Adds all lines of another list at the end. For want of memory the list stays as it was.
+    pub fn append(&mut self, other: Lines) -> Result<(), AllocError>
+        ensures ok { OnOk result (self.new ≡ self.old ++ other) }
+        ensures err { OnErr result (self.new ≡ self.old) }
+    {
+        let mut other = other;
+        self.items.append(&mut other.items)
+    }
+
+    /// How many words the lines have. The count stands still at the end of its type.
+    pub fn words(&self) -> u64
+        ensures { result ≡ min (words_in self.now) (2 ^ 64 - 1) }
+    {
+        let mut count = 0u64;
+        for line in &self.items {
+            count = count.saturating_add(word_count(line));
+        }
+        count
+    }
+
+    /// Keeps the first `n` lines, where there are more.
+    pub fn truncate(&mut self, n: usize)
+        ensures { self.new ≡ take n self.old }
+    {
+        self.items.truncate(n);
     }
 
     /// How many lines there are.

@@ -1,5 +1,5 @@
-use Rattle.global_model.proofs.Views.{got_lines-view, got_lines-others, got_lines-records}
+use Rattle.global_model.proofs.Views.{got_lines-records, records-own, records-others}
 use Rattle.global_model.proofs.laws.view_step.Goals as goal
 
 pub returns : goal.returns
-returns c = record { records = got_lines-records; own = got_lines-view; others = got_lines-others }
+returns c = record { records = got_lines-records; own = records-own; others = records-others }

@@ -1,0 +1,110 @@
+-- What holds of the facts along the commands of a scenario, whose first is the pool's.
+use Rattle.std.proofs.Common.{◌≡◌, ◌+◌, ℕ, suc, List, [], ◌∷◌, ◌++◌, length, true, false, ◌&&◌, leb, ltb, refl, sym, ap, ◌∙◌, subst, arith}
+use Rattle.std.proofs.lemmas.Bool.{le-ltb, lt-ltb}
+use Rattle.std.proofs.lemmas.Bool.Decides.{nat_tests}
+use Rattle.std.proofs.lemmas.List.Elements.{All-nil}
+use Rattle.global_model.specs.declared.command.Command.{Command}
+use Rattle.global_model.specs.declared.command.Command.TheVariants as commands
+use Rattle.global_model.specs.declared.line.Line.TheVariants as lines
+use Rattle.global_model.specs.Facts.{Facts, no_facts, facts_after, after_line, after_lines}
+use Rattle.global_model.specs.Scenario.{may_stand, IsPlacedAfter, IsPlaced}
+use Rattle.global_model.specs.Flow.{IsStar}
+use Rattle.global_model.specs.Due.{step_lines, journal_from, journal_of}
+use Rattle.global_model.proofs.Pasts.{after_lines-append}
+use Rattle.global_model.proofs.Kept.{IsKnown, IsOwner}
+use Rattle.global_model.proofs.Apt.{IsReady, ready_step}
+
+-- ---- the start
+
+-- the facts after the first command
+abbrev pub pool_facts : ℕ → Facts
+pool_facts blocks = after_line no_facts (lines.Do (commands.Pool blocks))
+
+start_star : (G : Facts) → G.born ≡ 0 → ((e : ℕ) → G.enclave e ≡ no_facts.enclave e) → IsStar G
+start_star G none unborn = record {
+  most = omega (arith, none);
+  enclaves = λ e.
+      let below : ltb e G.born ≡ false = le-ltb e G.born (omega (arith, none)) in
+      rw (unborn e) (record { known = sym below; living = sym below; parent = λ p. rw below refl });
+}
+
+no_runs : (p : ℕ) → false ≡ (leb 1 p && leb p 0)
+no_runs p = grind (arith, nat_tests)
+
+known_none : IsKnown no_facts
+known_none = record {
+  star = start_star no_facts refl (λ e. refl);
+  runs = λ e p. no_runs p;
+  way = λ e le. refl;
+  started = λ e le. refl;
+  heard = λ e. refl;
+  owners = All-nil (IsOwner 0 no_facts.started);
+  blocks = λ b within. absurd (omega (arith, within));
+}
+
+known_pool : (blocks : ℕ) → IsKnown (pool_facts blocks)
+known_pool blocks = record {
+  star = start_star (pool_facts blocks) refl (λ e. refl);
+  runs = λ e p. no_runs p;
+  way = λ e le. refl;
+  started = λ e le. refl;
+  heard = λ e. refl;
+  owners = All-nil (IsOwner 0 no_facts.started);
+  blocks = λ b within. let is : ltb b blocks ≡ true = lt-ltb b blocks within in rw is tt;
+}
+
+pub ready_pool : (blocks : ℕ) → IsReady 1 (pool_facts blocks)
+ready_pool blocks = record { some = omega arith; known = known_pool blocks; unborn = λ one. refl }
+
+-- the first command is the pool's
+pub first_is_pool : (P : Command → Type 0) → ((blocks : ℕ) → P (commands.Pool blocks)) → (c : Command) → may_stand 0 c ≡ true → P c
+first_is_pool P pool (commands.Pool blocks) may = pool blocks
+first_is_pool P pool (commands.Host blocks ns) may = cc
+first_is_pool P pool (commands.Boot kind parent blocks ns) may = cc
+first_is_pool P pool (commands.Proc e uid gid) may = cc
+first_is_pool P pool (commands.Alloc e p page count) may = cc
+first_is_pool P pool (commands.Touch e p addr want) may = cc
+first_is_pool P pool (commands.Deliver x y count) may = cc
+first_is_pool P pool (commands.ShowLink x y) may = cc
+first_is_pool P pool commands.ShowPool may = cc
+
+-- ---- several commands
+
+-- the facts after commands
+abbrev pub facts_by : Facts → List Command → Facts
+facts_by G cs = after_lines G (journal_from G cs)
+
+pub facts_by-cons : (G : Facts) (c : Command) (cs : List Command) → facts_by G (c ∷ cs) ≡ facts_by (after_lines G (step_lines G c)) cs
+facts_by-cons G c cs = after_lines-append G (step_lines G c) (journal_from (after_lines G (step_lines G c)) cs)
+
+-- the last command's lines come after those of the others
+pub facts_by-more : (G : Facts) (cs : List Command) (c : Command) → facts_by G (cs ++ c ∷ []) ≡ after_lines (facts_by G cs) (step_lines (facts_by G cs) c)
+facts_by-more G [] c = facts_by-cons G c []
+facts_by-more G (first ∷ cs) c =
+    let H = after_lines G (step_lines G first) in
+    facts_by-cons G first (cs ++ c ∷ []) ∙ facts_by-more H cs c ∙ ap (λ K. after_lines K (step_lines K c)) (sym (facts_by-cons G first cs))
+
+-- the commands but the last are placed, and the last may stand after them
+pub record IsLast (before : ℕ) (cs : List Command) (c : Command) : Type 0 where
+  pub front : IsPlacedAfter before cs
+  pub may : may_stand (before + length cs) c ≡ true
+
+pub placed_last : (before : ℕ) (cs : List Command) (c : Command) → IsPlacedAfter before (cs ++ c ∷ []) → IsLast before cs c
+placed_last before [] c placed = let same : before ≡ before + 0 = omega arith in record { front = tt; may = ap (λ n. may_stand n c) (sym same) ∙ placed.0 }
+placed_last before (first ∷ cs) c placed =
+    let more = placed_last (before + 1) cs c placed.2 in
+    let same : before + suc (length cs) ≡ (before + 1) + length cs = omega arith in
+    record { front = (placed.0, placed.1, more.front); may = ap (λ n. may_stand n c) same ∙ more.may }
+
+pub ready_by : (before : ℕ) (G : Facts) (cs : List Command) → IsReady before G → IsPlacedAfter before cs → IsReady (before + length cs) (facts_by G cs)
+ready_by before G [] ready placed = let same : before ≡ before + 0 = omega arith in subst (λ n. IsReady n G) same ready
+ready_by before G (c ∷ cs) ready placed =
+    let H = after_lines G (step_lines G c) in
+    let more : IsReady ((before + 1) + length cs) (facts_by H cs) = ready_by (before + 1) H cs (ready_step before G c ready placed.0) placed.2 in
+    let same : (before + 1) + length cs ≡ before + suc (length cs) = omega arith in
+    subst (λ n. IsReady n (facts_by G (c ∷ cs))) same (subst (IsReady ((before + 1) + length cs)) (sym (facts_by-cons G c cs)) more)
+
+-- what is kept holds after the commands of a scenario
+pub known_after : (cs : List Command) → IsPlaced cs → IsKnown (facts_after (journal_of cs))
+known_after [] placed = known_none
+known_after (c ∷ cs) placed = subst IsKnown (sym (facts_by-cons no_facts c cs)) (first_is_pool (λ d. IsKnown (facts_by (after_lines no_facts (step_lines no_facts d)) cs)) (λ blocks. (ready_by 1 (pool_facts blocks) cs (ready_pool blocks) placed.2).known) c placed.0)

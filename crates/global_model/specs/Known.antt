@@ -1,0 +1,60 @@
+-- What a command writes, by the views of the enclaves.
+use Rattle.std.specs.Prelude.{◌≡◌, ℕ, List, [], ◌++◌, length, take, map, Bool, ◌==◌, nat_le, nat_lt, if◌then◌else◌, None, false}
+use Rattle.std.specs.List.{range_with_len}
+use Rattle.xm_num.specs.declared.Enclave.{Enclave}
+use Rattle.xm_num.specs.declared.Pid.{Pid}
+use Rattle.xm_num.specs.declared.Vpn.{Vpn}
+use Rattle.xm_num.specs.declared.Want.{Want}
+use Rattle.xm_num.specs.declared.Kind.{Kind}
+use Rattle.xm_num.specs.declared.Kind.TheVariants as kinds
+use Rattle.xm_num.specs.declared.Cause.TheVariants as causes
+use Rattle.global_model.specs.declared.command.Command.TheVariants as commands
+use Rattle.global_model.specs.declared.line.Line.{Line}
+use Rattle.global_model.specs.Facts.{Facts, BlockFact, Free}
+use Rattle.global_model.specs.View.{View, no_host, view_of}
+use Rattle.global_model.specs.Steps.{host, refusal, birth_lines, adopt_lines, start_lines, alloc_lines, touch_answer, answer_lines, state_lines, free_from}
+use Rattle.global_model.specs.Due.{next_enclave, command_lines}
+
+-- a pool of so many blocks, all of them free
+abbrev pub free_pool : ℕ → List BlockFact
+free_pool pool = map (λ b. Free) (range_with_len 0 pool)
+
+-- the view of an enclave that isn't born
+abbrev pub unborn_view : ℕ → Enclave → View
+unborn_view pool e = record {
+  me = e;
+  kind = kinds.Host;
+  parent = host;
+  blocks = [];
+  holder = false;
+  admitted = false;
+  heard = [];
+  way = None;
+  free = [];
+  processes = [];
+  children = [];
+  host = if e.0 == 0 then record { states = free_pool pool; parents = [] } else no_host;
+}
+
+-- the lines of a command at an enclave, where it was born
+abbrev pub at_born : ℕ → Enclave → List Line → List Line
+at_born born e journal = if nat_lt e.0 born then journal else refusal causes.NoEnclave
+
+abbrev pub start_by : Facts → Enclave → ℕ → ℕ → List Line
+start_by G e uid gid = if nat_le 1024 G.starts then refusal causes.TooMany else start_lines (view_of G e) uid gid
+
+abbrev pub boot_by : Facts → Kind → Enclave → ℕ → Bool → List Line
+boot_by G kind parent blocks ns =
+    let free = free_from 0 (view_of G host).host.states in
+    if nat_le 256 G.born then refusal causes.TooMany
+    else (if nat_lt (length free) blocks then refusal causes.NoBlocks
+    else birth_lines (next_enclave G) kind parent (take blocks free) ns (view_of G parent).heard ++ adopt_lines (view_of G parent) (next_enclave G))
+
+-- each command's lines follow from the views of the enclaves that it names, how many enclaves were born, and how many
+-- processes were started
+pub record IsAnswered (G : Facts) : Type 0 where
+  pub boot : (kind : Kind) (parent : Enclave) (blocks : ℕ) (ns : Bool) → command_lines G (commands.Boot kind parent blocks ns) ≡ at_born G.born parent (boot_by G kind parent blocks ns)
+  pub proc : (e : Enclave) (uid gid : ℕ) → command_lines G (commands.Proc e uid gid) ≡ at_born G.born e (start_by G e uid gid)
+  pub alloc : (e : Enclave) (p : Pid) (page : Vpn) (count : ℕ) → command_lines G (commands.Alloc e p page count) ≡ at_born G.born e (alloc_lines (view_of G e) p page count)
+  pub touch : (e : Enclave) (p : Pid) (addr : ℕ) (want : Want) → command_lines G (commands.Touch e p addr want) ≡ at_born G.born e (answer_lines e p (touch_answer (view_of G e) p addr want))
+  pub pool : command_lines G commands.ShowPool ≡ at_born G.born host (state_lines 0 (view_of G host).host.states)
