@@ -1,0 +1,11 @@
+use Rattle.std.proofs.Common.{ap, ◌∙◌, ◌++◌, ◌*◌}
+use Rattle.std.specs.List.{range_with_len}
+use Rattle.global_model.specs.Space.{block_frames, frame_list}
+use Rattle.enclave_node.proofs.ListLemmas.{flat_map-step}
+use Rattle.enclave_node.proofs.frames.Frames.new.Goals as goal
+
+pub loop-block-preserved : goal.loop-block-preserved
+loop-block-preserved c =
+    let items = c.loop-block.items.items in
+    let pushed = c.in_ok-push_frames.ensures ∙ ap (λ b. items ++ frame_list (range_with_len (64 * b) 64)) c.from-first.ensures in
+    flat_map-step block_frames c.args.blocks.now c.loop-block.block-index _ items c.push_frames.new.items.items c.loop-block-test.true pushed ∙ c.loop-block.invariant

@@ -1,0 +1,6 @@
+pub mod Nodes
+pub mod Layout
+pub mod Blocks
+pub mod Births
+pub mod Calls
+pub mod Answers

@@ -1,0 +1,16 @@
+// The calls of processes, and what can be shown of a node.
+use xm_num::Vpn;
+
+/// A call of a process.
+#[derive(Clone, Copy, Debug, PartialEq, Eq)]
+pub enum Call {
+    /// Maps own pages to the lowest unused frames: `n` of them, 1 to 4,096, from page `at` on.
+    Alloc { at: Vpn, n: u32 },
+}
+
+/// What can be shown of a node.
+#[derive(Clone, Copy, Debug, PartialEq, Eq)]
+pub enum Show {
+    /// The state of each block, at the host.
+    Pool,
+}

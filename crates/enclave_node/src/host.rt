@@ -1,0 +1,111 @@
+// What the host keeps for the machine: the pool, and the parent of each enclave.
+ghost use Rattle.std.specs.Prelude.{◌≡◌, ◌+◌, ◌<◌, ◌≤◌, ◌↔◌, [], ◌∷◌, ◌++◌, length, take, IfOk, OnOk, OnErr, IsErrOf};
+ghost use Rattle.global_model.specs.View.{lend_from};
+ghost use Rattle.global_model.specs.Steps as steps;
+ghost use Rattle.enclave_node.specs.Blocks.{fact_of_state, facts_of, free_in, born_host, lent_host};
+
+use frame_pool::{BlockState, Pool, PoolFault};
+use global_model::{Line, Lines};
+use std::alloc::{AllocError, Global};
+use std::marker::Model;
+use xm_num::{Block, BlockList, Enclave, EnclaveList};
+
+const HOST: Enclave = Enclave(0);
+
+/// The pool of the machine's blocks, and the parent of each enclave by its number. The host's parent is written 0.
+#[derive(Drop)]
+pub struct HostPart {
+    pool: Pool,
+    parents: EnclaveList,
+}
+
+impl Model for HostPart {
+    ghost use Rattle.global_model.specs.View.{HostView};
+    ghost use Rattle.enclave_node.specs.Blocks.{facts_of};
+
+    ghost Value = { HostView };
+
+    ghost view = { λ h. record { states = facts_of h.pool; parents = h.parents } };
+}
+
+// The line that tells a block's state.
+fn state_line(block: Block, state: BlockState) -> Line
+    ensures { result ∷ [] ≡ steps.state_line block.0 (fact_of_state state) }
+{
+    match state {
+        BlockState::Free => Line::BlockFree { block },
+        BlockState::Lent(enclave) => Line::BlockLent { block, enclave },
+        BlockState::Held(enclave) => Line::BlockHeld { block, enclave },
+    }
+}
+
+// Tells the state of each block.
+fn show_pool(pool: &Pool, out: &mut Lines) -> Result<(), AllocError>
+    ensures { OnOk result (out.new ≡ out.old ++ steps.state_lines 0 (facts_of pool.now)) }
+{
+    for number in 0..pool.blocks() {
+        let block = Block(number);
+        let state = pool.state(block).unwrap();
+        out.push(state_line(block, state))?;
+    }
+    Ok(())
+}
+
+// Lends the `n` lowest free blocks. Where too few are free, nothing changes.
+#[tactic(auto, using(crate::proofs::PoolLemmas::pool_facts))]
+fn lend_lowest(pool: &mut Pool, child: Enclave, n: u16) -> Result<BlockList, PoolFault>
+    ensures blocks { IfOk result (λ blocks. blocks ≡ take n (free_in pool.old)) }
+    ensures after { OnOk result (facts_of pool.new ≡ lend_from 0 (take n (free_in pool.old)) child (facts_of pool.old)) }
+    ensures short { IsErrOf result PoolFault.NoBlocks ↔ (length (free_in pool.old) < n) }
+    ensures err { OnErr result (pool.new ≡ pool.old) }
+{
+    pool.lend(n, child)
+}
+
+impl HostPart {
+    /// A pool of so many blocks, 1 to 4,096, of which the host gets the first `n`.
+    pub fn new(alloc: Global, pool: u16, n: u16) -> Result<(HostPart, BlockList), PoolFault>
+        requires some { 1 ≤ pool }
+        requires most { pool ≤ 4096 }
+        ensures part { IfOk result (λ made. made.0 ≡ born_host pool n) }
+        ensures blocks { IfOk result (λ made. made.1 ≡ steps.first_blocks n) }
+        ensures short { IsErrOf result PoolFault.NoBlocks ↔ (pool < n) }
+    {
+        if pool < n {
+            return Err(PoolFault::NoBlocks);
+        }
+        let Ok(pool) = Pool::new(alloc, pool) else {
+            return Err(PoolFault::Memory);
+        };
+        let mut part = HostPart {
+            pool,
+            parents: EnclaveList::new(alloc),
+        };
+        match part.lend(HOST, HOST, n) {
+            Ok(blocks) => Ok((part, blocks)),
+            Err(fault) => Err(fault),
+        }
+    }
+
+    /// Lends the `n` lowest free blocks to an enclave that is born, and records its parent. Where too few are free,
+    /// nothing changes.
+    pub fn lend(&mut self, child: Enclave, parent: Enclave, n: u16) -> Result<BlockList, PoolFault>
+        ensures blocks { IfOk result (λ blocks. blocks ≡ take n (steps.free_from 0 self.old.states)) }
+        ensures after { OnOk result (self.new ≡ lent_host child parent (take n (steps.free_from 0 self.old.states)) self.old) }
+        ensures short { IsErrOf result PoolFault.NoBlocks ↔ (length (steps.free_from 0 self.old.states) < n) }
+        ensures same { IsErrOf result PoolFault.NoBlocks → self.new ≡ self.old }
+    {
+        let blocks = lend_lowest(&mut self.pool, child, n)?;
+        match self.parents.push(parent) {
+            Ok(()) => Ok(blocks),
+            Err(AllocError) => Err(PoolFault::Memory),
+        }
+    }
+
+    /// Tells the state of each block.
+    pub fn show(&self, out: &mut Lines) -> Result<(), AllocError>
+        ensures { OnOk result (out.new ≡ out.old ++ steps.state_lines 0 self.now.states) }
+    {
+        show_pool(&self.pool, out)
+    }
+}

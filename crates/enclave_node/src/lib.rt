@@ -1,0 +1,18 @@
+//! An enclave of the machine.
+#![tactic(auto)]
+
+mod births;
+mod call;
+mod children;
+mod feeds;
+mod frames;
+mod host;
+mod lists;
+mod node;
+mod process;
+mod state;
+#[cfg(test)]
+mod tests;
+
+pub use call::{Call, Show};
+pub use node::{Node, NodeFault};
