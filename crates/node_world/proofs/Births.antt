@@ -1,0 +1,112 @@
+-- A pool is made, and the host is born, as by the facts.
+use Rattle.std.proofs.Common.{◌≡◌, ◌+◌, ℕ, zero, suc, List, [], ◌∷◌, Bool, true, false, cond, ltb, None, refl, sym, ap, ◌∙◌, subst, arith}
+use Rattle.xm_num.specs.declared.Kind.TheVariants as kinds
+use Rattle.xm_num.specs.declared.Cause.TheVariants as causes
+use Rattle.xm_num.specs.Rows.{at}
+use Rattle.global_model.specs.declared.command.Command.{Command}
+use Rattle.global_model.specs.declared.command.Command.TheVariants as commands
+use Rattle.global_model.specs.declared.line.Line.{Line}
+use Rattle.global_model.specs.declared.line.Line.TheVariants as lines
+use Rattle.global_model.specs.Facts.{Facts, after_line, after_lines}
+use Rattle.global_model.specs.View.{view_of, own_lines, seen_lines}
+use Rattle.global_model.specs.Steps.{host, refusal, host_lines, first_blocks}
+use Rattle.global_model.specs.Known.{unborn_view}
+use Rattle.global_model.specs.Due.{command_lines}
+use Rattle.enclave_node.specs.Nodes.{new_host}
+use Rattle.node_world.specs.Machine.{MachineView, node_at, lines_by, acted, with_carried, after_command}
+use Rattle.node_world.specs.Shown.{IsNodeOf, IsShown}
+use Rattle.node_world.proofs.Carriage.{ArePlain, counted_lines}
+use Rattle.node_world.proofs.Acted.{IsActed, shown_by, within_of}
+use Rattle.node_world.proofs.Stills.{IsStep, IsTied, AreStill, tied_still}
+
+pub at_nil : {V : Type 0} (k : ℕ) → at {V = V} [] k ≡ None
+unfolding at
+at_nil k = refl
+
+-- ---- the pool
+
+pub tied_pool : (G H : Facts) (m : MachineView) (blocks : ℕ) → IsStep G H (commands.Pool blocks) → IsShown G m → G.born ≡ 0 → IsTied G H (commands.Pool blocks) m
+tied_pool G H m blocks step h none =
+    let pairs = h.pairs in
+    let shown : IsShown (after_line G (lines.Do (commands.Pool blocks))) (record m { pool = blocks }) = record {
+      pool = refl;
+      starts = h.starts;
+      born = h.born;
+      pairs = h.pairs;
+      nodes = λ e within. absurd (omega (arith, none, within));
+      links = λ i within. absurd (omega (arith, none, pairs, within));
+      strangers = h.strangers;
+    } in
+    (refl, subst (λ F. IsShown F (record m { pool = blocks })) (sym step.after) shown)
+
+-- ---- the host
+
+abbrev host_rest : Bool → List Line
+host_rest ns = cond ns (lines.Admitted host ∷ []) []
+
+plain_rest : (ns : Bool) → ArePlain (host_rest ns)
+plain_rest true = (tt, tt)
+plain_rest false = tt
+
+-- the host sees all lines of its birth
+host_seen : (pool blocks : ℕ) (ns : Bool) → seen_lines (unborn_view pool host) (host_lines (first_blocks blocks) ns) ≡ own_lines (unborn_view pool host) (host_lines (first_blocks blocks) ns)
+host_seen pool blocks true = refl
+host_seen pool blocks false = refl
+
+host_acted : (G H : Facts) (m : MachineView) (blocks : ℕ) (ns : Bool) → IsStep G H (commands.Host blocks ns) → IsShown G m → G.born ≡ 0 → command_lines G (commands.Host blocks ns) ≡ host_lines (first_blocks blocks) ns → H.born ≡ G.born + 1
+    → IsActed (after_line G (lines.Born host kinds.Host host ns (first_blocks blocks))) H (record m { nodes = new_host m.pool blocks ns ∷ [] })
+host_acted G H m blocks ns step h none is born =
+    let pairs = h.pairs in
+    record {
+      pool = h.pool;
+      starts = h.starts;
+      born = omega (arith, none);
+      pairs = omega (arith, none, pairs);
+      nodes = λ e within. node e (omega (arith, none, within));
+      links = λ i within. absurd (omega (arith, none, pairs, within));
+      within = within_of G m step.before h;
+      feeds = λ i within. absurd (omega (arith, none, pairs, within));
+      strangers = λ e c far. stranger e c;
+    }
+  where
+    view : view_of H host ≡ own_lines (unborn_view m.pool host) (host_lines (first_blocks blocks) ns)
+    view =
+        step.views 0 (omega (arith, born)) ∙ ap (seen_lines (view_of G host)) is ∙ ap (λ v. seen_lines v (host_lines (first_blocks blocks) ns)) (step.unborn host (omega (arith, none)) ∙ ap (λ n. unborn_view n host) (sym h.pool))
+        ∙ host_seen m.pool blocks ns
+
+    node : (e : ℕ) → e ≡ 0 → IsNodeOf H e (node_at (new_host m.pool blocks ns ∷ []) e)
+    node e first = rw first (record { view = sym view; going = refl })
+
+    stranger : (e c : ℕ) → at (node_at (new_host m.pool blocks ns ∷ []) e).feeds c ≡ None
+    stranger zero c = at_nil c
+    stranger (suc e) c = at_nil c
+
+pub tied_host : (G H : Facts) (m : MachineView) (blocks : ℕ) (ns : Bool) → IsStep G H (commands.Host blocks ns) → IsShown G m → G.born ≡ 0
+    → command_lines G (commands.Host blocks ns) ≡ cond (ltb G.pool blocks) (refusal causes.NoBlocks) (host_lines (first_blocks blocks) ns) → IsTied G H (commands.Host blocks ns) m
+tied_host G H m blocks ns step h none rule = by (ltb G.pool blocks) refl
+  where
+    c : Command
+    c = commands.Host blocks ns
+
+    ls : lines_by m c ≡ command_lines G c
+    ls = ap (λ n. cond (ltb n blocks) (refusal causes.NoBlocks) (host_lines (first_blocks blocks) ns)) h.pool ∙ sym rule
+
+    few : (b : Bool) → ltb G.pool blocks ≡ b → ltb m.pool blocks ≡ b
+    few b is = ap (λ n. ltb n blocks) h.pool ∙ is
+
+    by : (b : Bool) → ltb G.pool blocks ≡ b → IsTied G H c m
+    by true is =
+        let refused : command_lines G c ≡ refusal causes.NoBlocks = rule ∙ rw is refl in
+        let short = few true is in
+        tied_still G H c m step h refl (rw short refl) ls (subst AreStill (sym refused) (tt, tt))
+    by false is =
+        let made : command_lines G c ≡ host_lines (first_blocks blocks) ns = rule ∙ rw is refl in
+        let enough = few false is in
+        let w : MachineView = record m { nodes = new_host m.pool blocks ns ∷ [] } in
+        let machine : acted m c ≡ w = rw enough refl in
+        let K = after_line G (lines.Born host kinds.Host host ns (first_blocks blocks)) in
+        let facts : H ≡ after_lines K (host_rest ns) = step.after ∙ ap (after_lines G) made in
+        let born : H.born ≡ G.born + 1 = ap (λ F. F.born) facts ∙ (counted_lines (host_rest ns) K (plain_rest ns)).born in
+        let shown = shown_by K H (host_rest ns) w facts (plain_rest ns) step.flowing (host_acted G H m blocks ns step h none made born) in
+        let after : after_command m c ≡ with_carried w (host_rest ns) = ap (λ n. with_carried n (lines_by m c)) machine ∙ ap (with_carried w) (ls ∙ made) in
+        (ls, subst (IsShown H) (sym after) shown)

@@ -1,0 +1,274 @@
+-- The channels of children show the facts while lines are written, and what the lines send is carried.
+use Rattle.std.proofs.Common.{◌≡◌, ◌+◌, ◌-◌, ◌<◌, ◌≤◌, ℕ, List, [], ◌∷◌, ◌++◌, length, Bool, true, false, cond, eqb, ◌&&◌, Option, None, Some, refl, sym, ap, ◌∙◌, subst, arith}
+use Rattle.std.proofs.lemmas.Bool.{eqb-true, eq-eqb}
+use Rattle.std.proofs.lemmas.List.{length-set}
+use Rattle.xm_num.specs.declared.Enclave.{Enclave}
+use Rattle.byte_link.specs.Channel.{Channel, sent}
+use Rattle.xemem_wire.specs.declared.format.Record.{Record}
+use Rattle.xemem_wire.specs.Spelling.{spelling_of, spellings_of}
+use Rattle.xemem_wire.specs.Decoding.{Decoding}
+use Rattle.global_model.specs.declared.line.Line.{Line}
+use Rattle.global_model.specs.declared.line.Line.TheVariants as lines
+use Rattle.global_model.specs.Facts.{Facts, EnclaveFact, ChannelFact, at_number, at_pair, as_admitted, with_sent, with_got, after_line, after_lines}
+use Rattle.global_model.specs.View.{fact_of}
+use Rattle.node_world.specs.declared.pair.Pair.{Pair}
+use Rattle.node_world.specs.declared.pair.Hop.{Hop}
+use Rattle.node_world.specs.declared.pair.Hop.TheVariants as hops
+use Rattle.node_world.specs.Machine.{no_pair, pair_at, hop_of, link_of, with_link, carried}
+use Rattle.node_world.proofs.Lists.{set_case, set_field}
+use Rattle.node_world.proofs.Channels.{IsLinkOf, link_sent, feed_from, feed_sent}
+use Rattle.node_world.proofs.Fronts.{spellings-length}
+use Rattle.node_world.proofs.Hops.{AreAbove, IsPairAt, up_is, down_is, is_up, is_down}
+
+-- ---- a channel changes
+
+pub pair_here : {A : Type 0} (x y : ℕ) (h : A → A) (f : ℕ → ℕ → A) (a b : ℕ) → a ≡ x → b ≡ y → at_pair x y h f a b ≡ h (f x y)
+pair_here x y h f a b one two = rw (one, two) (let s = eq-eqb x x refl in let t = eq-eqb y y refl in rw (s, t) refl)
+
+pub pair_other : {A : Type 0} (x y : ℕ) (h : A → A) (f : ℕ → ℕ → A) (a b : ℕ) → (a ≡ x → b ≡ y → ⊥) → at_pair x y h f a b ≡ f a b
+pair_other x y h f a b apart = by (eqb a x) (eqb b y) refl refl
+  where
+    by : (s t : Bool) → eqb a x ≡ s → eqb b y ≡ t → cond (s && t) (h (f a b)) (f a b) ≡ f a b
+    by true true one two = absurd (apart (eqb-true a x one) (eqb-true b y two))
+    by true false one two = refl
+    by false t one two = refl
+
+-- what holds of the changed value and of the one before
+pub pair_case : {A : Type 0} (P : A → Type 0) (x y : ℕ) (h : A → A) (f : ℕ → ℕ → A) (a b : ℕ) → P (h (f x y)) → P (f a b) → P (at_pair x y h f a b)
+pair_case P x y h f a b new old = by (eqb a x) (eqb b y) refl refl
+  where
+    by : (s t : Bool) → eqb a x ≡ s → eqb b y ≡ t → P (cond (s && t) (h (f a b)) (f a b))
+    by true true one two = subst (λ k. P (h (f k b))) (sym (eqb-true a x one)) (subst (λ k. P (h (f x k))) (sym (eqb-true b y two)) new)
+    by true false one two = old
+    by false t one two = old
+
+-- the channels between a child and its parent show what was sent and taken; the child is enclave i + 1
+pub record IsLinked (enclaves : ℕ → Option EnclaveFact) (channels : ℕ → ℕ → ChannelFact) (i : ℕ) (pair : Pair) : Type 0 where
+  pub parent : pair.parent ≡ (fact_of (enclaves (i + 1))).parent
+  pub above : pair.parent.0 < i + 1
+  pub up : IsLinkOf (channels (i + 1) pair.parent.0) pair.up
+  pub down : IsLinkOf (channels pair.parent.0 (i + 1)) pair.down
+
+abbrev pub AreLinked : (ℕ → Option EnclaveFact) → (ℕ → ℕ → ChannelFact) → List Pair → Type 0
+AreLinked enclaves channels pairs = (i : ℕ) → i < length pairs → IsLinked enclaves channels i (pair_at pairs i)
+
+module _ (enclaves : ℕ → Option EnclaveFact) (channels : ℕ → ℕ → ChannelFact) (pairs : List Pair) (all : AreLinked enclaves channels pairs) where
+  pub above_of : AreAbove pairs
+  above_of i within = (all i within).above
+
+  -- what shows a channel that isn't between these
+  linked_other : (x y : ℕ) (h : ChannelFact → ChannelFact) (i : ℕ) (pair : Pair) → IsLinked enclaves channels i pair → (i + 1 ≡ x → pair.parent.0 ≡ y → ⊥) → (pair.parent.0 ≡ x → i + 1 ≡ y → ⊥)
+      → IsLinked enclaves (at_pair x y h channels) i pair
+  linked_other x y h i pair k one two = record {
+    parent = k.parent;
+    above = k.above;
+    up = subst (λ f. IsLinkOf f pair.up) (sym (pair_other x y h channels (i + 1) pair.parent.0 one)) k.up;
+    down = subst (λ f. IsLinkOf f pair.down) (sym (pair_other x y h channels pair.parent.0 (i + 1) two)) k.down;
+  }
+
+  over_up : (x y : Enclave) (h : ChannelFact → ChannelFact) (link : Channel) (j : ℕ) → IsPairAt pairs j x.0 y.0 → (IsLinkOf (channels x.0 y.0) (pair_at pairs j).up → IsLinkOf (h (channels x.0 y.0)) link)
+      → AreLinked enclaves (at_pair x.0 y.0 h channels) (with_link pairs (hops.Up j) link)
+  over_up x y h link j is new i within =
+      let size = length-set pairs j (record (pair_at pairs j) { up = link }) in
+      let k = all j is.within in
+      let one = is.child_is in let two = is.parent_is in let high = k.above in
+      let before : channels (j + 1) (pair_at pairs j).parent.0 ≡ channels x.0 y.0 = ap (λ a. channels a (pair_at pairs j).parent.0) (sym one) ∙ ap (channels x.0) two in
+      let here : IsLinked enclaves (at_pair x.0 y.0 h channels) j (record (pair_at pairs j) { up = link }) = record {
+        parent = k.parent;
+        above = k.above;
+        up = subst (λ f. IsLinkOf f link) (sym (pair_here x.0 y.0 h channels (j + 1) (pair_at pairs j).parent.0 (sym one) two)) (new (subst (λ f. IsLinkOf f (pair_at pairs j).up) before k.up));
+        down = subst (λ f. IsLinkOf f (pair_at pairs j).down) (sym (pair_other x.0 y.0 h channels (pair_at pairs j).parent.0 (j + 1) (λ a b. omega (arith, a, one, high)))) k.down;
+      } in
+      set_case pairs j i (record (pair_at pairs j) { up = link }) no_pair (IsLinked enclaves (at_pair x.0 y.0 h channels) i) is.within
+      (λ same. subst (λ n. IsLinked enclaves (at_pair x.0 y.0 h channels) n (record (pair_at pairs j) { up = link })) (sym same) here)
+      (λ apart. let q = all i (omega (arith, size, within)) in let low = q.above in
+      linked_other x.0 y.0 h i (pair_at pairs i) q (λ a b. apart (omega (arith, a, one))) (λ a b. omega (arith, a, b, one, two, high, low)))
+
+  over_down : (x y : Enclave) (h : ChannelFact → ChannelFact) (link : Channel) (j : ℕ) → IsPairAt pairs j y.0 x.0 → (IsLinkOf (channels x.0 y.0) (pair_at pairs j).down → IsLinkOf (h (channels x.0 y.0)) link)
+      → AreLinked enclaves (at_pair x.0 y.0 h channels) (with_link pairs (hops.Down j) link)
+  over_down x y h link j is new i within =
+      let size = length-set pairs j (record (pair_at pairs j) { down = link }) in
+      let k = all j is.within in
+      let one = is.child_is in let two = is.parent_is in let high = k.above in
+      let before : channels (pair_at pairs j).parent.0 (j + 1) ≡ channels x.0 y.0 = ap (channels (pair_at pairs j).parent.0) (sym one) ∙ ap (λ a. channels a y.0) two in
+      let here : IsLinked enclaves (at_pair x.0 y.0 h channels) j (record (pair_at pairs j) { down = link }) = record {
+        parent = k.parent;
+        above = k.above;
+        up = subst (λ f. IsLinkOf f (pair_at pairs j).up) (sym (pair_other x.0 y.0 h channels (j + 1) (pair_at pairs j).parent.0 (λ a b. omega (arith, b, one, high)))) k.up;
+        down = subst (λ f. IsLinkOf f link) (sym (pair_here x.0 y.0 h channels (pair_at pairs j).parent.0 (j + 1) two (sym one))) (new (subst (λ f. IsLinkOf f (pair_at pairs j).down) before k.down));
+      } in
+      set_case pairs j i (record (pair_at pairs j) { down = link }) no_pair (IsLinked enclaves (at_pair x.0 y.0 h channels) i) is.within
+      (λ same. subst (λ n. IsLinked enclaves (at_pair x.0 y.0 h channels) n (record (pair_at pairs j) { down = link })) (sym same) here)
+      (λ apart. let q = all i (omega (arith, size, within)) in let low = q.above in
+      linked_other x.0 y.0 h i (pair_at pairs i) q (λ a b. omega (arith, a, b, one, two, high, low)) (λ a b. apart (omega (arith, b, one))))
+
+  -- nothing goes from x to y
+  over_none : (born : ℕ) (x y : Enclave) (h : ChannelFact → ChannelFact) → length pairs ≡ born - 1 → ((j : ℕ) → hop_of pairs born x y ≡ hops.Up j → ⊥) → ((j : ℕ) → hop_of pairs born x y ≡ hops.Down j → ⊥)
+      → AreLinked enclaves (at_pair x.0 y.0 h channels) pairs
+  over_none born x y h count not_up not_down i within =
+      let q = all i within in let low = q.above in
+      linked_other x.0 y.0 h i (pair_at pairs i) q
+      (λ a b. not_up i (is_up pairs born x y i (record { within = within; child_is = sym a; parent_is = b }) (omega (arith, a, count, within)) (omega (arith, b, low, count, within))))
+      (λ a b. not_down i (is_down pairs born x y i above_of (record { within = within; child_is = sym b; parent_is = a }) (omega (arith, a, low, count, within)) (omega (arith, b, count, within))))
+
+  -- the channel from x to y changes, and its link with it
+  pub over : (born : ℕ) (x y : Enclave) (h : ChannelFact → ChannelFact) (link : Channel) (hop : Hop) → hop_of pairs born x y ≡ hop → length pairs ≡ born - 1
+      → (IsLinkOf (channels x.0 y.0) (link_of pairs hop) → IsLinkOf (h (channels x.0 y.0)) link) → AreLinked enclaves (at_pair x.0 y.0 h channels) (with_link pairs hop link)
+  over born x y h link hops.NoEnclave is count new = over_none born x y h count (λ j up. let no : hops.NoEnclave ≡ hops.Up j = sym is ∙ up in cc) (λ j down. let no : hops.NoEnclave ≡ hops.Down j = sym is ∙ down in cc)
+  over born x y h link hops.NoLink is count new = over_none born x y h count (λ j up. let no : hops.NoLink ≡ hops.Up j = sym is ∙ up in cc) (λ j down. let no : hops.NoLink ≡ hops.Down j = sym is ∙ down in cc)
+  over born x y h link (hops.Up j) is count new = over_up x y h link j (up_is pairs born x y j is) new
+  over born x y h link (hops.Down j) is count new = over_down x y h link j (down_is pairs born x y j is) new
+
+  -- a record is got, and an enclave is admitted
+  got_linked : (x y : ℕ) → AreLinked enclaves (at_pair x y with_got channels) pairs
+  got_linked x y i within =
+      let k = all i within in
+      record {
+        parent = k.parent;
+        above = k.above;
+        up = got (eqb (i + 1) x && eqb (pair_at pairs i).parent.0 y) (channels (i + 1) (pair_at pairs i).parent.0) (pair_at pairs i).up k.up;
+        down = got (eqb (pair_at pairs i).parent.0 x && eqb (i + 1) y) (channels (pair_at pairs i).parent.0 (i + 1)) (pair_at pairs i).down k.down;
+      }
+    where
+      got : (b : Bool) (f : ChannelFact) (link : Channel) → IsLinkOf f link → IsLinkOf (cond b (with_got f) f) link
+      got true f link k = record { within = k.within; waiting = k.waiting; open_end = k.open_end }
+      got false f link k = k
+
+  admitted_linked : (e : ℕ) → AreLinked (at_number e (as_admitted (enclaves e)) enclaves) channels pairs
+  admitted_linked e i within =
+      let k = all i within in
+      record { parent = k.parent ∙ sym (by (eqb (i + 1) e) refl); above = k.above; up = k.up; down = k.down }
+    where
+      same : (fact : Option EnclaveFact) → (fact_of (as_admitted fact)).parent ≡ (fact_of fact).parent
+      same None = refl
+      same (Some fact) = refl
+
+      by : (b : Bool) → eqb (i + 1) e ≡ b → (fact_of (cond b (as_admitted (enclaves e)) (enclaves (i + 1)))).parent ≡ (fact_of (enclaves (i + 1))).parent
+      by true is = same (enclaves e) ∙ ap (λ n. (fact_of (enclaves n)).parent) (sym (eqb-true (i + 1) e is))
+      by false is = refl
+
+-- ---- lines
+
+-- lines that tell no command, no birth, no process and no bytes that were taken
+abbrev pub IsPlain : Line → Type 0
+IsPlain (lines.Do command) = ⊥
+IsPlain (lines.Born child kind parent ns blocks) = ⊥
+IsPlain (lines.Proc e p uid gid) = ⊥
+IsPlain (lines.Took x y count) = ⊥
+IsPlain line = Unit {0}
+
+abbrev pub ArePlain : List Line → Type 0
+ArePlain [] = Unit {0}
+ArePlain (line ∷ journal) = IsPlain line × ArePlain journal
+
+pub plain_append : (ls ms : List Line) → ArePlain ls → ArePlain ms → ArePlain (ls ++ ms)
+plain_append [] ms first more = more
+plain_append (line ∷ ls) ms first more = (first.0, plain_append ls ms first.1 more)
+
+-- the pairs are as many as before, and of the same parents
+pub with_link-parent : (pairs : List Pair) (hop : Hop) (link : Channel) (i : ℕ) → (pair_at (with_link pairs hop link) i).parent ≡ (pair_at pairs i).parent
+with_link-parent pairs hops.NoEnclave link i = refl
+with_link-parent pairs hops.NoLink link i = refl
+with_link-parent pairs (hops.Up j) link i = set_field (λ (p : Pair). p.parent) pairs j i (record (pair_at pairs j) { up = link }) no_pair refl
+with_link-parent pairs (hops.Down j) link i = set_field (λ (p : Pair). p.parent) pairs j i (record (pair_at pairs j) { down = link }) no_pair refl
+
+pub with_link-length : (pairs : List Pair) (hop : Hop) (link : Channel) → length (with_link pairs hop link) ≡ length pairs
+with_link-length pairs hops.NoEnclave link = refl
+with_link-length pairs hops.NoLink link = refl
+with_link-length pairs (hops.Up j) link = length-set pairs j (record (pair_at pairs j) { up = link })
+with_link-length pairs (hops.Down j) link = length-set pairs j (record (pair_at pairs j) { down = link })
+
+pub carried-parent : (born : ℕ) (ls : List Line) (pairs : List Pair) (i : ℕ) → (pair_at (carried born pairs ls) i).parent ≡ (pair_at pairs i).parent
+carried-parent born [] pairs i = refl
+carried-parent born (lines.Sent x y r ∷ ls) pairs i =
+    let hop = hop_of pairs born x y in
+    let link = sent (link_of pairs hop) (spelling_of r) in
+    carried-parent born ls (with_link pairs hop link) i ∙ with_link-parent pairs hop link i
+carried-parent born (_ ∷ ls) pairs i = carried-parent born ls pairs i
+
+pub carried-length : (born : ℕ) (ls : List Line) (pairs : List Pair) → length (carried born pairs ls) ≡ length pairs
+carried-length born [] pairs = refl
+carried-length born (lines.Sent x y r ∷ ls) pairs =
+    let hop = hop_of pairs born x y in
+    let link = sent (link_of pairs hop) (spelling_of r) in
+    carried-length born ls (with_link pairs hop link) ∙ with_link-length pairs hop link
+carried-length born (_ ∷ ls) pairs = carried-length born ls pairs
+
+-- the channels show the facts after plain lines, once what they send is carried
+pub linked_lines : (born : ℕ) (ls : List Line) (G : Facts) (pairs : List Pair) → length pairs ≡ born - 1 → ArePlain ls → AreLinked G.enclave G.channel pairs
+    → AreLinked (after_lines G ls).enclave (after_lines G ls).channel (carried born pairs ls)
+linked_lines born [] G pairs count plain all = all
+linked_lines born (lines.Sent x y r ∷ ls) G pairs count plain all =
+    let hop = hop_of pairs born x y in
+    let link = sent (link_of pairs hop) (spelling_of r) in
+    linked_lines born ls (after_line G (lines.Sent x y r)) (with_link pairs hop link) (with_link-length pairs hop link ∙ count) plain.1
+    (over G.enclave G.channel pairs all born x y (with_sent r) link hop refl count (λ k. link_sent (G.channel x.0 y.0) (link_of pairs hop) r k))
+linked_lines born (lines.Got x y ∷ ls) G pairs count plain all = linked_lines born ls (after_line G (lines.Got x y)) pairs count plain.1 (got_linked G.enclave G.channel pairs all x.0 y.0)
+linked_lines born (lines.Admitted e ∷ ls) G pairs count plain all = linked_lines born ls (after_line G (lines.Admitted e)) pairs count plain.1 (admitted_linked G.enclave G.channel pairs all e.0)
+linked_lines born (lines.Do command ∷ ls) G pairs count plain all = absurd plain.0
+linked_lines born (lines.Born child kind parent ns blocks ∷ ls) G pairs count plain all = absurd plain.0
+linked_lines born (lines.Proc e p uid gid ∷ ls) G pairs count plain all = absurd plain.0
+linked_lines born (lines.Took x y n ∷ ls) G pairs count plain all = absurd plain.0
+linked_lines born (line ∷ ls) G pairs count plain all = linked_lines born ls (after_line G line) pairs count plain.1 all
+
+-- ---- decoders
+
+-- what the decoder at the end of a channel has
+abbrev pub feed_by : ChannelFact → Decoding
+feed_by f = feed_from f.sent f.taken
+
+-- no more bytes were taken than were sent
+abbrev pub AreWithin : (ℕ → ℕ → ChannelFact) → Type 0
+AreWithin channels = (a b : ℕ) → (channels a b).taken ≤ length (spellings_of (channels a b).sent)
+
+sent_within : (x y : ℕ) (r : Record) (channels : ℕ → ℕ → ChannelFact) → AreWithin channels → AreWithin (at_pair x y (with_sent r) channels)
+sent_within x y r channels all a b = by (eqb a x && eqb b y) (channels a b) (all a b)
+  where
+    by : (t : Bool) (f : ChannelFact) → f.taken ≤ length (spellings_of f.sent) → (cond t (with_sent r f) f).taken ≤ length (spellings_of (cond t (with_sent r f) f).sent)
+    by true f fits = let size = spellings-length f.sent (r ∷ []) in omega (arith, size, fits)
+    by false f fits = fits
+
+sent_feed : (x y : ℕ) (r : Record) (channels : ℕ → ℕ → ChannelFact) → AreWithin channels → (a b : ℕ) → feed_by (at_pair x y (with_sent r) channels a b) ≡ feed_by (channels a b)
+sent_feed x y r channels all a b = by (eqb a x && eqb b y) (channels a b) (all a b)
+  where
+    by : (t : Bool) (f : ChannelFact) → f.taken ≤ length (spellings_of f.sent) → feed_by (cond t (with_sent r f) f) ≡ feed_by f
+    by true f fits = feed_sent f.sent f.taken r fits
+    by false f fits = refl
+
+got_within : (x y : ℕ) (channels : ℕ → ℕ → ChannelFact) → AreWithin channels → AreWithin (at_pair x y with_got channels)
+got_within x y channels all a b = by (eqb a x && eqb b y) (channels a b) (all a b)
+  where
+    by : (t : Bool) (f : ChannelFact) → f.taken ≤ length (spellings_of f.sent) → (cond t (with_got f) f).taken ≤ length (spellings_of (cond t (with_got f) f).sent)
+    by true f fits = fits
+    by false f fits = fits
+
+got_feed : (x y : ℕ) (channels : ℕ → ℕ → ChannelFact) (a b : ℕ) → feed_by (at_pair x y with_got channels a b) ≡ feed_by (channels a b)
+got_feed x y channels a b = by (eqb a x && eqb b y) (channels a b)
+  where
+    by : (t : Bool) (f : ChannelFact) → feed_by (cond t (with_got f) f) ≡ feed_by f
+    by true f = refl
+    by false f = refl
+
+-- plain lines leave what each decoder has
+pub fed_lines : (ls : List Line) (G : Facts) → ArePlain ls → AreWithin G.channel → (a b : ℕ) → feed_by ((after_lines G ls).channel a b) ≡ feed_by (G.channel a b)
+fed_lines [] G plain all a b = refl
+fed_lines (lines.Sent x y r ∷ ls) G plain all a b = fed_lines ls (after_line G (lines.Sent x y r)) plain.1 (sent_within x.0 y.0 r G.channel all) a b ∙ sent_feed x.0 y.0 r G.channel all a b
+fed_lines (lines.Got x y ∷ ls) G plain all a b = fed_lines ls (after_line G (lines.Got x y)) plain.1 (got_within x.0 y.0 G.channel all) a b ∙ got_feed x.0 y.0 G.channel a b
+fed_lines (lines.Do command ∷ ls) G plain all a b = absurd plain.0
+fed_lines (lines.Took x y n ∷ ls) G plain all a b = absurd plain.0
+fed_lines (line ∷ ls) G plain all a b = fed_lines ls (after_line G line) plain.1 all a b
+
+-- ---- numbers
+
+-- plain lines leave what is counted
+pub record AreCounted (G H : Facts) : Type 0 where
+  pub pool : H.pool ≡ G.pool
+  pub born : H.born ≡ G.born
+  pub starts : H.starts ≡ G.starts
+
+pub counted_lines : (ls : List Line) (G : Facts) → ArePlain ls → AreCounted G (after_lines G ls)
+counted_lines [] G plain = record { pool = refl; born = refl; starts = refl }
+counted_lines (lines.Do command ∷ ls) G plain = absurd plain.0
+counted_lines (lines.Born child kind parent ns blocks ∷ ls) G plain = absurd plain.0
+counted_lines (lines.Proc e p uid gid ∷ ls) G plain = absurd plain.0
+counted_lines (line ∷ ls) G plain = let more = counted_lines ls (after_line G line) plain.1 in record { pool = more.pool; born = more.born; starts = more.starts }

@@ -1,0 +1,209 @@
+-- A link and the decoder at its end, by what was sent over the channel and how much of it was taken.
+use Rattle.std.proofs.Common.{◌≡◌, ◌+◌, ◌-◌, ◌≤◌, ℕ, zero, suc, List, [], ◌∷◌, ◌++◌, length, take, drop, false, None, refl, sym, ap, ◌∙◌, subst, arith, append-nil, append_assoc, length-append, length-drop}
+use Rattle.std.specs.List.{concat}
+use Rattle.std.proofs.Math.Seq.{take-append-add, drop-append-add}
+use Rattle.std.proofs.lemmas.List.{drop_at, drop-append-le, take-append-le, take-append-drop, length-take-le}
+use Rattle.byte_link.specs.Channel.{Channel, fresh, waiting_bytes, filled, later_bytes, taken, sent}
+use Rattle.xemem_wire.specs.declared.format.Record.{Record}
+use Rattle.xemem_wire.specs.Spelling.{spelling_of, spellings_of, AreValid}
+use Rattle.xemem_wire.specs.Stream.{Reading, reading_of, first_bad}
+use Rattle.xemem_wire.specs.Decoding.{Decoding, after_piece}
+use Rattle.global_model.specs.Facts.{ChannelFact, no_channel, with_sent, with_taken}
+use Rattle.global_model.specs.Channels.{whole_records, arriving, waiting_of}
+use Rattle.global_model.specs.Flow.{IsFlow}
+use Rattle.node_world.specs.Links.{IsFlowing, IsChannel, got_bytes, feed_of}
+use Rattle.node_world.specs.Laws.{WireLaws}
+use Rattle.node_world.proofs.Fronts.{IsFront, front_of, spellings-append, spellings-length, whole-after, whole-take, whole-length, whole-bytes, whole-more}
+
+-- ---- what waits in a link
+
+concat-filled : (ps : List (List ℕ)) → concat (filled ps) ≡ concat ps
+concat-filled [] = refl
+concat-filled ([] ∷ ps) = concat-filled ps
+concat-filled ((b ∷ bs) ∷ ps) = ap (λ rest. (b ∷ bs) ++ rest) (concat-filled ps)
+
+concat-append : (ps qs : List (List ℕ)) → concat (ps ++ qs) ≡ concat ps ++ concat qs
+concat-append [] qs = refl
+concat-append (p ∷ ps) qs = ap (λ rest. p ++ rest) (concat-append ps qs) ∙ sym (append_assoc p (concat ps) (concat qs))
+
+drop-append : (n : ℕ) (xs ys : List ℕ) → drop n xs ++ drop (n - length xs) ys ≡ drop n (xs ++ ys)
+drop-append zero xs ys = let none : 0 - length xs ≡ 0 = omega arith in ap (λ k. xs ++ drop k ys) none
+drop-append (suc n) [] ys = let all : suc n - 0 ≡ suc n = omega arith in ap (λ k. drop k ys) all
+drop-append (suc n) (x ∷ xs) ys = let less : suc n - length (x ∷ xs) ≡ n - length xs = omega arith in ap (λ k. drop n xs ++ drop k ys) less ∙ drop-append n xs ys
+
+concat-later : (n : ℕ) (ps : List (List ℕ)) → concat (later_bytes n ps) ≡ drop n (concat ps)
+concat-later zero [] = refl
+concat-later (suc n) [] = refl
+concat-later n (p ∷ ps) = ap (λ rest. drop n p ++ rest) (concat-later (n - length p) ps) ∙ drop-append n p (concat ps)
+
+waiting-taken : (c : Channel) (n : ℕ) → waiting_bytes (taken c n) ≡ drop n (waiting_bytes c)
+waiting-taken c n = concat-filled (later_bytes n c.pieces) ∙ concat-later n c.pieces
+
+waiting-sent : (c : Channel) (bytes : List ℕ) → waiting_bytes (sent c bytes) ≡ waiting_bytes c ++ bytes
+waiting-sent c bytes = concat-append c.pieces (bytes ∷ []) ∙ ap (λ xs. concat c.pieces ++ xs) (append-nil bytes)
+
+-- what waits in the link are the bytes that were sent and not taken
+pub record IsLinkOf (fact : ChannelFact) (link : Channel) : Type 0 where
+  pub within : fact.taken ≤ length (spellings_of fact.sent)
+  pub waiting : waiting_bytes link ≡ waiting_of fact
+  pub open_end : link.ended ≡ false
+
+pub fresh_link : IsLinkOf no_channel fresh
+fresh_link = record { within = omega arith; waiting = refl; open_end = refl }
+
+pub waiting-length : (f : ChannelFact) (link : Channel) → IsLinkOf f link → f.taken + length (waiting_bytes link) ≡ length (spellings_of f.sent)
+waiting-length f link h = let size = ap length h.waiting ∙ length-drop f.taken (spellings_of f.sent) in omega (arith, size, h.within)
+
+pub link_sent : (f : ChannelFact) (link : Channel) (r : Record) → IsLinkOf f link → IsLinkOf (with_sent r f) (sent link (spelling_of r))
+link_sent f link r h =
+    let one : spellings_of (r ∷ []) ≡ spelling_of r = append-nil (spelling_of r) in
+    let all : spellings_of (f.sent ++ r ∷ []) ≡ spellings_of f.sent ++ spelling_of r = spellings-append f.sent (r ∷ []) ∙ ap (λ xs. spellings_of f.sent ++ xs) one in
+    record {
+      within = let size = ap length all ∙ length-append (spellings_of f.sent) (spelling_of r) in omega (arith, size, h.within);
+      waiting = waiting-sent link (spelling_of r) ∙ ap (λ xs. xs ++ spelling_of r) h.waiting ∙ sym (ap (drop f.taken) all ∙ drop-append-le f.taken (spellings_of f.sent) (spelling_of r) h.within);
+      open_end = h.open_end;
+    }
+
+-- what is behind n more bytes
+drop-more : (t n : ℕ) (xs : List ℕ) → drop n (drop t xs) ≡ drop (t + n) xs
+drop-more zero n xs = let all : 0 + n ≡ n = omega arith in ap (λ k. drop k xs) (sym all)
+drop-more (suc t) zero [] = let one : suc t + 0 ≡ suc t = omega arith in sym (ap (λ k. drop k []) one)
+drop-more (suc t) (suc n) [] = let one : suc t + suc n ≡ suc (t + suc n) = omega arith in sym (ap (λ k. drop k []) one)
+drop-more (suc t) n (x ∷ xs) = let one : suc t + n ≡ suc (t + n) = omega arith in drop-more t n xs ∙ sym (ap (λ k. drop k (x ∷ xs)) one)
+
+pub link_taken : (f : ChannelFact) (link : Channel) (n : ℕ) → n ≤ length (waiting_bytes link) → IsLinkOf f link → IsLinkOf (with_taken n f) (taken link n)
+link_taken f link n fits h = record {
+  within = let size = waiting-length f link h in omega (arith, size, fits);
+  waiting = waiting-taken link n ∙ ap (drop n) h.waiting ∙ drop-more f.taken n (spellings_of f.sent);
+  open_end = h.open_end;
+}
+
+-- ---- the channel
+
+pub link_of_channel : (f : ChannelFact) (link : Channel) (d : Decoding) → IsChannel f link d → IsLinkOf f link
+link_of_channel f link d h =
+    let all : spellings_of f.sent ≡ spellings_of h.done ++ spellings_of h.coming = ap spellings_of h.sent ∙ spellings-append h.done h.coming in
+    let size = ap length all ∙ length-append (spellings_of h.done) (spellings_of h.coming) in
+    let parts = sym (length-append d.rest (waiting_bytes link)) ∙ ap length h.bytes in
+    record {
+      within = omega (arith, size, parts, h.taken);
+      waiting = sym (
+          ap (λ n. drop n (spellings_of f.sent)) h.taken ∙ ap (drop (length (spellings_of h.done) + length d.rest)) all
+          ∙ drop-append-add (spellings_of h.done) (spellings_of h.coming) (length d.rest) ∙ ap (drop (length d.rest)) (sym h.bytes) ∙ drop_at d.rest (waiting_bytes link) (length d.rest) refl
+          );
+      open_end = h.open_end;
+    }
+
+later-valid : (n : ℕ) (rs : List Record) → AreValid rs → AreValid (drop n rs)
+later-valid zero rs valid = valid
+later-valid (suc n) [] valid = tt
+later-valid (suc n) (r ∷ rs) valid = later-valid n rs valid.1
+
+pub channel_of : (f : ChannelFact) (link : Channel) → IsFlow f → IsLinkOf f link → IsChannel f link (feed_of f)
+channel_of f link flow h =
+    let S = spellings_of f.sent in
+    let D = spellings_of (take f.got f.sent) in
+    let C = spellings_of (drop f.got f.sent) in
+    let whole : take f.got f.sent ++ drop f.got f.sent ≡ f.sent = take-append-drop f.got f.sent in
+    let all : S ≡ D ++ C = ap spellings_of (sym whole) ∙ spellings-append (take f.got f.sent) (drop f.got f.sent) in
+    let few : got_bytes f ≤ f.taken = whole-bytes f.got f.taken f.sent flow.got in
+    let short : length (take f.taken S) ≡ f.taken = length-take-le f.taken S flow.taken in
+    let rest : length (drop (got_bytes f) (take f.taken S)) ≡ f.taken - got_bytes f = length-drop (got_bytes f) (take f.taken S) ∙ ap (λ n. n - got_bytes f) short in
+    let joined : drop (got_bytes f) (take f.taken S) ++ drop f.taken S ≡ C =
+    sym (drop-append-le (got_bytes f) (take f.taken S) (drop f.taken S) (omega (arith, short, few))) ∙ ap (drop (got_bytes f)) (take-append-drop f.taken S ∙ all) ∙ drop_at D C (got_bytes f) refl in
+    let most = whole-length f.taken f.sent in
+    record {
+      done = take f.got f.sent;
+      coming = drop f.got f.sent;
+      sent = sym whole;
+      got = sym (length-take-le f.got f.sent (omega (arith, most, flow.got)));
+      taken = omega (arith, rest, few);
+      valid = later-valid f.got f.sent flow.valid;
+      bytes = ap (λ xs. (feed_of f).rest ++ xs) h.waiting ∙ joined;
+      before = refl;
+      fine = refl;
+      given = refl;
+      open_end = h.open_end;
+    }
+
+pub flowing_of : (f : ChannelFact) (link : Channel) (d : Decoding) → IsChannel f link d → IsFlowing link d
+flowing_of f link d h = record { coming = h.coming; valid = h.valid; bytes = h.bytes; fine = h.fine; given = h.given; open_end = h.open_end }
+
+-- ---- the decoder
+
+-- what the decoder has, once all whole records of so many bytes were given
+abbrev pub feed_from : List Record → ℕ → Decoding
+feed_from rs n = record { records = []; rest = drop (length (spellings_of (whole_records n rs))) (take n (spellings_of rs)); before = length (spellings_of (whole_records n rs)); bad = None }
+
+-- where no record is left to be got, all whole ones were
+pub got_is : (f : ChannelFact) → IsFlow f → arriving f ≡ [] → f.got ≡ length (whole_records f.taken f.sent)
+got_is f flow none = let left = sym (length-drop f.got (whole_records f.taken f.sent)) ∙ ap length none in omega (arith, left, flow.got)
+
+pub feed_is : (f : ChannelFact) → IsFlow f → arriving f ≡ [] → feed_of f ≡ feed_from f.sent f.taken
+feed_is f flow none =
+    let same : take f.got f.sent ≡ whole_records f.taken f.sent = ap (λ n. take n f.sent) (got_is f flow none) ∙ whole-take f.taken f.sent in
+    ap (λ (rs : List Record). record { records = []; rest = drop (length (spellings_of rs)) (take f.taken (spellings_of f.sent)); before = length (spellings_of rs); bad = None }) same
+
+-- a record that is sent later doesn't reach it
+pub feed_sent : (rs : List Record) (n : ℕ) (r : Record) → n ≤ length (spellings_of rs) → feed_from (rs ++ r ∷ []) n ≡ feed_from rs n
+feed_sent rs n r fits =
+    let same : take n (spellings_of (rs ++ r ∷ [])) ≡ take n (spellings_of rs) = ap (take n) (spellings-append rs (r ∷ [])) ∙ take-append-le n (spellings_of rs) (spellings_of (r ∷ [])) fits in
+    ap (λ (ws : List Record). record { records = []; rest = drop (length (spellings_of ws)) (take n (spellings_of (rs ++ r ∷ []))); before = length (spellings_of ws); bad = None }) (whole-more n rs r fits)
+    ∙ ap (λ (bytes : List ℕ). record { records = []; rest = drop (length (spellings_of (whole_records n rs))) bytes; before = length (spellings_of (whole_records n rs)); bad = None }) same
+
+-- what a decoder has after a piece, by the reading of its bytes
+abbrev HasRead : Decoding → List Record → List ℕ → ℕ → Type 0
+HasRead d ws tail before = d ≡ record { records = ws; rest = tail; before = before; bad = None }
+
+fed_as : (rest : List ℕ) (before : ℕ) (piece : List ℕ) (ws : List Record) (tail : List ℕ) → first_bad (rest ++ piece) ≡ None → reading_of (rest ++ piece) ≡ record { records = ws; rest = tail }
+    → HasRead (after_piece (record { records = []; rest = rest; before = before; bad = None }) piece) ws tail (before + (length (rest ++ piece) - length tail))
+unfolding after_piece
+fed_as rest before piece ws tail fine reading = rw fine (ap (λ (r : Reading). record { records = r.records; rest = r.rest; before = before + (length (rest ++ piece) - length r.rest); bad = None }) reading)
+
+read_feed : (d : Decoding) (ws : List Record) (tail : List ℕ) (before : ℕ) (rs : List Record) (n : ℕ) → HasRead d ws tail before → before ≡ length (spellings_of (whole_records n rs))
+    → drop (length (spellings_of (whole_records n rs))) (take n (spellings_of rs)) ≡ tail → record d { records = [] } ≡ feed_from rs n
+read_feed d ws tail before rs n made all rest =
+    ap (λ (d : Decoding). record d { records = [] }) made ∙ ap (λ (k : ℕ). record { records = []; rest = tail; before = k; bad = None }) all
+    ∙ ap (λ (xs : List ℕ). record { records = []; rest = xs; before = length (spellings_of (whole_records n rs)); bad = None }) (sym rest)
+
+-- the next n bytes are fed to it
+pub record IsFed (rs : List Record) (n m : ℕ) (d : Decoding) : Type 0 where
+  pub came : d.records ≡ drop (length (whole_records n rs)) (whole_records (n + m) rs)
+  pub feed : record d { records = [] } ≡ feed_from rs (n + m)
+
+fed_front : WireLaws → (rs : List Record) (n m : ℕ) → n + m ≤ length (spellings_of rs) → (f : IsFront rs n (whole_records n rs)) → IsFront f.more (length f.tail + m) (whole_records (length f.tail + m) f.more)
+    → IsFed rs n m (after_piece (feed_from rs n) (take m (drop n (spellings_of rs))))
+fed_front laws rs n m fits f g =
+    let S = spellings_of rs in
+    let ws = whole_records n rs in
+    let vs = whole_records (length f.tail + m) f.more in
+    let rest : drop (length (spellings_of ws)) (take n S) ≡ f.tail = ap (drop (length (spellings_of ws))) f.front ∙ drop_at (spellings_of ws) f.tail (length (spellings_of ws)) refl in
+    let bytes : f.tail ++ take m (drop n S) ≡ take (length f.tail + m) (spellings_of f.more) = sym (take-append-add f.tail (drop n S) m) ∙ ap (take (length f.tail + m)) f.bytes in
+    let made = fed_as f.tail (length (spellings_of ws)) (take m (drop n S)) vs g.tail (ap first_bad bytes ∙ g.fine) (ap reading_of bytes ∙ g.reading) in
+    let now : n + m ≡ length (spellings_of ws) + (length f.tail + m) = omega (arith, f.taken) in
+    let all : whole_records (n + m) rs ≡ ws ++ vs = ap (λ k. whole_records k rs) now ∙ ap (whole_records (length (spellings_of ws) + (length f.tail + m))) f.whole ∙ whole-after ws f.more (length f.tail + m) in
+    let size : length (spellings_of (whole_records (n + m) rs)) ≡ length (spellings_of ws) + length (spellings_of vs) = ap (λ xs. length (spellings_of xs)) all ∙ spellings-length ws vs in
+    let split : S ≡ spellings_of ws ++ spellings_of f.more = ap spellings_of f.whole ∙ spellings-append ws f.more in
+    let front : take (n + m) S ≡ spellings_of ws ++ (spellings_of vs ++ g.tail) =
+    ap (λ k. take k S) now ∙ ap (take (length (spellings_of ws) + (length f.tail + m))) split ∙ take-append-add (spellings_of ws) (spellings_of f.more) (length f.tail + m) ∙ ap (λ xs. spellings_of ws ++ xs) g.front in
+    let tail : drop (length (spellings_of (whole_records (n + m) rs))) (take (n + m) S) ≡ g.tail =
+    ap (λ k. drop k (take (n + m) S)) size ∙ ap (drop (length (spellings_of ws) + length (spellings_of vs))) front ∙ drop-append-add (spellings_of ws) (spellings_of vs ++ g.tail) (length (spellings_of vs)) ∙ drop_at (spellings_of vs) g.tail (length (spellings_of vs)) refl in
+    let length_is : length (f.tail ++ take m (drop n S)) ≡ length (spellings_of vs) + length g.tail = ap length (bytes ∙ g.front) ∙ length-append (spellings_of vs) g.tail in
+    let before : length (spellings_of ws) + (length (f.tail ++ take m (drop n S)) - length g.tail) ≡ length (spellings_of (whole_records (n + m) rs)) = omega (arith, length_is, size) in
+    let came : drop (length ws) (whole_records (n + m) rs) ≡ vs = ap (drop (length ws)) all ∙ drop_at ws vs (length ws) refl in
+    rw rest (record {
+      came = ap (λ d. d.records) made ∙ sym came;
+      feed = read_feed _ vs g.tail _ rs (n + m) made before tail;
+    })
+
+pub more-valid : (ws more : List Record) → AreValid (ws ++ more) → AreValid more
+more-valid [] more valid = valid
+more-valid (w ∷ ws) more valid = more-valid ws more valid.1
+
+pub feed_fed : WireLaws → (rs : List Record) (n m : ℕ) → AreValid rs → n + m ≤ length (spellings_of rs) → IsFed rs n m (after_piece (feed_from rs n) (take m (drop n (spellings_of rs))))
+feed_fed laws rs n m valid fits =
+    let f = front_of laws rs n valid (omega (arith, fits)) in
+    let size : length f.tail + length (drop n (spellings_of rs)) ≡ length (spellings_of f.more) = sym (length-append f.tail (drop n (spellings_of rs))) ∙ ap length f.bytes in
+    let left = length-drop n (spellings_of rs) in
+    let more = more-valid (whole_records n rs) f.more (subst AreValid f.whole valid) in
+    fed_front laws rs n m fits f (front_of laws f.more (length f.tail + m) more (omega (arith, size, left, fits)))

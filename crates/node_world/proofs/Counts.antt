@@ -1,0 +1,349 @@
+-- Each command raises what each node appended by the words of its lines that are by that node.
+use Rattle.std.proofs.Common.{◌≡◌, ◌+◌, ◌<◌, ◌≤◌, ℕ, zero, suc, List, [], ◌∷◌, ◌++◌, length, take, Bool, true, false, cond, eqb, ltb, leb, not, Some, refl, sym, ap, ◌∙◌, subst, inl, inr, arith, length-append}
+use Rattle.std.specs.Prelude.{◌⊎◌, slice_set}
+use Rattle.std.proofs.lemmas.Bool.{eqb-true, eqb-false, ltb-true, ne_eqb, cases_lt}
+use Rattle.std.proofs.lemmas.List.{length-set, get_or_past, get_or-set_same, get_or-set_other}
+use Rattle.std.proofs.Math.ListN.{get_or-append}
+use Rattle.std.proofs.Math.Seq.{get_or-append_seam}
+use Rattle.xm_num.specs.declared.Enclave.{Enclave}
+use Rattle.xm_num.specs.declared.Kind.{Kind}
+use Rattle.xm_num.specs.declared.Pid.{Pid}
+use Rattle.xm_num.specs.declared.Vpn.{Vpn}
+use Rattle.xm_num.specs.declared.Want.{Want}
+use Rattle.xm_num.specs.declared.Cause.{Cause}
+use Rattle.xm_num.specs.declared.Cause.TheVariants as causes
+use Rattle.byte_link.specs.Channel.{fresh, taken, waiting_bytes}
+use Rattle.global_model.specs.declared.command.Command.{Command}
+use Rattle.global_model.specs.declared.command.Command.TheVariants as commands
+use Rattle.global_model.specs.declared.line.Line.{Line}
+use Rattle.global_model.specs.declared.line.Line.TheVariants as lines
+use Rattle.global_model.specs.Spelling.{words_in}
+use Rattle.global_model.specs.History.{onto}
+use Rattle.global_model.specs.View.{View}
+use Rattle.global_model.specs.Steps.{host, refusal, host_lines, first_blocks, start_lines, alloc_lines, touch_answer, state_lines, birth_lines, adopt_lines}
+use Rattle.global_model.proofs.Pasts.{onto-append}
+use Rattle.enclave_node.specs.Nodes.{NodeView, unborn_node, raised, wrote, new_host, new_node, lent, adopted, fed, fed_lines, after_feed}
+use Rattle.node_world.specs.declared.pair.Hop.{Hop}
+use Rattle.node_world.specs.declared.pair.Hop.TheVariants as hops
+use Rattle.node_world.specs.Appended.{refuses, words_by}
+use Rattle.node_world.specs.Machine.{MachineView, node_at, with_node, hop_in, link_of, with_link, taken_by, is_idle, next_enclave, free_of, is_full, is_short, booted_lines, booted_nodes, touch_by, deliver_by, after_deliver, shown_by, lines_by, acted}
+use Rattle.node_world.specs.Ready.{IsReady, Stands}
+use Rattle.node_world.specs.World.{most_words}
+use Rattle.node_world.proofs.Lists.{cond_case, set_field}
+use Rattle.node_world.proofs.Stills.{AreStill, still_answer, still_states, still_bytes}
+use Rattle.node_world.proofs.Deliveries.{over_lines, over_machine}
+use Rattle.node_world.proofs.Appends.{AreBy, nobody, only, Adds, share, adds_append, adds_by, few_by, by_still, by_birth, by_host, by_adopt, by_records, by_alloc}
+
+abbrev count_at : List NodeView → ℕ → ℕ
+count_at nodes e = (node_at nodes e).appended
+
+-- as far as the words are few, each node's count is raised by so many
+abbrev Raises : List NodeView → List NodeView → (ℕ → ℕ) → Type 0
+Raises nodes after gain = (e : ℕ) → count_at nodes e + gain e ≤ most_words → count_at after e ≡ count_at nodes e + gain e
+
+-- the lines add so many words to those of each enclave, by which the counts of the nodes are raised
+pub record Counts (c : Command) (ls : List Line) (nodes after : List NodeView) : Type 0 where
+  pub gain : ℕ → ℕ
+  pub adds : Adds c ls gain
+  pub raises : Raises nodes after gain
+
+-- no node appended anything, where none is born
+pub nothing : (e : ℕ) → count_at [] e ≡ 0
+nothing zero = refl
+nothing (suc e) = refl
+
+-- ---- nodes that change
+
+raised_few : (count more : ℕ) → count + more ≤ most_words → raised count more ≡ count + more
+raised_few count more few = omega (arith, few)
+
+-- no node writes
+counts_none : (c : Command) (ls : List Line) (nodes : List NodeView) → AreBy c nobody ls → Counts c ls nodes nodes
+counts_none c ls nodes by = record { gain = share nobody ls; adds = adds_by c nobody ls by; raises = λ e few. omega arith }
+
+-- one node changes, and its count is raised by so many
+raises_one : (nodes : List NodeView) (of : Enclave) (node : NodeView) (more : ℕ) → of.0 < length nodes → node.appended ≡ raised (count_at nodes of.0) more
+    → Raises nodes (slice_set nodes of.0 node) (λ e. cond (only of e) more 0)
+raises_one nodes of node more within is e few = by (eqb of.0 e) refl few
+  where
+    by : (b : Bool) → eqb of.0 e ≡ b → count_at nodes e + cond b more 0 ≤ most_words → count_at (slice_set nodes of.0 node) e ≡ count_at nodes e + cond b more 0
+    by true same few =
+        let here : of.0 ≡ e = eqb-true of.0 e same in
+        ap (λ k. count_at (slice_set nodes of.0 node) k) (sym here) ∙ ap (λ n. n.appended) (get_or-set_same nodes of.0 node (unborn_node 0 host []) within) ∙ is
+        ∙ ap (λ k. raised (count_at nodes k) more) here ∙ raised_few (count_at nodes e) more few
+    by false same few =
+        let apart = eqb-false of.0 e same in
+        let other = ap (λ n. n.appended) (get_or-set_other nodes of.0 e node (unborn_node 0 host []) (λ s. apart (sym s))) in
+        omega (arith, other)
+
+-- one node writes the lines
+counts_one : (c : Command) (nodes : List NodeView) (of : Enclave) (node : NodeView) (ls : List Line) → of.0 < length nodes → node.appended ≡ raised (count_at nodes of.0) (words_in ls) → AreBy c (only of) ls
+    → Counts c ls nodes (slice_set nodes of.0 node)
+counts_one c nodes of node ls within is by = record { gain = share (only of) ls; adds = adds_by c (only of) ls by; raises = raises_one nodes of node (words_in ls) within is }
+
+-- one more node is put behind the others
+raises_more : (nodes after : List NodeView) (gain : ℕ → ℕ) (child : Enclave) (node : NodeView) (more : ℕ) → Raises nodes after gain → length after ≡ length nodes → child.0 ≡ length nodes → ((e : ℕ) → length nodes ≤ e → gain e ≡ 0)
+    → node.appended ≡ raised 0 more → Raises nodes (after ++ node ∷ []) (λ e. cond (only child e) more 0 + gain e)
+raises_more nodes after gain child node more old size last silent is e few = by (cases_lt e (length nodes))
+  where
+    gone : (k : ℕ) → length nodes ≤ k → count_at nodes k ≡ 0
+    gone k past = ap (λ n. n.appended) (get_or_past nodes k (unborn_node 0 host []) past)
+
+    by : (e < length nodes) ⊎ (length nodes ≤ e) → count_at (after ++ node ∷ []) e ≡ count_at nodes e + (cond (only child e) more 0 + gain e)
+    by (inl within) =
+        let other : only child e ≡ false = ne_eqb child.0 e (λ same. omega (arith, same, last, within)) in
+        let share : cond (only child e) more 0 ≡ 0 = ap (λ b. cond b more 0) other in
+        let here = ap (λ n. n.appended) (get_or-append after (node ∷ []) (unborn_node 0 host []) e (omega (arith, size, within))) in
+        let before = old e (omega (arith, few, share)) in
+        omega (arith, here, before, share)
+    by (inr past) = new (eqb child.0 e) refl
+      where
+        new : (b : Bool) → eqb child.0 e ≡ b → count_at (after ++ node ∷ []) e ≡ count_at nodes e + (cond b more 0 + gain e)
+        new true same =
+            let at : e ≡ length after = sym (eqb-true child.0 e same) ∙ last ∙ sym size in
+            let here = ap (count_at (after ++ node ∷ [])) at ∙ ap (λ n. n.appended) (get_or-append_seam after node [] (unborn_node 0 host [])) ∙ is in
+            let share : cond (only child e) more 0 ≡ more = ap (λ b. cond b more 0) same in
+            omega (arith, here, share, few, gone e past, silent e past)
+        new false apart =
+            let far = eqb-false child.0 e apart in
+            let long = length-append after (node ∷ []) in
+            let beyond : length (after ++ node ∷ []) ≤ e = omega (arith, long, size, past, last, λ (same : child.0 ≡ e). far same) in
+            let here = ap (λ n. n.appended) (get_or_past (after ++ node ∷ []) e (unborn_node 0 host []) beyond) in
+            omega (arith, here, gone e past, silent e past)
+
+-- ---- births
+
+counts_host : (m : MachineView) (blocks : ℕ) (ns : Bool) → length m.nodes ≡ 0 → Counts (commands.Host blocks ns) (lines_by m (commands.Host blocks ns)) m.nodes (acted m (commands.Host blocks ns)).nodes
+counts_host m blocks ns none = by (ltb m.pool blocks)
+  where
+    c : Command
+    c = commands.Host blocks ns
+
+    ls : List Line
+    ls = host_lines (first_blocks blocks) ns
+
+    w : MachineView
+    w = record m { nodes = new_host m.pool blocks ns ∷ [] }
+
+    gone : (e : ℕ) → count_at m.nodes e ≡ 0
+    gone e = ap (λ n. n.appended) (get_or_past m.nodes e (unborn_node 0 host []) (omega (arith, none)))
+
+    raises : Raises m.nodes w.nodes (share (only host) ls)
+    raises zero few = omega (arith, gone zero, few)
+    raises (suc e) few =
+        let none : share (only host) ls (suc e) ≡ 0 = ap (λ b. cond b (words_in ls) 0) (ne_eqb 0 (suc e) (λ same. omega (arith, same))) in
+        omega (arith, gone (suc e), none)
+
+    by : (b : Bool) → Counts c (cond b (refusal causes.NoBlocks) ls) m.nodes (cond b m w).nodes
+    by true = counts_none c (refusal causes.NoBlocks) m.nodes (λ e. refl, tt)
+    by false = record { gain = share (only host) ls; adds = adds_by c (only host) ls (by_host c (first_blocks blocks) ns); raises = raises }
+
+module _ (m : MachineView) (kind : Kind) (parent : Enclave) (blocks : ℕ) (ns : Bool) (me : parent.0 < length m.nodes → (node_at m.nodes parent.0).view.me ≡ parent) where
+  abbrev boot : Command
+  boot = commands.Boot kind parent blocks ns
+
+  abbrev child : Enclave
+  child = next_enclave m
+
+  abbrev birth : List Line
+  birth = birth_lines child kind parent (take blocks (free_of m)) ns (node_at m.nodes parent.0).view.heard
+
+  abbrev asked : List Line
+  asked = adopt_lines (node_at m.nodes parent.0).view child
+
+  booted_raises : parent.0 < length m.nodes → Raises m.nodes (booted_nodes m kind parent blocks ns) (λ e. share (only child) birth e + share (only parent) asked e)
+  booted_raises within = raises_more m.nodes taking (share (only parent) asked) child (new_node child kind parent (take blocks (free_of m)) ns (node_at m.nodes parent.0).view.heard) (words_in birth) taken (size_then ∙ size) refl silent refl
+    where
+      lending : List NodeView
+      lending = slice_set m.nodes 0 (lent (node_at m.nodes 0) child parent (take blocks (free_of m)))
+
+      taking : List NodeView
+      taking = slice_set lending parent.0 (wrote (adopted (node_at lending parent.0) child kind) asked)
+
+      size : length lending ≡ length m.nodes
+      size = length-set m.nodes 0 (lent (node_at m.nodes 0) child parent (take blocks (free_of m)))
+
+      size_then : length taking ≡ length lending
+      size_then = length-set lending parent.0 (wrote (adopted (node_at lending parent.0) child kind) asked)
+
+      -- lending writes nothing
+      same : (e : ℕ) → count_at lending e ≡ count_at m.nodes e
+      same e = set_field (λ n. n.appended) m.nodes 0 e (lent (node_at m.nodes 0) child parent (take blocks (free_of m))) (unborn_node 0 host []) refl
+
+      taken : Raises m.nodes taking (share (only parent) asked)
+      taken e few =
+          let raised = raises_one lending parent (wrote (adopted (node_at lending parent.0) child kind) asked) (words_in asked) (omega (arith, size, within)) refl e (omega (arith, same e, few)) in
+          omega (arith, raised, same e)
+
+      silent : (e : ℕ) → length m.nodes ≤ e → share (only parent) asked e ≡ 0
+      silent e past = ap (λ b. cond b (words_in asked) 0) (ne_eqb parent.0 e (λ is. omega (arith, is, past, within)))
+
+  booted : parent.0 < length m.nodes → Counts boot (booted_lines m kind parent blocks ns) m.nodes (booted_nodes m kind parent blocks ns)
+  booted within = record {
+    gain = λ e. share (only child) birth e + share (only parent) asked e;
+    adds = adds_append boot birth asked (share (only child) birth) (share (only parent) asked)
+        (adds_by boot (only child) birth (by_birth boot child kind parent (take blocks (free_of m)) ns (node_at m.nodes parent.0).view.heard))
+        (adds_by boot (only parent) asked (subst (λ e. AreBy boot (only e) asked) (me within) (by_adopt boot (node_at m.nodes parent.0).view child)));
+    raises = booted_raises within;
+  }
+
+  counts_boot : Counts boot (lines_by m boot) m.nodes (acted m boot).nodes
+  counts_boot = by (ltb parent.0 (length m.nodes)) (is_full m) (is_short m blocks) refl
+    where
+      w : MachineView
+      w = record m { nodes = booted_nodes m kind parent blocks ns; pairs = m.pairs ++ record { parent = parent; up = fresh; down = fresh } ∷ [] }
+
+      by : (a b d : Bool) → ltb parent.0 (length m.nodes) ≡ a
+          → Counts boot (cond a (cond b (refusal causes.TooMany) (cond d (refusal causes.NoBlocks) (booted_lines m kind parent blocks ns))) (refusal causes.NoEnclave)) m.nodes (cond (not a) m (cond b m (cond d m w))).nodes
+      by false b d is = counts_none boot (refusal causes.NoEnclave) m.nodes (λ e. refl, tt)
+      by true true d is = counts_none boot (refusal causes.TooMany) m.nodes (λ e. refl, tt)
+      by true false true is = counts_none boot (refusal causes.NoBlocks) m.nodes (λ e. refl, tt)
+      by true false false is = booted (ltb-true parent.0 (length m.nodes) is)
+
+-- ---- calls of processes
+
+counts_start : (m : MachineView) (e : Enclave) (uid gid : ℕ) → (e.0 < length m.nodes → (node_at m.nodes e.0).view.me ≡ e) → Counts (commands.Proc e uid gid) (lines_by m (commands.Proc e uid gid)) m.nodes (acted m (commands.Proc e uid gid)).nodes
+counts_start m e uid gid me = by (ltb e.0 (length m.nodes)) (leb 1024 m.starts) refl
+  where
+    c : Command
+    c = commands.Proc e uid gid
+
+    ls : List Line
+    ls = start_lines (node_at m.nodes e.0).view uid gid
+
+    w : MachineView
+    w = record m { nodes = slice_set m.nodes e.0 (wrote (node_at m.nodes e.0) ls); starts = m.starts + 1 }
+
+    by : (a b : Bool) → ltb e.0 (length m.nodes) ≡ a → Counts c (cond a (cond b (refusal causes.TooMany) ls) (refusal causes.NoEnclave)) m.nodes (cond (not a) m (cond b m w)).nodes
+    by false b is = counts_none c (refusal causes.NoEnclave) m.nodes (λ e. refl, tt)
+    by true true is = counts_none c (refusal causes.TooMany) m.nodes (λ e. refl, tt)
+    by true false is =
+        let lt = ltb-true e.0 (length m.nodes) is in
+        counts_one c m.nodes e (wrote (node_at m.nodes e.0) ls) ls lt refl (λ k. ap (λ a. only a k) (me lt), tt)
+
+counts_alloc : (m : MachineView) (e : Enclave) (p : Pid) (page : Vpn) (count : ℕ) → (e.0 < length m.nodes → (node_at m.nodes e.0).view.me ≡ e)
+    → Counts (commands.Alloc e p page count) (lines_by m (commands.Alloc e p page count)) m.nodes (acted m (commands.Alloc e p page count)).nodes
+counts_alloc m e p page count me = by (ltb e.0 (length m.nodes)) refl
+  where
+    c : Command
+    c = commands.Alloc e p page count
+
+    v : View
+    v = (node_at m.nodes e.0).view
+
+    ls : List Line
+    ls = alloc_lines v p page count
+
+    by : (a : Bool) → ltb e.0 (length m.nodes) ≡ a → Counts c (cond a ls (refusal causes.NoEnclave)) m.nodes (cond a (with_node m e.0 (wrote (node_at m.nodes e.0) ls)) m).nodes
+    by false is = counts_none c (refusal causes.NoEnclave) m.nodes (λ e. refl, tt)
+    by true is =
+        let lt = ltb-true e.0 (length m.nodes) is in
+        counts_one c m.nodes e (wrote (node_at m.nodes e.0) ls) ls lt refl (subst (λ e. AreBy (commands.Alloc e p page count) (only e) ls) (me lt) (by_alloc v p page count))
+
+-- ---- deliveries
+
+module _ (m : MachineView) (x y : Enclave) (count : ℕ) (me : y.0 < length m.nodes → (node_at m.nodes y.0).view.me ≡ y) where
+  abbrev delivery : Command
+  delivery = commands.Deliver x y count
+
+  -- nothing goes to an enclave that isn't born
+  unborn_hop : ltb y.0 (length m.nodes) ≡ false → hop_in m x y ≡ hops.NoEnclave
+  unborn_hop is = rw is refl
+
+  counts_over : y.0 < length m.nodes → (hop : Hop) → Counts delivery (over_lines m x y count hop) m.nodes (over_machine m x y count hop).nodes
+  counts_over within hop = by (is_idle (link_of m.pairs hop))
+    where
+      n : ℕ
+      n = taken_by (link_of m.pairs hop) count
+
+      node : NodeView
+      node = node_at m.nodes y.0
+
+      piece : List ℕ
+      piece = take n (waiting_bytes (link_of m.pairs hop))
+
+      ls : List Line
+      ls = fed_lines node x piece
+
+      w : MachineView
+      w = record (with_node m y.0 (after_feed node x piece)) { pairs = with_link m.pairs hop (taken (link_of m.pairs hop) n) }
+
+      took : List Line
+      took = lines.Took x y n ∷ []
+
+      busy : Counts delivery (took ++ ls) m.nodes w.nodes
+      busy = record {
+        gain = λ e. share nobody took e + share (only y) ls e;
+        adds = adds_append delivery took ls (share nobody took) (share (only y) ls) (adds_by delivery nobody took (λ e. refl, tt))
+            (adds_by delivery (only y) ls (subst (λ e. AreBy delivery (only e) ls) (me within) (by_records delivery node.view x (fed node x piece).records)));
+        raises = λ e few. raises_one m.nodes y (after_feed node x piece) (words_in ls) within refl e (omega (arith, few)) ∙ omega arith;
+      }
+
+      by : (b : Bool) → Counts delivery (cond b (lines.Idle x y ∷ []) (lines.Took x y n ∷ ls)) m.nodes (cond b m w).nodes
+      by true = counts_none delivery (lines.Idle x y ∷ []) m.nodes (λ e. refl, tt)
+      by false = busy
+
+  counts_deliver : Counts delivery (lines_by m delivery) m.nodes (acted m delivery).nodes
+  counts_deliver = by (ltb y.0 (length m.nodes)) refl
+    where
+      at : (hop : Hop) → Type 0
+      at hop = Counts delivery (deliver_by m x y count hop) m.nodes (after_deliver m x y count hop).nodes
+
+      refused : (cause : Cause) → Counts delivery (refusal cause) m.nodes m.nodes
+      refused cause = counts_none delivery (refusal cause) m.nodes (λ e. refl, tt)
+
+      over : y.0 < length m.nodes → (hop : Hop) → at hop
+      over within hops.NoEnclave = refused causes.NoEnclave
+      over within hops.NoLink = refused causes.NoLink
+      over within (hops.Up i) = counts_over within (hops.Up i)
+      over within (hops.Down i) = counts_over within (hops.Down i)
+
+      by : (b : Bool) → ltb y.0 (length m.nodes) ≡ b → at (hop_in m x y)
+      by true is = over (ltb-true y.0 (length m.nodes) is) (hop_in m x y)
+      by false is = subst at (sym (unborn_hop is)) (refused causes.NoEnclave)
+
+-- ---- what is shown
+
+counts_still : (c : Command) → ((e : ℕ) (cause : Cause) → refuses e (Some c) cause ≡ false) → (ls : List Line) (nodes : List NodeView) → AreStill ls → Counts c ls nodes nodes
+counts_still c quiet ls nodes still = counts_none c ls nodes (by_still c quiet ls still)
+
+counts_touch : (m : MachineView) (e : Enclave) (p : Pid) (addr : ℕ) (want : Want) → Counts (commands.Touch e p addr want) (lines_by m (commands.Touch e p addr want)) m.nodes m.nodes
+counts_touch m e p addr want = counts_still (commands.Touch e p addr want) (λ e cause. refl) (lines_by m (commands.Touch e p addr want)) m.nodes
+    (cond_case (ltb e.0 (length m.nodes)) (touch_by m e p addr want) (refusal causes.NoEnclave) AreStill (still_answer e p (touch_answer (node_at m.nodes e.0).view p addr want)) (tt, tt))
+
+counts_show_link : (m : MachineView) (x y : Enclave) → Counts (commands.ShowLink x y) (lines_by m (commands.ShowLink x y)) m.nodes m.nodes
+counts_show_link m x y = counts_still (commands.ShowLink x y) (λ e cause. refl) (lines_by m (commands.ShowLink x y)) m.nodes (by (hop_in m x y))
+  where
+    by : (hop : Hop) → AreStill (shown_by m x y hop)
+    by hops.NoEnclave = (tt, tt)
+    by hops.NoLink = (tt, tt)
+    by (hops.Up i) = still_bytes x y _ 0 _
+    by (hops.Down i) = still_bytes x y _ 0 _
+
+counts_show_pool : (m : MachineView) → Counts commands.ShowPool (lines_by m commands.ShowPool) m.nodes m.nodes
+counts_show_pool m = counts_still commands.ShowPool (λ e cause. refl) (lines_by m commands.ShowPool) m.nodes
+    (cond_case (ltb 0 (length m.nodes)) (state_lines 0 (node_at m.nodes 0).view.host.states) (refusal causes.NoEnclave) AreStill (still_states 0 (node_at m.nodes 0).view.host.states) (tt, tt))
+
+-- ---- any command
+
+pub counted : (m : MachineView) (c : Command) → IsReady m → Stands m c → Counts c (lines_by m c) m.nodes (acted m c).nodes
+counted m (commands.Pool blocks) ready stands = counts_none (commands.Pool blocks) [] m.nodes tt
+counted m (commands.Host blocks ns) ready stands = counts_host m blocks ns stands.0
+counted m (commands.Boot kind parent blocks ns) ready stands = counts_boot m kind parent blocks ns (λ within. (ready.nodes parent.0 within).me)
+counted m (commands.Proc e uid gid) ready stands = counts_start m e uid gid (λ within. (ready.nodes e.0 within).me)
+counted m (commands.Alloc e p page count) ready stands = counts_alloc m e p page count (λ within. (ready.nodes e.0 within).me)
+counted m (commands.Touch e p addr want) ready stands = counts_touch m e p addr want
+counted m (commands.Deliver x y count) ready stands = counts_deliver m x y count (λ within. (ready.nodes y.0 within).me)
+counted m (commands.ShowLink x y) ready stands = counts_show_link m x y
+counted m commands.ShowPool ready stands = counts_show_pool m
+
+-- so what the nodes appended stays the words of their lines, as long as the journal is short
+pub counted_after : (m : MachineView) (c : Command) (journal : List Line) → IsReady m → Stands m c → ((e : ℕ) → count_at m.nodes e ≡ words_by e (onto journal [])) → words_in (journal ++ lines.Do c ∷ lines_by m c) ≤ most_words
+    → (e : ℕ) → count_at (acted m c).nodes e ≡ words_by e (onto (journal ++ lines.Do c ∷ lines_by m c) [])
+counted_after m c journal ready stands old short e =
+    let k = counted m c ready stands in
+    let all = ap (words_by e) (onto-append journal (lines.Do c ∷ lines_by m c) []) in
+    let words = k.adds.words (lines.Do c ∷ onto journal []) refl e in
+    let few = few_by e (journal ++ lines.Do c ∷ lines_by m c) [] in
+    let sum : count_at m.nodes e + k.gain e ≡ words_by e (onto (journal ++ lines.Do c ∷ lines_by m c) []) = omega (arith, old e, all, words) in
+    k.raises e (omega (arith, sum, few, short)) ∙ sum

@@ -1,0 +1,233 @@
+-- What is delivered by the facts is what the machine delivers.
+use Rattle.std.proofs.Common.{min, ◌≡◌, ◌≢◌, ◌+◌, ◌-◌, ◌<◌, ◌≤◌, ℕ, List, [], ◌∷◌, length, take, drop, Bool, true, false, cond, eqb, not, ◌&&◌, Option, None, Some, refl, sym, ap, ◌∙◌, subst, arith}
+use Rattle.std.specs.Prelude.{if◌then◌else◌}
+use Rattle.std.specs.Option.{option_map_or}
+use Rattle.std.proofs.lemmas.Bool.{eqb-true, eqb-false, ne_eqb, lt-ltb}
+use Rattle.std.proofs.lemmas.List.{length-set}
+use Rattle.xm_num.specs.declared.Enclave.{Enclave}
+use Rattle.xm_num.specs.declared.Cause.TheVariants as causes
+use Rattle.xm_num.specs.Rows.{at}
+use Rattle.xm_num.proofs.RowLemmas.{at_put}
+use Rattle.byte_link.specs.Channel.{Channel, taken, waiting_bytes}
+use Rattle.xemem_wire.specs.declared.format.Record.{Record}
+use Rattle.xemem_wire.specs.declared.format.Body.{Body}
+use Rattle.xemem_wire.specs.declared.format.Body.TheVariants as bodies
+use Rattle.xemem_wire.specs.Spelling.{spellings_of}
+use Rattle.xemem_wire.specs.Decoding.{Decoding, nothing_taken, after_piece}
+use Rattle.global_model.specs.declared.command.Command.{Command}
+use Rattle.global_model.specs.declared.command.Command.TheVariants as commands
+use Rattle.global_model.specs.declared.line.Line.{Line}
+use Rattle.global_model.specs.declared.line.Line.TheVariants as lines
+use Rattle.global_model.specs.Facts.{Facts, ChannelFact, with_taken, after_line, after_lines}
+use Rattle.global_model.specs.Channels.{whole_records, arriving}
+use Rattle.global_model.specs.View.{View, view_of, own_lines, seen_lines}
+use Rattle.global_model.specs.Steps.{host, refusal, knows_way, here_of, register_of, admit_of, is_for, is_stray, drop_lines, body_lines, record_lines, lines_of_records}
+use Rattle.global_model.specs.Refusals.{link_conditions, first_cause}
+use Rattle.global_model.specs.Due.{command_lines, got_lines, took_lines, deliver_lines}
+use Rattle.enclave_node.specs.Nodes.{NodeView, unborn_node, feed_at, fed, fed_lines, after_feed}
+use Rattle.node_world.specs.declared.pair.Hop.{Hop}
+use Rattle.node_world.specs.declared.pair.Hop.TheVariants as hops
+use Rattle.node_world.specs.Machine.{MachineView, node_at, pair_at, with_node, hop_in, link_of, with_link, taken_by, is_idle, deliver_by, after_deliver, lines_by, acted, with_carried, after_command}
+use Rattle.node_world.specs.Shown.{IsNodeOf, IsShown, enclave}
+use Rattle.node_world.specs.Laws.{WireLaws, ViewLaws}
+use Rattle.node_world.proofs.Lists.{cond_case, same_either, set_case}
+use Rattle.node_world.proofs.Channels.{waiting-length, link_taken, got_is, IsFed, feed_from, feed_fed}
+use Rattle.node_world.proofs.Carriage.{AreWithin, ArePlain, plain_append, feed_by, pair_here, pair_other, pair_case, over, with_link-parent, with_link-length, counted_lines}
+use Rattle.node_world.proofs.Acted.{IsActed, HasFeed, IsFedPair, shown_by, linked_of, fed_of}
+use Rattle.node_world.proofs.Stills.{IsStep, IsTied, AreStill, tied_still}
+use Rattle.node_world.proofs.Neighbours.{IsOver, cause_of, refused_is, over_up, over_down}
+
+-- ---- the lines of records are plain
+
+plain_body : (v : View) (from : Enclave) (r : Record) (body : Body) → ArePlain (body_lines v from r body)
+plain_body v from r bodies.Query = cond_case (knows_way v) (lines.Sent v.me from (here_of v.me) ∷ []) (drop_lines v) ArePlain (tt, tt) (tt, tt)
+plain_body v from r bodies.Here = cond_case (knows_way v) (drop_lines v) (lines.Way v.me from ∷ lines.Sent v.me from (register_of v.me) ∷ []) ArePlain (tt, tt) (tt, (tt, tt))
+plain_body v from r bodies.Register = cond_case v.holder (lines.Back v.me r.origin from ∷ lines.Route v.me r.origin from ∷ lines.Sent v.me from (admit_of v.me r.origin) ∷ []) (drop_lines v) ArePlain (tt, (tt, (tt, tt))) (tt, tt)
+plain_body v from r bodies.Admit = cond_case (is_for v r.dest && not v.admitted) (lines.Admitted v.me ∷ []) (drop_lines v) ArePlain (tt, tt) (tt, tt)
+plain_body v from r _ = (tt, tt)
+
+plain_records : (v : View) (from : Enclave) (rs : List Record) → ArePlain (lines_of_records v from rs)
+plain_records v from [] = tt
+plain_records v from (r ∷ rs) =
+    let own = lines.Got from v.me ∷ record_lines v from r in
+    plain_append own (lines_of_records (own_lines v own) from rs) (tt, cond_case (is_stray v r) (drop_lines v) (body_lines v from r r.body) ArePlain (tt, tt) (plain_body v from r r.body)) (plain_records (own_lines v own) from rs)
+
+-- ---- a delivery over a channel
+
+abbrev piece_of : MachineView → ℕ → Hop → List ℕ
+piece_of m count hop = take (taken_by (link_of m.pairs hop) count) (waiting_bytes (link_of m.pairs hop))
+
+abbrev busy_lines : MachineView → Enclave → Enclave → ℕ → Hop → List Line
+busy_lines m x y count hop = fed_lines (node_at m.nodes y.0) x (piece_of m count hop)
+
+abbrev pub over_lines : MachineView → Enclave → Enclave → ℕ → Hop → List Line
+over_lines m x y count hop = if is_idle (link_of m.pairs hop) then lines.Idle x y ∷ [] else lines.Took x y (taken_by (link_of m.pairs hop) count) ∷ busy_lines m x y count hop
+
+abbrev busy_machine : MachineView → Enclave → Enclave → ℕ → Hop → MachineView
+busy_machine m x y count hop =
+    record (with_node m y.0 (after_feed (node_at m.nodes y.0) x (piece_of m count hop))) { pairs = with_link m.pairs hop (taken (link_of m.pairs hop) (taken_by (link_of m.pairs hop) count)) }
+
+abbrev pub over_machine : MachineView → Enclave → Enclave → ℕ → Hop → MachineView
+over_machine m x y count hop = if is_idle (link_of m.pairs hop) then m else busy_machine m x y count hop
+
+module _ (wire : WireLaws) (views : ViewLaws) (G H : Facts) (m : MachineView) (x y : Enclave) (count : ℕ) (step : IsStep G H (commands.Deliver x y count)) (h : IsShown G m) (hop : Hop) (k : IsOver G m x y hop) where
+  abbrev link : Channel
+  link = link_of m.pairs hop
+
+  abbrev n : ℕ
+  n = taken_by link count
+
+  abbrev f : ChannelFact
+  f = G.channel x.0 y.0
+
+  abbrev node : NodeView
+  node = node_at m.nodes y.0
+
+  -- the decoder after the piece
+  abbrev d : Decoding
+  d = fed node x (piece_of m count hop)
+
+  fits : n ≤ length (waiting_bytes link)
+  fits = omega arith
+
+  is_fed : IsFed f.sent f.taken n d
+  is_fed =
+      let size = waiting-length f link k.link in
+      let feed : feed_at node.feeds x ≡ feed_from f.sent f.taken = ap (λ (o : Option Decoding). option_map_or (λ d. d) o nothing_taken) k.feed in
+      let piece : piece_of m count hop ≡ take n (drop f.taken (spellings_of f.sent)) = ap (take n) k.link.waiting in
+      let same : after_piece (feed_from f.sent f.taken) (take n (drop f.taken (spellings_of f.sent))) ≡ d = sym (ap (λ d. after_piece d (piece_of m count hop)) feed ∙ ap (after_piece (feed_from f.sent f.taken)) piece) in
+      subst (IsFed f.sent f.taken n) same (feed_fed wire f.sent f.taken n (step.before.flows x.0 y.0).valid (omega (arith, size, fits)))
+
+  -- the facts once the bytes are taken
+  abbrev T : Facts
+  T = after_line G (lines.Took x y n)
+
+  lines_are : deliver_lines G x y count ≡ over_lines m x y count hop
+  lines_are =
+      let taken_is : T.channel x.0 y.0 ≡ with_taken n f = pair_here x.0 y.0 (with_taken n) G.channel x.0 y.0 refl refl in
+      let come : arriving (T.channel x.0 y.0) ≡ d.records = ap arriving taken_is ∙ ap (λ got. drop got (whole_records (f.taken + n) f.sent)) (got_is f (step.before.flows x.0 y.0) (step.before.arrived x.0 y.0)) ∙ sym is_fed.came in
+      let living = (step.before.star.enclaves y.0).living ∙ lt-ltb y.0 G.born k.yours in
+      let view : view_of G y ≡ node.view = sym (h.nodes y.0 k.yours).view in
+      let got : got_lines T x y (arriving (T.channel x.0 y.0)) ≡ busy_lines m x y count hop = ap (got_lines T x y) come ∙ views.records T x y d.records living ∙ ap (λ v. lines_of_records v x d.records) view in
+      ap (λ bytes. cond (eqb (length bytes) 0) (lines.Idle x y ∷ []) (took_lines G x y (min count (length bytes)))) (sym k.link.waiting)
+      ∙ ap (λ ls. cond (is_idle link) (lines.Idle x y ∷ []) (lines.Took x y n ∷ ls)) got
+
+  -- the node after it, and what it writes
+  abbrev after : NodeView
+  after = after_feed node x (piece_of m count hop)
+
+  abbrev ls : List Line
+  ls = busy_lines m x y count hop
+
+  abbrev w : MachineView
+  w = busy_machine m x y count hop
+
+  inside : y.0 < length m.nodes
+  inside = let born = h.born in let yours = k.yours in omega (arith, born, yours)
+
+  node_after : command_lines G (commands.Deliver x y count) ≡ lines.Took x y n ∷ ls → H.born ≡ G.born → (e : ℕ) → e < G.born → IsNodeOf H e (node_at w.nodes e)
+  node_after is born e within =
+      let view : view_of H (enclave e) ≡ seen_lines (view_of G (enclave e)) (lines.Took x y n ∷ ls) = step.views e (omega (arith, born, within)) ∙ ap (seen_lines (view_of G (enclave e))) is in
+      let old = h.nodes e within in
+      set_case m.nodes y.0 e after (unborn_node 0 host []) (IsNodeOf H e) inside
+      (λ same.
+      let mine : (node_at m.nodes e).view ≡ node.view = ap (λ k. (node_at m.nodes k).view) same in
+      let here : view_of H (enclave e) ≡ own_lines node.view ls = view ∙ ap (λ v. seen_lines v (lines.Took x y n ∷ ls)) (sym old.view ∙ mine) ∙ ap (λ v. seen_lines v ls) (same_either (eqb y.0 node.view.me.0) node.view) ∙ views.own node.view x d.records in
+      record { view = sym here; going = (h.nodes y.0 k.yours).going })
+      (λ apart.
+      let other : e ≢ node.view.me.0 = λ same. apart (same ∙ ap (λ (v : View). v.me.0) (h.nodes y.0 k.yours).view) in
+      let there : view_of H (enclave e) ≡ view_of G (enclave e) = view ∙ ap (λ v. seen_lines v ls) (same_either (eqb y.0 e) (view_of G (enclave e))) ∙ views.others node.view (view_of G (enclave e)) x d.records other in
+      record { view = old.view ∙ sym there; going = old.going })
+
+  feed_after : (a b : ℕ) → HasFeed G.channel m.nodes a b → HasFeed T.channel w.nodes a b
+  feed_after a b old = set_case m.nodes y.0 b after (unborn_node 0 host []) (λ node. at node.feeds a ≡ Some (feed_by (T.channel a b))) inside
+      (λ same. by same (eqb x.0 a) refl)
+      (λ apart. old ∙ ap (λ f. Some (feed_by f)) (sym (pair_other x.0 y.0 (with_taken n) G.channel a b (λ one two. apart two))))
+    where
+      by : b ≡ y.0 → (t : Bool) → eqb x.0 a ≡ t → at after.feeds a ≡ Some (feed_by (T.channel a b))
+      by same true is =
+          let one : a ≡ x.0 = sym (eqb-true x.0 a is) in
+          at_put node.feeds x.0 a (record d { records = [] }) ∙ ap (λ b. cond b (Some (record d { records = [] })) (at node.feeds a)) is ∙ ap Some is_fed.feed ∙ ap (λ f. Some (feed_by f)) (sym (pair_here x.0 y.0 (with_taken n) G.channel a b one same))
+      by same false is =
+          let apart = eqb-false x.0 a is in
+          at_put node.feeds x.0 a (record d { records = [] }) ∙ ap (λ b. cond b (Some (record d { records = [] })) (at node.feeds a)) is ∙ ap (λ e. at (node_at m.nodes e).feeds a) (sym same) ∙ old
+          ∙ ap (λ f. Some (feed_by f)) (sym (pair_other x.0 y.0 (with_taken n) G.channel a b (λ one two. apart (sym one))))
+
+  stranger_after : (e c : ℕ) → G.born ≤ c → at (node_at w.nodes e).feeds c ≡ None
+  stranger_after e c far = set_case m.nodes y.0 e after (unborn_node 0 host []) (λ node. at node.feeds c ≡ None) inside
+      (λ same.
+      let mine = k.mine in
+      let apart : eqb x.0 c ≡ false = ne_eqb x.0 c (λ one. omega (arith, one, far, mine)) in
+      at_put node.feeds x.0 c (record d { records = [] }) ∙ ap (λ b. cond b (Some (record d { records = [] })) (at node.feeds c)) apart ∙ h.strangers y.0 c far)
+      (λ apart. h.strangers e c far)
+
+  within_after : AreWithin T.channel
+  within_after a b =
+      let size = waiting-length f link k.link in
+      pair_case (λ (g : ChannelFact). g.taken ≤ length (spellings_of g.sent)) x.0 y.0 (with_taken n) G.channel a b (omega (arith, size, fits)) (step.before.flows a b).taken
+
+  busy_acted : command_lines G (commands.Deliver x y count) ≡ lines.Took x y n ∷ ls → H.born ≡ G.born → IsActed T H w
+  busy_acted is born =
+      let count = h.pairs ∙ ap (λ k. k - 1) (sym h.born) in
+      record {
+        pool = h.pool;
+        starts = h.starts;
+        born = length-set m.nodes y.0 after ∙ h.born;
+        pairs = with_link-length m.pairs hop (taken link n) ∙ h.pairs;
+        nodes = node_after is born;
+        links = over G.enclave G.channel m.pairs (linked_of G m step.before h) (length m.nodes) x y (with_taken n) (taken link n) hop k.hop_is count (λ old. link_taken f link n fits old);
+        within = within_after;
+        feeds = pair_after;
+        strangers = stranger_after;
+      }
+    where
+      pair_after : (i : ℕ) → i < length w.pairs → IsFedPair T.channel w.nodes i (pair_at w.pairs i)
+      pair_after i within =
+          let size = with_link-length m.pairs hop (taken link n) in
+          let old = fed_of G m step.before h i (omega (arith, size, within)) in
+          let same : (pair_at m.pairs i).parent ≡ (pair_at w.pairs i).parent = sym (with_link-parent m.pairs hop (taken link n) i) in
+          record {
+            up = subst (λ (e : Enclave). HasFeed T.channel w.nodes (i + 1) e.0) same (feed_after (i + 1) (pair_at m.pairs i).parent.0 old.up);
+            down = subst (λ (e : Enclave). HasFeed T.channel w.nodes e.0 (i + 1)) same (feed_after (pair_at m.pairs i).parent.0 (i + 1) old.down);
+          }
+
+  -- so the delivery is tied, where the machine makes this of it
+  pub tied_over : command_lines G (commands.Deliver x y count) ≡ deliver_lines G x y count → lines_by m (commands.Deliver x y count) ≡ over_lines m x y count hop → acted m (commands.Deliver x y count) ≡ over_machine m x y count hop
+      → IsTied G H (commands.Deliver x y count) m
+  tied_over fine made machine = by (is_idle link) refl
+    where
+      all : command_lines G (commands.Deliver x y count) ≡ over_lines m x y count hop
+      all = fine ∙ lines_are
+
+      by : (b : Bool) → is_idle link ≡ b → IsTied G H (commands.Deliver x y count) m
+      by true is =
+          let idle : command_lines G (commands.Deliver x y count) ≡ lines.Idle x y ∷ [] = all ∙ ap (λ b. cond b (lines.Idle x y ∷ []) (lines.Took x y n ∷ ls)) is in
+          tied_still G H (commands.Deliver x y count) m step h refl (machine ∙ ap (λ b. cond b m w) is) (made ∙ sym all) (subst AreStill (sym idle) (tt, tt))
+      by false is =
+          let busy : command_lines G (commands.Deliver x y count) ≡ lines.Took x y n ∷ ls = all ∙ ap (λ b. cond b (lines.Idle x y ∷ []) (lines.Took x y n ∷ ls)) is in
+          let plain : ArePlain ls = plain_records node.view x d.records in
+          let facts : H ≡ after_lines T ls = step.after ∙ ap (after_lines G) busy in
+          let born : H.born ≡ G.born = ap (λ F. F.born) facts ∙ (counted_lines ls T plain).born in
+          let shown = shown_by T H ls w facts plain step.flowing (busy_acted busy born) in
+          let end : after_command m (commands.Deliver x y count) ≡ with_carried w ls = ap (λ n. with_carried n (lines_by m (commands.Deliver x y count))) (machine ∙ ap (λ b. cond b m w) is) ∙ ap (with_carried w) (made ∙ sym all ∙ busy) in
+          (made ∙ sym all, subst (IsShown H) (sym end) shown)
+
+-- ---- any delivery
+
+pub tied_deliver : WireLaws → ViewLaws → (G H : Facts) (m : MachineView) (x y : Enclave) (count : ℕ) → IsStep G H (commands.Deliver x y count) → IsShown G m → IsTied G H (commands.Deliver x y count) m
+tied_deliver wire views G H m x y count step h = by (hop_in m x y) refl
+  where
+    c : Command
+    c = commands.Deliver x y count
+
+    refused : (hop : Hop) → hop_in m x y ≡ hop → first_cause (link_conditions G x y) ≡ cause_of hop
+    refused hop is = refused_is G m step.before h x y ∙ ap cause_of is
+
+    still : (ls : List Line) → command_lines G c ≡ ls → AreStill ls → lines_by m c ≡ ls → acted m c ≡ m → IsTied G H c m
+    still ls is fixed made same = tied_still G H c m step h refl same (made ∙ sym is) (subst AreStill (sym is) fixed)
+
+    by : (hop : Hop) → hop_in m x y ≡ hop → IsTied G H c m
+    by hops.NoEnclave is = let cause = refused hops.NoEnclave is in still (refusal causes.NoEnclave) (rw cause refl) (tt, tt) (ap (deliver_by m x y count) is) (ap (after_deliver m x y count) is)
+    by hops.NoLink is = let cause = refused hops.NoLink is in still (refusal causes.NoLink) (rw cause refl) (tt, tt) (ap (deliver_by m x y count) is) (ap (after_deliver m x y count) is)
+    by (hops.Up i) is = let cause = refused (hops.Up i) is in tied_over wire views G H m x y count step h (hops.Up i) (over_up G m step.before h x y i is) (rw cause refl) (ap (deliver_by m x y count) is) (ap (after_deliver m x y count) is)
+    by (hops.Down i) is = let cause = refused (hops.Down i) is in tied_over wire views G H m x y count step h (hops.Down i) (over_down G m step.before h x y i is) (rw cause refl) (ap (deliver_by m x y count) is) (ap (after_deliver m x y count) is)

@@ -1,0 +1,202 @@
+-- Commands whose lines are all at one enclave: a process starts, and pages become own ones.
+use Rattle.std.proofs.Common.{◌≡◌, ◌+◌, ◌<◌, ℕ, List, [], ◌∷◌, length, take, Bool, true, false, cond, eqb, ltb, leb, Option, None, Some, refl, sym, ap, ◌∙◌, subst, arith}
+use Rattle.std.specs.Prelude.{slice_set}
+use Rattle.std.specs.Option.{option_map_or}
+use Rattle.std.proofs.lemmas.Bool.{ltb-true, eq-eqb, ne_eqb}
+use Rattle.std.proofs.lemmas.List.{length-set}
+use Rattle.xm_num.specs.declared.Enclave.{Enclave}
+use Rattle.xm_num.specs.declared.Pid.{Pid}
+use Rattle.xm_num.specs.declared.Vpn.{Vpn}
+use Rattle.xm_num.specs.declared.Frame.{Frame}
+use Rattle.xm_num.specs.declared.Cause.{Cause}
+use Rattle.xm_num.specs.declared.Cause.TheVariants as causes
+use Rattle.xm_num.specs.Rows.{at, any_between}
+use Rattle.xemem_wire.specs.Decoding.{Decoding}
+use Rattle.global_model.specs.declared.command.Command.{Command}
+use Rattle.global_model.specs.declared.command.Command.TheVariants as commands
+use Rattle.global_model.specs.declared.line.Line.{Line}
+use Rattle.global_model.specs.declared.line.Line.TheVariants as lines
+use Rattle.global_model.specs.Facts.{Facts, ProcessFact, after_lines}
+use Rattle.global_model.specs.View.{View, ProcessView, view_of, own_line, own_lines, seen_lines}
+use Rattle.global_model.specs.Steps.{refusal, start_lines, process_at, own_lines_of, alloc_lines}
+use Rattle.global_model.specs.Known.{at_born}
+use Rattle.global_model.specs.Due.{command_lines}
+use Rattle.enclave_node.specs.Nodes.{NodeView, unborn_node, wrote}
+use Rattle.node_world.specs.Machine.{MachineView, node_at, pair_at, at_node, lines_by, acted, with_carried, after_command}
+use Rattle.node_world.specs.Shown.{IsNodeOf, IsShown, enclave}
+use Rattle.node_world.proofs.Lists.{cond_case, same_either, set_case}
+use Rattle.node_world.proofs.Carriage.{ArePlain, counted_lines}
+use Rattle.node_world.proofs.Acted.{IsActed, shown_by, linked_of, within_of, fed_of}
+use Rattle.node_world.proofs.Stills.{IsStep, IsTied, AreStill, tied_still, at_is}
+
+-- ---- lines at one enclave
+
+-- the line is at that enclave, or changes no view
+abbrev pub IsAbout : ℕ → Line → Type 0
+IsAbout e (lines.Refused cause) = Unit {0}
+IsAbout e (lines.Told of dead) = of.0 ≡ e
+IsAbout e (lines.Admitted of) = of.0 ≡ e
+IsAbout e (lines.Proc of p uid gid) = of.0 ≡ e
+IsAbout e (lines.Alloc of p page frames) = of.0 ≡ e
+IsAbout e (lines.Sent x y r) = Unit {0}
+IsAbout e line = ⊥
+
+abbrev pub AreAbout : ℕ → List Line → Type 0
+AreAbout e [] = Unit {0}
+AreAbout e (line ∷ journal) = IsAbout e line × AreAbout e journal
+
+-- the enclave itself sees them as its own
+pub seen_own : (ls : List Line) (v : View) → AreAbout v.me.0 ls → seen_lines v ls ≡ own_lines v ls
+seen_own [] v about = refl
+seen_own (lines.Refused cause ∷ ls) v about = seen_own ls v about.1
+seen_own (lines.Told of dead ∷ ls) v about = let w = own_line v (lines.Told of dead) in ap (λ b. seen_lines (cond b w v) ls) (eq-eqb of.0 v.me.0 about.0) ∙ seen_own ls w about.1
+seen_own (lines.Admitted of ∷ ls) v about = let w = own_line v (lines.Admitted of) in ap (λ b. seen_lines (cond b w v) ls) (eq-eqb of.0 v.me.0 about.0) ∙ seen_own ls w about.1
+seen_own (lines.Proc of p uid gid ∷ ls) v about = let w = own_line v (lines.Proc of p uid gid) in ap (λ b. seen_lines (cond b w v) ls) (eq-eqb of.0 v.me.0 about.0) ∙ seen_own ls w about.1
+seen_own (lines.Alloc of p page frames ∷ ls) v about = let w = own_line v (lines.Alloc of p page frames) in ap (λ b. seen_lines (cond b w v) ls) (eq-eqb of.0 v.me.0 about.0) ∙ seen_own ls w about.1
+seen_own (lines.Sent x y r ∷ ls) v about = ap (λ w. seen_lines w ls) (same_either (eqb x.0 v.me.0) v) ∙ seen_own ls v about.1
+seen_own (_ ∷ ls) v about = absurd about.0
+
+-- and no other enclave sees them
+pub seen_other : (ls : List Line) (v : View) (e : ℕ) → (v.me.0 ≡ e → ⊥) → AreAbout e ls → seen_lines v ls ≡ v
+seen_other [] v e apart about = refl
+seen_other (lines.Refused cause ∷ ls) v e apart about = seen_other ls v e apart about.1
+seen_other (lines.Told of dead ∷ ls) v e apart about = ap (λ b. seen_lines (cond b (own_line v (lines.Told of dead)) v) ls) (ne_eqb of.0 v.me.0 (λ s. apart (sym s ∙ about.0))) ∙ seen_other ls v e apart about.1
+seen_other (lines.Admitted of ∷ ls) v e apart about = ap (λ b. seen_lines (cond b (own_line v (lines.Admitted of)) v) ls) (ne_eqb of.0 v.me.0 (λ s. apart (sym s ∙ about.0))) ∙ seen_other ls v e apart about.1
+seen_other (lines.Proc of p uid gid ∷ ls) v e apart about = ap (λ b. seen_lines (cond b (own_line v (lines.Proc of p uid gid)) v) ls) (ne_eqb of.0 v.me.0 (λ s. apart (sym s ∙ about.0))) ∙ seen_other ls v e apart about.1
+seen_other (lines.Alloc of p page frames ∷ ls) v e apart about = ap (λ b. seen_lines (cond b (own_line v (lines.Alloc of p page frames)) v) ls) (ne_eqb of.0 v.me.0 (λ s. apart (sym s ∙ about.0))) ∙ seen_other ls v e apart about.1
+seen_other (lines.Sent x y r ∷ ls) v e apart about = ap (λ w. seen_lines w ls) (same_either (eqb x.0 v.me.0) v) ∙ seen_other ls v e apart about.1
+seen_other (_ ∷ ls) v e apart about = absurd about.0
+
+-- ---- one node writes
+
+module _ (G H : Facts) (c : Command) (m : MachineView) (step : IsStep G H c) (h : IsShown G m) (e : Enclave) (lives : e.0 < G.born) where
+  -- the nodes once that of the enclave wrote the lines of the command
+  own_nodes : (ls : List Line) → command_lines G c ≡ ls → AreAbout e.0 ls → H.born ≡ G.born → (d : ℕ) → d < G.born → IsNodeOf H d (node_at (slice_set m.nodes e.0 (wrote (node_at m.nodes e.0) ls)) d)
+  own_nodes ls is about born d within =
+      let view : (k : ℕ) → k < G.born → view_of H (enclave k) ≡ seen_lines (view_of G (enclave k)) ls = λ k lt. step.views k (omega (arith, born, lt)) ∙ ap (seen_lines (view_of G (enclave k))) is in
+      let count = h.born in
+      let old = h.nodes e.0 lives in
+      let here : IsNodeOf H e.0 (wrote (node_at m.nodes e.0) ls) = record { view = ap (λ v. own_lines v ls) old.view ∙ sym (view e.0 lives ∙ seen_own ls (view_of G e) about); going = old.going } in
+      set_case m.nodes e.0 d (wrote (node_at m.nodes e.0) ls) (unborn_node 0 (record { 0 = 0 }) []) (IsNodeOf H d) (omega (arith, lives, count))
+      (λ same. subst (λ k. IsNodeOf H k (wrote (node_at m.nodes e.0) ls)) (sym same) here)
+      (λ apart. let k = h.nodes d within in record { view = k.view ∙ sym (view d within ∙ seen_other ls (view_of G (enclave d)) e.0 apart about); going = k.going })
+
+  -- and what their decoders have
+  own_feed : (n : NodeView) → n.feeds ≡ (node_at m.nodes e.0).feeds → (d a : ℕ) → at (node_at (slice_set m.nodes e.0 n) d).feeds a ≡ at (node_at m.nodes d).feeds a
+  own_feed n same d a = let count = h.born in
+      set_case m.nodes e.0 d n (unborn_node 0 (record { 0 = 0 }) []) (λ k. at k.feeds a ≡ at (node_at m.nodes d).feeds a) (omega (arith, lives, count))
+      (λ is. ap (λ (rows : List (ℕ × Decoding)). at rows a) same ∙ ap (λ k. at (node_at m.nodes k).feeds a) (sym is))
+      (λ apart. refl)
+
+  -- the machine shows the facts after that, where the processes are counted as by the facts
+  own_acted : (ls : List Line) → command_lines G c ≡ ls → AreAbout e.0 ls → H.born ≡ G.born → (count starts : ℕ) (started : ℕ → ℕ) (process : ℕ → ℕ → Option ProcessFact) → count ≡ starts
+      → IsActed (record G { starts = starts; started = started; process = process }) H (record m { nodes = slice_set m.nodes e.0 (wrote (node_at m.nodes e.0) ls); starts = count })
+  own_acted ls is about born count starts started process same = record {
+    pool = h.pool;
+    starts = same;
+    born = length-set m.nodes e.0 (wrote (node_at m.nodes e.0) ls) ∙ h.born;
+    pairs = h.pairs;
+    nodes = own_nodes ls is about born;
+    links = linked_of G m step.before h;
+    within = within_of G m step.before h;
+    feeds = λ i within. let k = fed_of G m step.before h i within in
+        let p = (pair_at m.pairs i).parent.0 in
+        record { up = own_feed (wrote (node_at m.nodes e.0) ls) refl p (i + 1) ∙ k.up; down = own_feed (wrote (node_at m.nodes e.0) ls) refl (i + 1) p ∙ k.down };
+    strangers = λ d a far. own_feed (wrote (node_at m.nodes e.0) ls) refl d a ∙ h.strangers d a far;
+  }
+
+-- ---- proc
+
+pub tied_proc : (G H : Facts) (m : MachineView) (e : Enclave) (uid gid : ℕ) → IsStep G H (commands.Proc e uid gid) → IsShown G m → IsTied G H (commands.Proc e uid gid) m
+tied_proc G H m e uid gid step h = by (ltb e.0 G.born) (leb 1024 G.starts) refl refl
+  where
+    c : Command
+    c = commands.Proc e uid gid
+
+    v : View
+    v = view_of G e
+
+    rule : command_lines G c ≡ at_born G.born e (cond (leb 1024 G.starts) (refusal causes.TooMany) (start_lines v uid gid))
+    rule = step.answered.proc e uid gid
+
+    ls : lines_by m c ≡ command_lines G c
+    ls = ap (λ n. at_node m e (cond (leb 1024 n) (refusal causes.TooMany) (start_lines (node_at m.nodes e.0).view uid gid))) h.starts
+        ∙ at_is G m h e (λ v. cond (leb 1024 G.starts) (refusal causes.TooMany) (start_lines v uid gid)) ∙ sym rule
+
+    born : (b : Bool) → ltb e.0 G.born ≡ b → ltb e.0 (length m.nodes) ≡ b
+    born b is = ap (ltb e.0) h.born ∙ is
+
+    many : (b : Bool) → leb 1024 G.starts ≡ b → leb 1024 m.starts ≡ b
+    many b is = ap (leb 1024) h.starts ∙ is
+
+    by : (a b : Bool) → ltb e.0 G.born ≡ a → leb 1024 G.starts ≡ b → IsTied G H c m
+    by false b one two =
+        let refused : command_lines G c ≡ refusal causes.NoEnclave = rule ∙ rw one refl in
+        let same : acted m c ≡ m = let lives = born false one in rw lives refl in
+        tied_still G H c m step h refl same ls (subst AreStill (sym refused) (tt, tt))
+    by true true one two =
+        let refused : command_lines G c ≡ refusal causes.TooMany = rule ∙ rw (one, two) refl in
+        let same : acted m c ≡ m = let lives = born true one in let full = many true two in rw (lives, full) refl in
+        tied_still G H c m step h refl same ls (subst AreStill (sym refused) (tt, tt))
+    by true false one two =
+        let started : command_lines G c ≡ start_lines v uid gid = rule ∙ rw (one, two) refl in
+        let lives = born true one in let full = many false two in
+        let node = h.nodes e.0 (ltb-true e.0 G.born one) in
+        let machine : acted m c ≡ record m { nodes = slice_set m.nodes e.0 (wrote (node_at m.nodes e.0) (start_lines v uid gid)); starts = m.starts + 1 } =
+        rw (lives, full, node.view) refl in
+        let K = after_lines G (start_lines v uid gid) in
+        let facts : H ≡ K = step.after ∙ ap (after_lines G) started in
+        let made = own_acted G H c m step h e (ltb-true e.0 G.born one) (start_lines v uid gid) started (refl, tt) (ap (λ F. F.born) facts) (m.starts + 1) K.starts K.started K.process (ap (λ n. n + 1) h.starts) in
+        let shown = shown_by K H [] (record m { nodes = slice_set m.nodes e.0 (wrote (node_at m.nodes e.0) (start_lines v uid gid)); starts = m.starts + 1 }) facts tt step.flowing made in
+        let after : after_command m c ≡ record m { nodes = slice_set m.nodes e.0 (wrote (node_at m.nodes e.0) (start_lines v uid gid)); starts = m.starts + 1 } =
+        ap (λ n. with_carried n (lines_by m c)) machine ∙ ap (with_carried (record m { nodes = slice_set m.nodes e.0 (wrote (node_at m.nodes e.0) (start_lines v uid gid)); starts = m.starts + 1 })) (ls ∙ started) in
+        (ls, subst (IsShown H) (sym after) shown)
+
+-- ---- alloc
+
+alloc_case : (v : View) (p : Pid) (page : Vpn) (count : ℕ) (P : List Line → Type 0) → ((cause : Cause) → P (refusal cause)) → ((frames : List Frame) → P (lines.Alloc v.me p page frames ∷ [])) → P (alloc_lines v p page count)
+alloc_case v p page count P refused made = by (process_at v p)
+  where
+    by : (found : Option ProcessView) → P (option_map_or (λ process. own_lines_of v p page count process.pages) found (refusal causes.NoProcess))
+    by None = refused causes.NoProcess
+    by (Some process) =
+        cond_case (ltb 16777216 (page.0 + count)) _ _ P (refused causes.BadRange)
+        (cond_case (any_between process.pages page.0 (page.0 + count)) _ _ P (refused causes.Taken) (cond_case (ltb (length v.free) count) _ _ P (refused causes.NoFrames) (made (take count v.free))))
+
+pub tied_alloc : (G H : Facts) (m : MachineView) (e : Enclave) (p : Pid) (page : Vpn) (count : ℕ) → IsStep G H (commands.Alloc e p page count) → IsShown G m → IsTied G H (commands.Alloc e p page count) m
+tied_alloc G H m e p page count step h = by (ltb e.0 G.born) refl
+  where
+    c : Command
+    c = commands.Alloc e p page count
+
+    own : List Line
+    own = alloc_lines (view_of G e) p page count
+
+    rule : command_lines G c ≡ at_born G.born e own
+    rule = step.answered.alloc e p page count
+
+    ls : lines_by m c ≡ command_lines G c
+    ls = at_is G m h e (λ v. alloc_lines v p page count) ∙ sym rule
+
+    born : (b : Bool) → ltb e.0 G.born ≡ b → ltb e.0 (length m.nodes) ≡ b
+    born b is = ap (ltb e.0) h.born ∙ is
+
+    by : (b : Bool) → ltb e.0 G.born ≡ b → IsTied G H c m
+    by false is =
+        let refused : command_lines G c ≡ refusal causes.NoEnclave = rule ∙ rw is refl in
+        let same : acted m c ≡ m = let lives = born false is in rw lives refl in
+        tied_still G H c m step h refl same ls (subst AreStill (sym refused) (tt, tt))
+    by true is =
+        let own_is : command_lines G c ≡ own = rule ∙ rw is refl in
+        let lives = born true is in
+        let node = h.nodes e.0 (ltb-true e.0 G.born is) in
+        let w : MachineView = record m { nodes = slice_set m.nodes e.0 (wrote (node_at m.nodes e.0) own) } in
+        let machine : acted m c ≡ w = rw (lives, node.view) refl in
+        let about : AreAbout e.0 own = alloc_case (view_of G e) p page count (AreAbout e.0) (λ cause. (tt, tt)) (λ frames. (refl, tt)) in
+        let plain : ArePlain own = alloc_case (view_of G e) p page count ArePlain (λ cause. (tt, tt)) (λ frames. (tt, tt)) in
+        let facts : H ≡ after_lines G own = step.after ∙ ap (after_lines G) own_is in
+        let none_born : H.born ≡ G.born = ap (λ F. F.born) facts ∙ (counted_lines own G plain).born in
+        let made = own_acted G H c m step h e (ltb-true e.0 G.born is) own own_is about none_born m.starts G.starts G.started G.process h.starts in
+        let shown = shown_by G H own w facts plain step.flowing made in
+        let after : after_command m c ≡ with_carried w own = ap (λ n. with_carried n (lines_by m c)) machine ∙ ap (with_carried w) (ls ∙ own_is) in
+        (ls, subst (IsShown H) (sym after) shown)

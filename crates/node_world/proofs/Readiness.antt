@@ -1,0 +1,81 @@
+-- A machine that shows facts is one that may take a step.
+use Rattle.std.proofs.Common.{◌≡◌, ◌+◌, ◌-◌, ◌<◌, ◌≤◌, ℕ, zero, suc, List, [], ◌∷◌, length, map, Bool, true, false, cond, Option, None, Some, refl, sym, ap, ◌∙◌, subst, inl, inr, arith}
+use Rattle.std.specs.Prelude.{◌⊎◌, IsSome, filter}
+use Rattle.std.specs.List.{range_with_len}
+use Rattle.std.specs.Option.{option_map_or}
+use Rattle.std.specs.Cmp.{unsigned_tied}
+use Rattle.std.specs.Ordering.{is_eq, nat_cmp}
+use Rattle.std.proofs.lemmas.Bool.{ne_eqb, cases_lt}
+use Rattle.std.proofs.lemmas.List.{length-map, get_or_past}
+use Rattle.std.proofs.lemmas.List.FromFn.{length-range_with_len}
+use Rattle.xm_num.specs.declared.Enclave.{Enclave}
+use Rattle.xm_num.specs.Rows.{at}
+use Rattle.xemem_wire.specs.Decoding.{Decoding, nothing_taken}
+use Rattle.global_model.specs.Facts.{Facts}
+use Rattle.global_model.specs.Channels.{is_child_of}
+use Rattle.global_model.specs.Flow.{IsFlowing}
+use Rattle.global_model.specs.View.{View, child_row, fact_of}
+use Rattle.global_model.specs.Steps.{host}
+use Rattle.enclave_node.specs.Nodes.{NodeView, unborn_node, feed_at}
+use Rattle.byte_link.specs.Channel.{Channel}
+use Rattle.node_world.specs.Links as links
+use Rattle.node_world.specs.Machine.{MachineView, node_at, pair_at}
+use Rattle.node_world.specs.Shown.{IsShown, enclave}
+use Rattle.node_world.specs.Ready.{IsPairReady, IsReady}
+use Rattle.node_world.proofs.Channels.{flowing_of}
+use Rattle.node_world.proofs.Births.{at_nil}
+
+-- the rows of children below a number have none at it
+below : (G : Facts) (t : ℕ → Bool) (c n a : ℕ) → a + n ≤ c → at (map (child_row G) (filter t (range_with_len a n))) c ≡ None
+unfolding at
+below G t c zero a most = refl
+below G t c (suc n) a most = by (below G t c n (a + 1) (omega (arith, most))) (t a)
+  where
+    by : at (map (child_row G) (filter t (range_with_len (a + 1) n))) c ≡ None → (b : Bool) → at (map (child_row G) (cond b (a ∷ filter t (range_with_len (a + 1) n)) (filter t (range_with_len (a + 1) n)))) c ≡ None
+    by more true = let test : is_eq (nat_cmp c a) ≡ false = unsigned_tied c a ∙ ne_eqb c a (λ same. omega (arith, same, most)) in ap (λ b. cond b (Some (fact_of (G.enclave a)).kind) (at (map (child_row G) (filter t (range_with_len (a + 1) n))) c)) test ∙ more
+    by more false = more
+
+open_feed : (link : Channel) (feeds : List (ℕ × Decoding)) (x : Enclave) (d : Decoding) → at feeds x.0 ≡ Some d → links.IsFlowing link d → links.IsFlowing link (feed_at feeds x) × IsSome (at feeds x.0)
+open_feed link feeds x d is flow = (subst (links.IsFlowing link) (sym (ap (λ (o : Option Decoding). option_map_or (λ d. d) o nothing_taken) is)) flow, subst IsSome (sym is) refl)
+
+module _ (G : Facts) (m : MachineView) (flowing : IsFlowing G) (h : IsShown G m) where
+  pair_ready : (i : ℕ) → i < length m.pairs → IsPairReady m (i + 1) (pair_at m.pairs i)
+  pair_ready i within =
+      let count = h.pairs in
+      let k = h.links i within in
+      let p = pair_at m.pairs i in
+      let up = open_feed p.up (node_at m.nodes p.parent.0).feeds (enclave (i + 1)) _ k.up_feed (flowing_of (G.channel (i + 1) p.parent.0) p.up _ k.up) in
+      let down = open_feed p.down (node_at m.nodes (i + 1)).feeds p.parent _ k.down_feed (flowing_of (G.channel p.parent.0 (i + 1)) p.down _ k.down) in
+      record {
+        above = k.above;
+        parent = ap (λ (v : View). v.parent) (h.nodes (i + 1) (omega (arith, count, within))).view ∙ sym k.parent;
+        up = up.0;
+        up_open = up.1;
+        down = down.0;
+        down_open = down.1;
+      }
+
+  -- no node has a child that isn't born
+  no_child : (e c : ℕ) → length m.nodes ≤ c → at (node_at m.nodes e).view.children c ≡ None
+  no_child e c far = by (cases_lt e (length m.nodes))
+    where
+      born : length m.nodes ≡ G.born
+      born = h.born
+
+      by : (e < length m.nodes) ⊎ (length m.nodes ≤ e) → at (node_at m.nodes e).view.children c ≡ None
+      by (inl within) = ap (λ (v : View). at v.children c) (h.nodes e (omega (arith, born, within))).view ∙ below G (λ c. is_child_of G c e) c G.born 0 (omega (arith, born, far))
+      by (inr past) = ap (λ (n : NodeView). at n.view.children c) (get_or_past m.nodes e (unborn_node 0 host []) past) ∙ at_nil c
+
+  pub ready_of : IsReady m
+  ready_of =
+      let born = h.born in let most = flowing.star.most in
+      let parents : length (map (λ e. (fact_of (G.enclave e)).parent) (range_with_len 0 G.born)) ≡ G.born = length-map (range_with_len 0 G.born) _ ∙ length-range_with_len 0 G.born in
+      record {
+        most = omega (arith, born, most);
+        pairs = h.pairs ∙ ap (λ n. n - 1) (sym h.born);
+        nodes = λ e within. let k = h.nodes e (omega (arith, born, within)) in record { me = ap (λ (v : View). v.me) k.view; going = k.going };
+        links = pair_ready;
+        recorded = λ some. ap (λ (v : View). length v.host.parents) (h.nodes 0 (omega (arith, born, some))).view ∙ parents ∙ sym h.born;
+        strangers = λ e c far. h.strangers e c (omega (arith, born, far));
+        unborn = no_child;
+      }

@@ -1,0 +1,144 @@
+-- A command by the facts is the one that the machine makes: those that change nothing.
+use Rattle.std.proofs.Common.{◌≡◌, ◌+◌, ◌<◌, ◌≤◌, ℕ, zero, suc, List, [], ◌∷◌, ◌++◌, length, drop, Bool, true, false, cond, ltb, Result, Ok, Err, refl, sym, ap, ◌∙◌, subst}
+use Rattle.std.proofs.lemmas.Bool.{ltb-true, lt-ltb}
+use Rattle.xm_num.specs.declared.Enclave.{Enclave}
+use Rattle.xm_num.specs.declared.Pid.{Pid}
+use Rattle.xm_num.specs.declared.Vpn.{Vpn}
+use Rattle.xm_num.specs.declared.Frame.{Frame}
+use Rattle.xm_num.specs.declared.Want.{Want}
+use Rattle.xm_num.specs.declared.Cause.{Cause}
+use Rattle.xm_num.specs.declared.Cause.TheVariants as causes
+use Rattle.global_model.specs.declared.command.Command.{Command}
+use Rattle.global_model.specs.declared.command.Command.TheVariants as commands
+use Rattle.global_model.specs.declared.line.Line.{Line}
+use Rattle.global_model.specs.declared.line.Line.TheVariants as lines
+use Rattle.global_model.specs.Facts.{Facts, BlockFact, Absent, Free, Lent, Held, facts_after, after_line, after_lines}
+use Rattle.global_model.specs.Flow.{IsFlowing}
+use Rattle.global_model.specs.View.{View, view_of, seen_lines}
+use Rattle.global_model.specs.Steps.{host, refusal, answer_lines, touch_answer, state_line, state_lines}
+use Rattle.global_model.specs.Known.{IsAnswered, at_born, unborn_view}
+use Rattle.global_model.specs.Due.{command_lines, step_lines, journal_of, bytes_lines}
+use Rattle.global_model.specs.Scenario.{IsPlaced, IsPlacedAfter}
+use Rattle.node_world.specs.declared.pair.Pair.{Pair}
+use Rattle.node_world.specs.Machine.{MachineView, node_at, at_node, lines_by, acted, carried, with_carried, after_command}
+use Rattle.node_world.specs.Shown.{IsShown, enclave}
+use Rattle.node_world.specs.Laws.{Laws}
+use Rattle.node_world.proofs.Lists.{cond_case}
+
+-- ---- a step by the facts
+
+-- the facts before and after a command, and the views of the enclaves that then live
+pub record IsStep (G H : Facts) (c : Command) : Type 0 where
+  pub after : H ≡ after_lines G (step_lines G c)
+  pub before : IsFlowing G
+  pub flowing : IsFlowing H
+  pub answered : IsAnswered G
+  pub views : (e : ℕ) → e < H.born → view_of H (enclave e) ≡ seen_lines (view_of G (enclave e)) (step_lines G c)
+  pub unborn : (e : Enclave) → G.born ≤ e.0 → view_of G e ≡ unborn_view G.pool e
+
+pub placed_before : (before : ℕ) (commands more : List Command) → IsPlacedAfter before (commands ++ more) → IsPlacedAfter before commands
+placed_before before [] more placed = tt
+placed_before before (c ∷ commands) more placed = (placed.0, placed.1, placed_before (before + 1) commands more placed.2)
+
+pub step_of : Laws → (commands : List Command) (c : Command) → IsPlaced (commands ++ c ∷ []) → IsStep (facts_after (journal_of commands)) (facts_after (journal_of (commands ++ c ∷ []))) c
+step_of laws commands c placed =
+    let G = facts_after (journal_of commands) in
+    let H = facts_after (journal_of (commands ++ c ∷ [])) in
+    let first = placed_before 0 commands (c ∷ []) placed in
+    let flowing = laws.flowing (commands ++ c ∷ []) placed in
+    record {
+      after = ap facts_after (laws.journal commands c) ∙ laws.facts (journal_of commands) (step_lines G c);
+      before = laws.flowing commands first;
+      flowing = flowing;
+      answered = laws.views.answered commands first;
+      views = λ e within. laws.views.seen commands c placed (enclave e) ((flowing.star.enclaves e).living ∙ lt-ltb e H.born within);
+      unborn = laws.views.unborn commands first;
+    }
+
+-- the machine's lines are those of the rules, and it shows the facts after them
+abbrev pub IsTied : Facts → Facts → Command → MachineView → Type 0
+IsTied G H c m = (lines_by m c ≡ command_lines G c) × IsShown H (after_command m c)
+
+-- ---- lines that change nothing
+
+abbrev pub IsStill : Line → Type 0
+IsStill (lines.Refused cause) = Unit {0}
+IsStill (lines.Touched e p page frame) = Unit {0}
+IsStill (lines.Idle x y) = Unit {0}
+IsStill (lines.Bytes x y at bytes) = Unit {0}
+IsStill (lines.BlockFree b) = Unit {0}
+IsStill (lines.BlockLent b e) = Unit {0}
+IsStill (lines.BlockHeld b e) = Unit {0}
+IsStill line = ⊥
+
+abbrev pub AreStill : List Line → Type 0
+AreStill [] = Unit {0}
+AreStill (line ∷ journal) = IsStill line × AreStill journal
+
+still_facts : (ls : List Line) (G : Facts) → AreStill ls → after_lines G ls ≡ G
+still_facts [] G still = refl
+still_facts (lines.Refused cause ∷ ls) G still = still_facts ls G still.1
+still_facts (lines.Touched e p page frame ∷ ls) G still = still_facts ls G still.1
+still_facts (lines.Idle x y ∷ ls) G still = still_facts ls G still.1
+still_facts (lines.Bytes x y at bytes ∷ ls) G still = still_facts ls G still.1
+still_facts (lines.BlockFree b ∷ ls) G still = still_facts ls G still.1
+still_facts (lines.BlockLent b e ∷ ls) G still = still_facts ls G still.1
+still_facts (lines.BlockHeld b e ∷ ls) G still = still_facts ls G still.1
+still_facts (_ ∷ ls) G still = absurd still.0
+
+still_carried : (ls : List Line) (born : ℕ) (pairs : List Pair) → AreStill ls → carried born pairs ls ≡ pairs
+still_carried [] born pairs still = refl
+still_carried (lines.Sent x y r ∷ ls) born pairs still = absurd still.0
+still_carried (_ ∷ ls) born pairs still = still_carried ls born pairs still.1
+
+-- a command that leaves the machine as it is
+pub tied_still : (G H : Facts) (c : Command) (m : MachineView) → IsStep G H c → IsShown G m → after_line G (lines.Do c) ≡ G → acted m c ≡ m → lines_by m c ≡ command_lines G c → AreStill (command_lines G c) → IsTied G H c m
+tied_still G H c m step h keeps same ls still =
+    let facts : H ≡ G = step.after ∙ ap (λ F. after_lines F (command_lines G c)) keeps ∙ still_facts (command_lines G c) G still in
+    let machine : after_command m c ≡ m = ap (λ n. with_carried n (lines_by m c)) same ∙ ap (with_carried m) ls ∙ ap (λ (pairs : List Pair). record m { pairs = pairs }) (still_carried (command_lines G c) (length m.nodes) m.pairs still) in
+    (ls, subst (λ F. IsShown F (after_command m c)) (sym facts) (subst (IsShown G) (sym machine) h))
+
+-- ---- lines at an enclave
+
+-- what is written at an enclave by its view is what the rules write there
+pub at_is : (G : Facts) (m : MachineView) → IsShown G m → (e : Enclave) (f : View → List Line) → at_node m e (f (node_at m.nodes e.0).view) ≡ at_born G.born e (f (view_of G e))
+at_is G m h e f = ap (λ n. cond (ltb e.0 n) (f (node_at m.nodes e.0).view) (refusal causes.NoEnclave)) h.born ∙ by (ltb e.0 G.born) refl
+  where
+    by : (b : Bool) → ltb e.0 G.born ≡ b → cond b (f (node_at m.nodes e.0).view) (refusal causes.NoEnclave) ≡ cond b (f (view_of G e)) (refusal causes.NoEnclave)
+    by true is = ap f (h.nodes e.0 (ltb-true e.0 G.born is)).view
+    by false is = refl
+
+pub still_answer : (e : Enclave) (p : Pid) (answer : Result (Vpn × Frame) Cause) → AreStill (answer_lines e p answer)
+still_answer e p (Ok found) = (tt, tt)
+still_answer e p (Err cause) = (tt, tt)
+
+pub tied_touch : (G H : Facts) (m : MachineView) (e : Enclave) (p : Pid) (addr : ℕ) (want : Want) → IsStep G H (commands.Touch e p addr want) → IsShown G m → IsTied G H (commands.Touch e p addr want) m
+tied_touch G H m e p addr want step h =
+    let rule = step.answered.touch e p addr want in
+    tied_still G H (commands.Touch e p addr want) m step h refl refl (at_is G m h e (λ v. answer_lines e p (touch_answer v p addr want)) ∙ sym rule)
+    (subst AreStill (sym rule) (cond_case (ltb e.0 G.born) _ (refusal causes.NoEnclave) AreStill (still_answer e p (touch_answer (view_of G e) p addr want)) (tt, tt)))
+
+still_append : (ls ms : List Line) → AreStill ls → AreStill ms → AreStill (ls ++ ms)
+still_append [] ms first more = more
+still_append (line ∷ ls) ms first more = (first.0, still_append ls ms first.1 more)
+
+still_state : (b : ℕ) (s : BlockFact) → AreStill (state_line b s)
+still_state b Absent = tt
+still_state b Free = (tt, tt)
+still_state b (Lent e) = (tt, tt)
+still_state b (Held e) = (tt, tt)
+
+pub still_states : (b : ℕ) (ss : List BlockFact) → AreStill (state_lines b ss)
+still_states b [] = tt
+still_states b (s ∷ ss) = still_append (state_line b s) (state_lines (b + 1) ss) (still_state b s) (still_states (b + 1) ss)
+
+pub tied_show_pool : (G H : Facts) (m : MachineView) → IsStep G H commands.ShowPool → IsShown G m → IsTied G H commands.ShowPool m
+tied_show_pool G H m step h =
+    let rule = step.answered.pool in
+    tied_still G H commands.ShowPool m step h refl refl (at_is G m h host (λ v. state_lines 0 v.host.states) ∙ sym rule)
+    (subst AreStill (sym rule) (cond_case (ltb 0 G.born) _ (refusal causes.NoEnclave) AreStill (still_states 0 (view_of G host).host.states) (tt, tt)))
+
+pub still_bytes : (x y : Enclave) (most at : ℕ) (bytes : List ℕ) → AreStill (bytes_lines x y most at bytes)
+still_bytes x y zero at bytes = tt
+still_bytes x y (suc most) at [] = tt
+still_bytes x y (suc most) at (byte ∷ bytes) = (tt, still_bytes x y most (at + 32) (drop 32 (byte ∷ bytes)))

@@ -1,0 +1,12 @@
+use Rattle.std.proofs.Common.{refl, arith}
+use Rattle.node_world.proofs.Steps.{start}
+use Rattle.node_world.proofs.Counts.{nothing}
+use Rattle.node_world.proofs.world.World.new.Goals as goal
+
+pub invariant_of-result : goal.invariant_of-result
+invariant_of-result c = rw (c.new.ensures, c.new-2.ensures) (record {
+  words = refl;
+  deliveries = refl;
+  most = omega arith;
+  history = λ going. record { placed = tt; told = refl; short = omega arith; shown = start; appended = nothing };
+})

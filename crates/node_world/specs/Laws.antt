@@ -1,0 +1,50 @@
+-- The laws on which the world rests, as the functions of the crates below ensure them.
+use Rattle.std.specs.Prelude.{◌≡◌, ◌≢◌, ◌<◌, ◌≤◌, ◌++◌, ◌∷◌, [], ℕ, List, Bool, length, take, None, true, nat_lt, if◌then◌else◌}
+use Rattle.std.specs.Option.{option_map}
+use Rattle.xm_num.specs.declared.Enclave.{Enclave}
+use Rattle.xm_num.specs.declared.Cause.TheVariants as causes
+use Rattle.xemem_wire.specs.declared.format.Record.{Record}
+use Rattle.xemem_wire.specs.Spelling.{spelling_of, spellings_of, is_valid, AreValid}
+use Rattle.xemem_wire.specs.Stream.{reading_of, onto, after_records, nothing_read, first_bad, moved}
+use Rattle.global_model.specs.declared.command.Command.{Command}
+use Rattle.global_model.specs.declared.command.Command.TheVariants as commands
+use Rattle.global_model.specs.declared.line.Line.{Line}
+use Rattle.global_model.specs.Facts.{Facts, facts_after, after_lines, is_living_enclave}
+use Rattle.global_model.specs.View.{View, view_of, own_lines, seen_lines}
+use Rattle.global_model.specs.Steps.{refusal, host_lines, first_blocks, lines_of_records}
+use Rattle.global_model.specs.Known.{IsAnswered, unborn_view}
+use Rattle.global_model.specs.Due.{got_lines, command_lines, journal_of, step_lines}
+use Rattle.global_model.specs.Flow.{IsFlowing}
+use Rattle.global_model.specs.History.{do_commands, IsCarried, IsLegal, IsTold, IsWhole}
+use Rattle.global_model.specs.Scenario.{IsPlaced}
+
+-- what a decoder makes of spellings
+pub record WireLaws : Type 0 where
+  pub first : (r : Record) (more : List ℕ) → is_valid r ≡ true → reading_of (spelling_of r ++ more) ≡ onto r (reading_of more)
+  pub bad : (rs : List Record) (more : List ℕ) → AreValid rs → first_bad (spellings_of rs ++ more) ≡ option_map (moved (length (spellings_of rs))) (first_bad more)
+  pub reading : (rs : List Record) (r : Record) (n : ℕ) → AreValid rs → is_valid r ≡ true → n < length (spelling_of r) → reading_of (spellings_of rs ++ take n (spelling_of r)) ≡ after_records rs (nothing_read (take n (spelling_of r)))
+  pub fine : (rs : List Record) (r : Record) (n : ℕ) → AreValid rs → is_valid r ≡ true → n < length (spelling_of r) → first_bad (spellings_of rs ++ take n (spelling_of r)) ≡ None
+
+-- what an enclave writes and keeps follows from its view
+pub record ViewLaws : Type 0 where
+  pub records : (G : Facts) (x y : Enclave) (rs : List Record) → is_living_enclave (G.enclave y.0) ≡ true → got_lines G x y rs ≡ lines_of_records (view_of G y) x rs
+  pub own : (v : View) (x : Enclave) (rs : List Record) → seen_lines v (lines_of_records v x rs) ≡ own_lines v (lines_of_records v x rs)
+  pub others : (v w : View) (x : Enclave) (rs : List Record) → w.me.0 ≢ v.me.0 → seen_lines w (lines_of_records v x rs) ≡ w
+  pub answered : (commands : List Command) → IsPlaced commands → IsAnswered (facts_after (journal_of commands))
+  pub host : (pool blocks : ℕ) (ns : Bool) → command_lines (facts_after (journal_of (commands.Pool pool ∷ []))) (commands.Host blocks ns) ≡ (if nat_lt pool blocks then refusal causes.NoBlocks else host_lines (first_blocks blocks) ns)
+  pub unborn : (commands : List Command) → IsPlaced commands → (e : Enclave) → (facts_after (journal_of commands)).born ≤ e.0 → view_of (facts_after (journal_of commands)) e ≡ unborn_view (facts_after (journal_of commands)).pool e
+  pub seen : (commands : List Command) (one : Command) → IsPlaced (commands ++ one ∷ []) → (e : Enclave) → is_living_enclave ((facts_after (journal_of (commands ++ one ∷ []))).enclave e.0) ≡ true
+      → view_of (facts_after (journal_of (commands ++ one ∷ []))) e ≡ seen_lines (view_of (facts_after (journal_of commands)) e) (step_lines (facts_after (journal_of commands)) one)
+
+-- the journal of commands
+pub record Laws : Type 0 where
+  pub told : (commands : List Command) → IsTold (journal_of commands)
+  pub whole : (commands : List Command) → IsWhole (journal_of commands)
+  pub commands : (commands : List Command) → do_commands (journal_of commands) ≡ commands
+  pub legal : (commands : List Command) → IsPlaced commands → IsLegal (journal_of commands)
+  pub carried : (commands : List Command) → IsPlaced commands → IsCarried (journal_of commands)
+  pub flowing : (commands : List Command) → IsPlaced commands → IsFlowing (facts_after (journal_of commands))
+  pub journal : (commands : List Command) (command : Command) → journal_of (commands ++ command ∷ []) ≡ journal_of commands ++ step_lines (facts_after (journal_of commands)) command
+  pub facts : (journal lines : List Line) → facts_after (journal ++ lines) ≡ after_lines (facts_after journal) lines
+  pub wire : WireLaws
+  pub views : ViewLaws

@@ -1,0 +1,7 @@
+pub mod Appended
+pub mod Links
+pub mod Machine
+pub mod Ready
+pub mod Shown
+pub mod World
+pub mod Laws

@@ -1,0 +1,46 @@
+-- The machine shows the facts of the journal so far.
+use Rattle.std.specs.Prelude.{◌≡◌, ◌+◌, ◌-◌, ◌<◌, ◌≤◌, ℕ, length, true, false, None, Some}
+use Rattle.xm_num.specs.declared.Enclave.{Enclave}
+use Rattle.xm_num.specs.Rows.{at}
+use Rattle.global_model.specs.Facts.{Facts}
+use Rattle.global_model.specs.Channels.{is_neighbour}
+use Rattle.global_model.specs.View.{view_of, fact_of}
+use Rattle.enclave_node.specs.Nodes.{NodeView}
+use Rattle.node_world.specs.declared.pair.Pair.{Pair}
+use Rattle.node_world.specs.Links.{IsChannel, feed_of}
+use Rattle.node_world.specs.Machine.{MachineView, node_at, pair_at}
+
+abbrev pub enclave : ℕ → Enclave
+enclave e = record { 0 = e }
+
+-- the node is seen as the view of its enclave, and hasn't failed
+pub record IsNodeOf (G : Facts) (e : ℕ) (node : NodeView) : Type 0 where
+  pub view : node.view ≡ view_of G (enclave e)
+  pub going : node.failed ≡ false
+
+-- the decoder of the node for the channel from x has what the facts say
+abbrev pub Feeds : Facts → ℕ → ℕ → NodeView → Type 0
+Feeds G x e node = at node.feeds x ≡ Some (feed_of (G.channel x e))
+
+-- the channels between child c and its parent
+pub record IsPairOf (G : Facts) (m : MachineView) (c : ℕ) (pair : Pair) : Type 0 where
+  pub parent : pair.parent ≡ (fact_of (G.enclave c)).parent
+  pub above : pair.parent.0 < c
+  pub up : IsChannel (G.channel c pair.parent.0) pair.up (feed_of (G.channel c pair.parent.0))
+  pub down : IsChannel (G.channel pair.parent.0 c) pair.down (feed_of (G.channel pair.parent.0 c))
+  pub up_feed : Feeds G c pair.parent.0 (node_at m.nodes pair.parent.0)
+  pub down_feed : Feeds G pair.parent.0 c (node_at m.nodes c)
+
+-- the nodes, the channels and what is counted show the facts
+pub record IsShown (G : Facts) (m : MachineView) : Type 0 where
+  pub pool : m.pool ≡ G.pool
+  pub starts : m.starts ≡ G.starts
+  pub born : length m.nodes ≡ G.born
+  pub pairs : length m.pairs ≡ G.born - 1
+  pub nodes : (e : ℕ) → e < G.born → IsNodeOf G e (node_at m.nodes e)
+  pub links : (i : ℕ) → i < length m.pairs → IsPairOf G m (i + 1) (pair_at m.pairs i)
+  pub strangers : (e c : ℕ) → G.born ≤ c → at (node_at m.nodes e).feeds c ≡ None
+
+-- the decoder of each channel to the node has what the facts say
+abbrev pub IsFedBy : Facts → ℕ → NodeView → Type 0
+IsFedBy G e node = (x : ℕ) → is_neighbour G x e ≡ true → Feeds G x e node

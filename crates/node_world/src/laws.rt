@@ -1,0 +1,23 @@
+// The laws on which the world rests.
+ghost use Rattle.node_world.specs.Laws.{Laws};
+
+use global_model::{
+    journals_are_carried, journals_are_legal, journals_grow, one_journal, view_step, views_answer,
+    views_follow,
+};
+use xemem_wire::laws::{cut_spelling, spellings_are_read};
+
+/// All of them at once.
+pub fn laws()
+    ensures { Laws }
+{
+    one_journal();
+    journals_grow();
+    journals_are_legal();
+    journals_are_carried();
+    view_step();
+    views_answer();
+    views_follow();
+    cut_spelling();
+    spellings_are_read();
+}

@@ -1,0 +1,16 @@
+//! The world of a scenario: its enclaves, the channels between them, and the journal of what they did.
+//!
+//! Each enclave decides from its own state and the bytes that reached it. The world gives commands to the enclaves that
+//! they name, carries bytes, and writes the journal.
+#![tactic(auto)]
+
+mod count;
+mod delivery;
+mod laws;
+mod machine;
+mod pair;
+#[cfg(test)]
+mod tests;
+mod world;
+
+pub use world::{Progress, Which, World, WorldFault};
