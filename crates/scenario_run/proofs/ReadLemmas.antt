@@ -57,7 +57,7 @@ boot_count_is count words ne = and_left _ _ (and_left _ _ (count_is (codes "boot
 long_is_none : (words : List (List ℕ)) → 8 ≤ length words → command_of words ≡ None
 unfolding command_of
 long_is_none words long =
-    rw (count_is (codes "pool") 2 words (λ e. omega arith), count_is (codes "host") 2 words (λ e. omega arith), count_is (codes "host") 3 words (λ e. omega arith), count_is (codes "proc") 4 words (λ e. omega arith), count_is (codes "alloc") 5 words (λ e. omega arith), count_is (codes "touch") 5 words (λ e. omega arith), boot_count_is 6 words (λ e. omega arith), boot_count_is 7 words (λ e. omega arith), count_is (codes "deliver") 4 words (λ e. omega arith), count_is (codes "show") 4 words (λ e. omega arith)) refl
+    rw (count_is (codes "pool") 2 words (λ e. omega arith), count_is (codes "host") 2 words (λ e. omega arith), count_is (codes "host") 3 words (λ e. omega arith), count_is (codes "proc") 4 words (λ e. omega arith), count_is (codes "alloc") 5 words (λ e. omega arith), count_is (codes "touch") 5 words (λ e. omega arith), boot_count_is 6 words (λ e. omega arith), boot_count_is 7 words (λ e. omega arith), count_is (codes "deliver") 4 words (λ e. omega arith), count_is (codes "show") 4 words (λ e. omega arith), count_is (codes "show") 2 words (λ e. omega arith)) refl
 
 -- the first eight words tell which command a line spells
 command_of-take : (words : List (List ℕ)) → command_of (take 8 words) ≡ command_of words

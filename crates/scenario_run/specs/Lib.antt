@@ -1,8 +1,3 @@
-pub mod Rows
-pub mod Channels
-pub mod Memory
-pub mod World
-pub mod Stage
 pub mod Laws
 pub mod Run
 pub mod Digits

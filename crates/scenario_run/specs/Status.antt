@@ -1,7 +1,7 @@
 -- The exit number and the text of a status.
 use Rattle.std.specs.Prelude.{ℕ, List, [], ◌++◌, codes, decimal}
-use Rattle.scenario_run.specs.declared.status.Which.{Which}
-use Rattle.scenario_run.specs.declared.status.Which.TheVariants as whiches
+use Rattle.node_world.specs.declared.world.Which.{Which}
+use Rattle.node_world.specs.declared.world.Which.TheVariants as whiches
 use Rattle.scenario_run.specs.declared.status.Status.{Status}
 use Rattle.scenario_run.specs.declared.status.Status.TheVariants as statuses
 
@@ -18,6 +18,7 @@ exit_number_of (statuses.Unbuilt line) = 8
 
 abbrev pub limit_word : Which → List ℕ
 limit_word whiches.Scenario = codes "Scenario"
+limit_word whiches.Words = codes "Words"
 
 abbrev pub text_of_status : Status → List ℕ
 text_of_status statuses.Ok = []

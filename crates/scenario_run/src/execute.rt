@@ -1,17 +1,18 @@
 // One command: its step, and its lines written.
-ghost use Rattle.std.specs.Prelude.{◌≡◌, ◌≤◌, ◌<◌, ◌∷◌, Err, OnOk, OnErr, IfErr, length};
+ghost use Rattle.std.specs.Prelude.{◌≡◌, ◌≤◌, ◌<◌, ◌++◌, ◌∷◌, [], true, Err, OnOk, OnErr, IfErr, length, drop};
 ghost use Rattle.std.specs.Io.KnownBytes.{Appends};
 ghost use Rattle.xm_edge.specs.Faults.{HasCause, Rose};
 ghost use Rattle.xm_edge.specs.Whole.{AppendsFront};
-ghost use Rattle.global_model.specs.declared.line.Line.TheVariants as lines;
+ghost use Rattle.global_model.specs.Scenario.{may_stand};
+ghost use Rattle.global_model.specs.Ranges.{IsInRange};
+ghost use Rattle.global_model.specs.History.{do_commands};
 ghost use Rattle.global_model.specs.Spelling.{text_of};
-ghost use Rattle.scenario_run.specs.World.{IsReady, CanStep, lines_by, after_step};
-ghost use Rattle.scenario_run.specs.Run.{FaultLeaves};
+ghost use Rattle.scenario_run.specs.Run.{IsGoing, Writes, FaultLeaves, LinesLeave};
 
+use crate::laws::laws;
 use crate::print::print_lines;
-use crate::world::World;
 use global_model::{Command, Lines};
-use std::alloc::Global;
+use node_world::{Which, World, WorldFault};
 use xm_edge::{Sink, WriteFailed, write_all};
 
 /// Why a command wasn't carried through.
@@ -21,6 +22,8 @@ pub enum Fault {
     Memory,
     /// A write failed.
     Write,
+    /// Its next line would pass a limit, which is this number. The lines before it were written.
+    Limit { which: Which, number: u32 },
 }
 
 // How many bytes the first line has with its line feed, or all of them where there is none.
@@ -52,33 +55,56 @@ fn write_lines<K: Sink>(sink: &mut K, text: &[u8]) -> Result<(), WriteFailed>
     Ok(())
 }
 
-/// Executes a command and writes its lines. They are printed into `text` first, whose bytes are lost.
-pub fn execute<K: Sink>(
-    alloc: Global,
-    world: &mut World,
-    command: &Command,
+// Writes the lines of a journal from that one on. They are printed into `text` first, whose bytes are lost.
+fn write_from<K: Sink>(
+    journal: &Lines,
+    from: usize,
     text: &mut Vec<u8>,
     sink: &mut K,
 ) -> Result<(), Fault>
-    requires can { CanStep world.old command.now }
-    requires ready { IsReady world.old }
-    ensures after { OnOk result (world.new ≡ after_step world.old command.now) }
-    ensures written { OnOk result (Appends (K.contents sink.old) (K.contents sink.new) (text_of (lines.Do command.now ∷ lines_by world.old command.now))) }
-    ensures failed { IfErr result (FaultLeaves (K.contents sink.old) (K.contents sink.new) (text_of (lines.Do command.now ∷ lines_by world.old command.now))) }
+    requires { from ≤ length journal.now }
+    ensures written { OnOk result (Appends (K.contents sink.old) (K.contents sink.new) (text_of (drop from journal.now))) }
+    ensures failed { IfErr result (LinesLeave (K.contents sink.old) (K.contents sink.new) (drop from journal.now)) }
     ensures later { K.faults sink.old ≤ K.faults sink.new }
     ensures kept { OnOk result (K.faults sink.new ≡ K.faults sink.old) }
     ensures write { result ≡ Err Fault.Write → Rose (K.faults sink.old) (K.faults sink.new) }
 {
-    let mut lines = Lines::new(alloc);
-    if world.step(alloc, command, &mut lines).is_err() {
-        return Err(Fault::Memory);
-    }
     text.clear();
-    if print_lines(lines.as_slice(), text).is_err() {
+    if print_lines(&journal.as_slice()[from..], text).is_err() {
         return Err(Fault::Memory);
     }
     if write_lines(sink, text).is_err() {
         return Err(Fault::Write);
     }
     Ok(())
+}
+
+/// Executes a command on a world and writes its lines. They are printed into `text` first, whose bytes are lost.
+pub fn execute<K: Sink>(
+    world: &mut World,
+    command: &Command,
+    text: &mut Vec<u8>,
+    sink: &mut K,
+) -> Result<(), Fault>
+    requires going { IsGoing world.old }
+    requires place { may_stand (length (do_commands world.old.journal)) command.now ≡ true }
+    requires range { IsInRange command.now }
+    ensures going { OnOk result (IsGoing world.new) }
+    ensures commands { OnOk result (do_commands world.new.journal ≡ do_commands world.old.journal ++ command.now ∷ []) }
+    ensures written { OnOk result (Writes (K.contents sink.old) (K.contents sink.new) world.old.journal world.new.journal) }
+    ensures failed { IfErr result (FaultLeaves (K.contents sink.old) (K.contents sink.new) world.old command.now world.new) }
+    ensures later { K.faults sink.old ≤ K.faults sink.new }
+    ensures kept { OnOk result (K.faults sink.new ≡ K.faults sink.old) }
+    ensures write { result ≡ Err Fault.Write → Rose (K.faults sink.old) (K.faults sink.new) }
+{
+    laws();
+    let before = world.journal().len();
+    match world.step(command) {
+        Ok(()) => write_from(world.journal(), before, text, sink),
+        Err(WorldFault::Limit { which, number }) => {
+            write_from(world.journal(), before, text, sink)?;
+            Err(Fault::Limit { which, number })
+        }
+        Err(WorldFault::Memory) => Err(Fault::Memory),
+    }
 }

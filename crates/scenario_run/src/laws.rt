@@ -3,9 +3,7 @@ ghost use Rattle.scenario_run.specs.Laws.{Laws};
 
 use global_model::{
     journals_are_carried, journals_are_legal, journals_grow, one_journal, scenarios_are_placed,
-    view_step,
 };
-use xemem_wire::laws::{cut_spelling, spellings_are_read};
 
 /// All of them at once.
 pub fn laws()
@@ -16,7 +14,4 @@ pub fn laws()
     journals_are_legal();
     journals_are_carried();
     scenarios_are_placed();
-    view_step();
-    cut_spelling();
-    spellings_are_read();
 }

@@ -1,26 +1,25 @@
 //! A scenario from bytes to the journal.
 #![tactic(auto)]
 
-mod channel;
-mod child;
 #[cfg(test)]
 mod child_tests;
 mod execute;
 mod laws;
+#[cfg(test)]
+mod limit_tests;
 mod main_call;
-mod memory;
-mod node;
-mod pages;
+#[cfg(test)]
+mod memory_tests;
+mod place;
 mod print;
 mod read;
 mod run;
-mod stage;
 mod status;
 #[cfg(test)]
 mod tests;
 #[cfg(test)]
 mod text_tests;
-mod world;
 
 pub use main_call::xemem_main;
-pub use status::{Status, Which, exit_number, status_text};
+pub use node_world::Which;
+pub use status::{Status, exit_number, status_text};

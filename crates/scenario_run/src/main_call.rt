@@ -3,10 +3,14 @@ ghost use Rattle.std.specs.Prelude.{◌≡◌, ◌≤◌, ◌↔◌, ◌⊎◌, 
 ghost use Rattle.std.specs.Io.KnownBytes.{Keeps};
 ghost use Rattle.xm_edge.specs.Faults.{Rose};
 ghost use Rattle.global_model.specs.Scenario.{scenario_of};
-ghost use Rattle.scenario_run.specs.Main.{most, AsksRun, WritesHistory, StopsUnbuilt, StopsWriting, StopsForMemory, StopsAtLimit, StopsReading};
+ghost use Rattle.global_model.specs.Spelling.{words_in};
+ghost use Rattle.global_model.specs.Due.{journal_of};
+ghost use Rattle.node_world.specs.World.{no_world, most_words};
+ghost use Rattle.scenario_run.specs.Main.{most, AsksRun, WritesHistory, StopsUnbuilt, StopsFull, StopsWriting, StopsForMemory, StopsAtLimit, StopsReading};
 
 use crate::run::run;
 use crate::{Status, Which};
+use node_world::World;
 use std::alloc::Global;
 use xm_edge::{ReadAllFault, Sink, Source, read_all};
 
@@ -20,45 +24,53 @@ fn asks_run(words: &Vec<String>) -> bool
     words.len() == 1 && words[0].as_str() == "run"
 }
 
-/// Carries out the words of the command line. `run` executes the scenario that the source gives, and writes its journal
-/// to the sink, each line with its line feed in one piece. All other words are `Usage`.
+/// Carries out the words of the command line on a world on which no step was made. `run` executes the scenario that the
+/// source gives, and writes its journal to the sink, each line with its line feed in one piece. All other words are
+/// `Usage`. The caller closes the world, whatever the status is.
 pub fn xemem_main<S: Source, K: Sink>(
     alloc: Global,
     words: &Vec<String>,
     source: &mut S,
     sink: &mut K,
+    world: &mut World,
 ) -> Status
+    requires fresh { world.old ≡ no_world }
+
     // The headline: for every scenario, the journal that is written is a lawful history.
     ensures headline { result ≡ Status.Ok
-        → WritesHistory (S.left source.old) (S.left source.new) (K.contents sink.old) (K.contents sink.new) }
+        → WritesHistory (S.left source.old) (S.left source.new) (K.contents sink.old) (K.contents sink.new) world.new }
 
-    // Usage comes exactly where the words ask for no run, and then nothing is read or written.
+    // Usage comes exactly where the words ask for no run, and then nothing is read, done or written.
     ensures usage { (result ≡ Status.Usage) ↔ (AsksRun words.now.items → ⊥) }
     ensures idle { result ≡ Status.Usage
-        → Keeps (S.left source.old) (S.left source.new) × Keeps (K.contents sink.old) (K.contents sink.new) }
+        → Keeps (S.left source.old) (S.left source.new) × Keeps (K.contents sink.old) (K.contents sink.new) × (world.new ≡ world.old) }
 
     // The first line that isn't built.
     ensures unbuilt { (line : ℕ) → result ≡ Status.Unbuilt line
-        → StopsUnbuilt line (S.left source.old) (S.left source.new) (K.contents sink.old) (K.contents sink.new) }
+        → StopsUnbuilt line (S.left source.old) (S.left source.new) (K.contents sink.old) (K.contents sink.new) world.new }
 
     // Too many bytes.
-    ensures limit { (which : _) (number : ℕ) → result ≡ Status.Limit which number
-        → (which ≡ Which.Scenario) × (number ≡ most) × StopsAtLimit (S.left source.old) (S.left source.new) (K.contents sink.old) (K.contents sink.new) }
+    ensures limit { (number : ℕ) → result ≡ Status.Limit Which.Scenario number
+        → (number ≡ most) × StopsAtLimit (S.left source.old) (S.left source.new) (K.contents sink.old) (K.contents sink.new) × (world.new ≡ world.old) }
+
+    // A line that would pass the most words.
+    ensures full { (number : ℕ) → result ≡ Status.Limit Which.Words number
+        → (number ≡ most_words) × StopsFull (S.left source.old) (S.left source.new) (K.contents sink.old) (K.contents sink.new) world.new }
 
     // A fault of reading or writing comes only where the count of that side rose, and no count falls.
     ensures read_fault { result ≡ Status.ReadFault
-        → Rose (S.faults source.old) (S.faults source.new) × StopsReading (S.left source.old) (S.left source.new) (K.contents sink.old) (K.contents sink.new) }
+        → Rose (S.faults source.old) (S.faults source.new) × StopsReading (S.left source.old) (S.left source.new) (K.contents sink.old) (K.contents sink.new) × (world.new ≡ world.old) }
     ensures write_fault { result ≡ Status.WriteFault
         → Rose (K.faults sink.old) (K.faults sink.new) × StopsWriting (S.left source.old) (S.left source.new) (K.contents sink.old) (K.contents sink.new) }
     ensures later { (S.faults source.old ≤ S.faults source.new) × (K.faults sink.old ≤ K.faults sink.new) }
 
     // Want of memory.
     ensures memory { result ≡ Status.Memory
-        → StopsForMemory (S.left source.old) (S.left source.new) (K.contents sink.old) (K.contents sink.new) }
+        → StopsForMemory (S.left source.old) (S.left source.new) (K.contents sink.old) (K.contents sink.new) world.old world.new }
 
     // Where nothing stands against it, the scenario is run to its end, but for want of memory.
     ensures complete { (bytes : List ℕ) → AsksRun words.now.items → S.left source.old ≡ Some bytes → length bytes ≤ most
-        → (scenario_of bytes).unbuilt ≡ None
+        → (scenario_of bytes).unbuilt ≡ None → words_in (journal_of (scenario_of bytes).commands) ≤ most_words
         → (Rose (S.faults source.old) (S.faults source.new) → ⊥) → (Rose (K.faults sink.old) (K.faults sink.new) → ⊥)
         → (result ≡ Status.Ok) ⊎ (result ≡ Status.Memory) }
 {
@@ -66,7 +78,7 @@ pub fn xemem_main<S: Source, K: Sink>(
         return Status::Usage;
     }
     match read_all(alloc, source, MOST) {
-        Ok(bytes) => run(alloc, &bytes, sink),
+        Ok(bytes) => run(alloc, &bytes, sink, world),
         Err(ReadAllFault::Read) => Status::ReadFault,
         Err(ReadAllFault::TooLong) => Status::Limit {
             which: Which::Scenario,

@@ -5,7 +5,7 @@ ghost use Rattle.xemem_wire.specs.Table.{destination_number};
 ghost use Rattle.global_model.specs.declared.command.Command.TheVariants as commands;
 ghost use Rattle.global_model.specs.declared.line.Line.TheVariants as lines;
 ghost use Rattle.global_model.specs.Spelling.{spaced, cause_word, kind_word, want_word, name_word, ns_word, hex_words, command_words, record_words, line_words, line_text, text_of};
-ghost use Rattle.scenario_run.specs.Text.{joined, is_of_channels};
+ghost use Rattle.scenario_run.specs.Text.{joined, is_of_channels, is_of_blocks};
 
 use global_model::{Command, Line};
 use itoa::Buffer;
@@ -329,6 +329,10 @@ fn command(out: &mut Vec<u8>, command: &Command) -> Result<(), AllocError>
         } => touch_words(out, *enclave, *pid, *addr, *want),
         Command::Deliver { from, to, count } => deliver_words(out, *from, *to, *count),
         Command::ShowLink { from, to } => show_link_words(out, *from, *to),
+        Command::ShowPool => {
+            word(out, b"show")?;
+            word(out, b"pool")
+        }
     }
 }
 
@@ -454,6 +458,10 @@ fn channel_fields(out: &mut Vec<u8>, line: &Line) -> Result<(), AllocError>
         }
         Line::Idle { from, to } => row(out, b"idle", &[*from, *to]),
         Line::Got { from, to } => row(out, b"got", &[*from, *to]),
+        Line::End { from, to, torn } => {
+            row(out, b"end", &[*from, *to])?;
+            number(out, u64::from(*torn))
+        }
         Line::Dropped { enclave } => row(out, b"drop", &[*enclave]),
         Line::Way { enclave, over } => row(out, b"way", &[*enclave, *over]),
         Line::Back { enclave, of, over } => row(out, b"back", &[*enclave, *of, *over]),
@@ -467,6 +475,36 @@ fn channel_fields(out: &mut Vec<u8>, line: &Line) -> Result<(), AllocError>
             row(out, b"bytes", &[*from, *to])?;
             number(out, u64::from(*at))?;
             hex_word(out, bytes.as_slice())
+        }
+        _ => unreachable!(),
+    }
+}
+
+// A block's number and this word for its state, with one space between.
+#[tactic(auto, using(std::proofs::lemmas::List::append_assoc))]
+fn state_fields(out: &mut Vec<u8>, block: Block, state: &[u8]) -> Result<(), AllocError>
+    ensures { OnOk result (out.new.items ≡ out.old.items ++ joined (codes "block" ∷ decimal block.0 ∷ state.now ∷ [])) }
+{
+    text(out, b"block")?;
+    number(out, u64::from(block.0))?;
+    word(out, state)
+}
+
+// The words of a block's state, with one space between.
+#[tactic(auto, using(std::proofs::lemmas::List::append_assoc))]
+fn block_fields(out: &mut Vec<u8>, line: &Line) -> Result<(), AllocError>
+    requires { is_of_blocks line.now ≡ true }
+    ensures { OnOk result (out.new.items ≡ out.old.items ++ joined (line_words line.now)) }
+{
+    match line {
+        Line::BlockFree { block } => state_fields(out, *block, b"free"),
+        Line::BlockLent { block, enclave } => {
+            state_fields(out, *block, b"lent")?;
+            number(out, u64::from(enclave.0))
+        }
+        Line::BlockHeld { block, enclave } => {
+            state_fields(out, *block, b"held")?;
+            number(out, u64::from(enclave.0))
         }
         _ => unreachable!(),
     }
@@ -493,6 +531,7 @@ fn fields(out: &mut Vec<u8>, line: &Line) -> Result<(), AllocError>
             ns,
             blocks,
         } => born_fields(out, *enclave, *kind, *parent, *ns, blocks.as_slice()),
+        Line::Told { enclave, of } => row(out, b"told", &[*enclave, *of]),
         Line::Proc {
             enclave,
             pid,
@@ -511,6 +550,9 @@ fn fields(out: &mut Vec<u8>, line: &Line) -> Result<(), AllocError>
             page,
             frame,
         } => touched_fields(out, *enclave, *pid, *page, *frame),
+        Line::BlockFree { .. } | Line::BlockLent { .. } | Line::BlockHeld { .. } => block_fields(
+            out, line,
+        ),
         _ => channel_fields(out, line),
     }
 }

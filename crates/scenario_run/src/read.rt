@@ -314,6 +314,8 @@ fn command(words: &[&[u8]]) -> Option<Command>
         deliver(words)
     } else if is_form(words, b"show", 4) && words[1] == b"link".as_slice() {
         show_link(words)
+    } else if is_form(words, b"show", 2) && words[1] == b"pool".as_slice() {
+        Some(Command::ShowPool)
     } else {
         None
     }

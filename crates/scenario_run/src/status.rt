@@ -3,14 +3,8 @@ ghost use Rattle.std.specs.Prelude.{◌≡◌, ◌++◌, OnOk, OnErr};
 ghost use Rattle.scenario_run.specs.Status.{exit_number_of, limit_word, text_of_status};
 
 use crate::print::{digits, text};
+use node_world::Which;
 use std::alloc::AllocError;
-
-/// Which limit a run met.
-#[derive(Clone, Copy, Debug, PartialEq, Eq)]
-pub enum Which {
-    /// The bytes of a scenario.
-    Scenario,
-}
 
 /// How a run ended.
 #[derive(Clone, Copy, Debug, PartialEq, Eq)]
@@ -51,6 +45,7 @@ fn limit_name(which: Which) -> &'static str
 {
     match which {
         Which::Scenario => "Scenario",
+        Which::Words => "Words",
     }
 }
 

@@ -1,9 +1,11 @@
 // Whole runs over ends in memory: what is written, and how the run ends.
 use super::*;
+use crate::print::print_lines;
+use node_world::World;
 use std::alloc::{AllocError, Global};
 use std::process::Abort;
 use std::test::Fail;
-use xm_edge::{MemSink, MemSource, Source};
+use xm_edge::{MemSink, MemSource, Sink, Source};
 
 const SMALLEST: &[u8] = b"pool 2\nhost 1 ns\nproc 0 100 100\nalloc 0 1 16 2\ntouch 0 1 69632 w\n";
 
@@ -42,6 +44,39 @@ pub fn words(alloc: Global, texts: &[&str]) -> Result<Vec<String>, AllocError> {
         words.push(String::from_str(alloc, text)?)?;
     }
     Ok(words)
+}
+
+// Carries out the words on a world of their own. Gives the status, and what the world's journal is then.
+pub fn carry_out<S: Source, K: Sink>(
+    alloc: Global,
+    list: &[&str],
+    source: &mut S,
+    sink: &mut K,
+) -> Result<(Status, Vec<u8>), AllocError> {
+    let words = words(alloc, list)?;
+    let mut text = Vec::new(alloc);
+    let mut world = World::new(alloc)?;
+    let status = xemem_main(alloc, &words, source, sink, &mut world);
+    let printed = print_lines(world.journal().as_slice(), &mut text);
+    world.close();
+    printed?;
+    Ok((status, text))
+}
+
+// The world's journal is what was written, unless a write failed.
+pub fn run_row(rt: &impl Abort, alloc: Global, row: &Row) -> Result<(), AllocError> {
+    let mut source = MemSource::new(
+        Vec::from_slice(alloc, row.scenario)?,
+        Vec::from_slice(alloc, row.failing_takes)?,
+    );
+    let mut sink = MemSink::new(alloc, 65536, Vec::from_slice(alloc, row.failing_puts)?)?;
+    let (status, journal) = carry_out(alloc, &["run"], &mut source, &mut sink)?;
+    assert_eq!(rt; status, row.status, "at {:?}", row.scenario);
+    assert_eq!(rt; sink.bytes(), row.journal);
+    if status != Status::WriteFault {
+        assert_eq!(rt; journal.as_slice(), row.journal);
+    }
+    Ok(())
 }
 
 #[test]
@@ -90,11 +125,18 @@ fn faults_and_limits(rt: HostRuntime) -> Result<(), Fail> {
         },
         plain_row(b"host 1 ns\n", Status::Unbuilt { line: 1 }, b""),
         plain_row(
-            b"# one\n\npool 2\nhost 3 ns\n",
+            b"# one\n\npool 2\nhost 1\n",
             Status::Unbuilt { line: 4 },
             first,
         ),
-        plain_row(b"pool 2\nhost 1\n", Status::Unbuilt { line: 2 }, first),
+        plain_row(b"pool 2\nproc 0 1 1\n", Status::Unbuilt { line: 2 }, first),
+        plain_row(b"pool 2\nshow pool\n", Status::Unbuilt { line: 2 }, first),
+        plain_row(b"show pool\n", Status::Unbuilt { line: 1 }, b""),
+        plain_row(
+            b"pool 2\nhost 3 ns\nhost 1 ns\n",
+            Status::Unbuilt { line: 3 },
+            b"do pool 2\ndo host 3 ns\nrefused NoBlocks\n",
+        ),
         plain_row(b"pool 2\npool 2\n", Status::Unbuilt { line: 2 }, first),
         plain_row(
             b"pool 2\nhost 1 ns now\n",
@@ -106,18 +148,6 @@ fn faults_and_limits(rt: HostRuntime) -> Result<(), Fail> {
     for row in &rows {
         run_row(&rt, rt.alloc(), row)?;
     }
-    Ok(())
-}
-
-pub fn run_row(rt: &impl Abort, alloc: Global, row: &Row) -> Result<(), AllocError> {
-    let mut source = MemSource::new(
-        Vec::from_slice(alloc, row.scenario)?,
-        Vec::from_slice(alloc, row.failing_takes)?,
-    );
-    let mut sink = MemSink::new(alloc, 4096, Vec::from_slice(alloc, row.failing_puts)?)?;
-    let status = xemem_main(alloc, &words(alloc, &["run"])?, &mut source, &mut sink);
-    assert_eq!(rt; status, row.status, "at {:?}", row.scenario);
-    assert_eq!(rt; sink.bytes(), row.journal);
     Ok(())
 }
 
@@ -140,11 +170,10 @@ fn the_longest_scenario(rt: HostRuntime) -> Result<(), Fail> {
     for (count, status) in [(4_194_304, Status::Ok), (4_194_305, limit)] {
         let mut source = MemSource::new(line_feeds(alloc, count)?, Vec::new(alloc));
         let mut sink = MemSink::new(alloc, 16, Vec::new(alloc))?;
-        assert_eq!(rt;
-            xemem_main(alloc, &words(alloc, &["run"])?, &mut source, &mut sink),
-            status
-        );
+        let (ended, journal) = carry_out(alloc, &["run"], &mut source, &mut sink)?;
+        assert_eq!(rt; ended, status);
         assert_eq!(rt; sink.bytes().len(), 0);
+        assert_eq!(rt; journal.len(), 0);
     }
     Ok(())
 }
@@ -165,11 +194,10 @@ fn other_words_are_usage(rt: HostRuntime) -> Result<(), Fail> {
     for list in lists {
         let mut source = MemSource::new(Vec::from_slice(alloc, SMALLEST)?, Vec::new(alloc));
         let mut sink = MemSink::new(alloc, 4096, Vec::new(alloc))?;
-        assert_eq!(rt;
-            xemem_main(alloc, &words(alloc, list)?, &mut source, &mut sink),
-            Status::Usage
-        );
+        let (status, journal) = carry_out(alloc, list, &mut source, &mut sink)?;
+        assert_eq!(rt; status, Status::Usage);
         assert_eq!(rt; sink.bytes().len(), 0);
+        assert_eq!(rt; journal.len(), 0);
         let mut left = [0u8; 4];
         assert_eq!(rt; source.take(&mut left), Ok(4));
         assert_eq!(rt; left, *b"pool");
@@ -182,10 +210,9 @@ fn a_sink_that_is_full(rt: HostRuntime) -> Result<(), Fail> {
     let alloc = rt.alloc();
     let mut source = MemSource::new(Vec::from_slice(alloc, SMALLEST)?, Vec::new(alloc));
     let mut sink = MemSink::new(alloc, 10, Vec::new(alloc))?;
-    assert_eq!(rt;
-        xemem_main(alloc, &words(alloc, &["run"])?, &mut source, &mut sink),
-        Status::WriteFault
-    );
+    let (status, journal) = carry_out(alloc, &["run"], &mut source, &mut sink)?;
+    assert_eq!(rt; status, Status::WriteFault);
     assert_eq!(rt; sink.bytes(), b"do pool 2\n".as_slice());
+    assert!(rt; journal.starts_with(sink.bytes()));
     Ok(())
 }

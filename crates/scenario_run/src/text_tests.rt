@@ -102,6 +102,8 @@ fn reads_each_form_within_its_ranges(rt: HostRuntime) {
         ("show link 0 0", show_link(0, 0)),
         ("show link 65534 65534", show_link(65_534, 65_534)),
         ("show link 1 2", show_link(1, 2)),
+        ("show pool", Reading::Command(Command::ShowPool)),
+        ("\tshow\t pool ", Reading::Command(Command::ShowPool)),
         (" \t pool\t\t 7 \t", pool(7)),
     ] {
         assert_eq!(rt; read_line(line.as_bytes()), reading, "of {line}");
@@ -165,6 +167,13 @@ fn takes_nothing_else_for_a_command(rt: HostRuntime) {
         "show links 0 0",
         "show link 0",
         "show link 0 0 0",
+        "show",
+        "show link",
+        "show pools",
+        "show Pool",
+        "show pool 0",
+        "pool show",
+        "shows pool",
         "pool 01",
         "pool 00",
         "proc 00 0 0",
@@ -355,7 +364,7 @@ fn sent(origin: u16, dest: Option<Enclave>, call: u32, body: Body) -> Line {
 }
 
 #[test]
-fn spells_each_command_of_channels(rt: HostRuntime) -> Result<(), AllocError> {
+fn spells_each_command_of_births_and_channels(rt: HostRuntime) -> Result<(), AllocError> {
     let (from, to) = (Enclave(65_534), Enclave(3));
     let commands = [
         Command::Boot {
@@ -376,12 +385,14 @@ fn spells_each_command_of_channels(rt: HostRuntime) -> Result<(), AllocError> {
             count: 4_294_967_295,
         },
         Command::ShowLink { from, to },
+        Command::ShowPool,
     ];
     let want = [
         ">do boot cokernel under 0 blocks 1\n",
         ">do boot vm under 65534 blocks 4096 ns\n",
         ">do deliver 65534 3 4294967295\n",
         ">do show link 65534 3\n",
+        ">do show pool\n",
     ];
     for (command, want) in commands.iter().zip(want.iter()) {
         let line = Line::Do { command: *command };
@@ -406,13 +417,41 @@ fn spells_each_line_of_channels(rt: HostRuntime) -> Result<(), AllocError> {
         },
         Line::Idle { from, to },
         Line::Got { from, to },
+        Line::End { from, to, torn: 0 },
+        Line::End {
+            from,
+            to,
+            torn: 4_294_967_295,
+        },
         Line::Dropped { enclave },
         Line::Way { enclave, over },
         Line::Back { enclave, of, over },
         Line::Route { enclave, of, over },
     ];
     let want =
-        ">sent 1 65534 query 1 65535 0\nsent 1 65534 here 65535 65535 0\nsent 1 65534 register 2 65535 0\nsent 1 65534 admit 0 2 4294967295\ntook 1 65534 4294967295\nidle 1 65534\ngot 1 65534\ndrop 2\nway 2 0\nback 2 255 0\nroute 2 255 0\n";
+        ">sent 1 65534 query 1 65535 0\nsent 1 65534 here 65535 65535 0\nsent 1 65534 register 2 65535 0\nsent 1 65534 admit 0 2 4294967295\ntook 1 65534 4294967295\nidle 1 65534\ngot 1 65534\nend 1 65534 0\nend 1 65534 4294967295\ndrop 2\nway 2 0\nback 2 255 0\nroute 2 255 0\n";
+    assert_eq!(rt; printed(rt.alloc(), &lines)?.as_slice(), want.as_bytes());
+    Ok(())
+}
+
+#[test]
+fn spells_each_line_of_the_pool_and_of_the_dead(rt: HostRuntime) -> Result<(), AllocError> {
+    let lines = [
+        Line::BlockFree { block: Block(4095) },
+        Line::BlockLent {
+            block: Block(0),
+            enclave: Enclave(65_534),
+        },
+        Line::BlockHeld {
+            block: Block(17),
+            enclave: Enclave(3),
+        },
+        Line::Told {
+            enclave: Enclave(65_534),
+            of: Enclave(1),
+        },
+    ];
+    let want = ">block 4095 free\nblock 0 lent 65534\nblock 17 held 3\ntold 65534 1\n";
     assert_eq!(rt; printed(rt.alloc(), &lines)?.as_slice(), want.as_bytes());
     Ok(())
 }
@@ -512,6 +551,14 @@ fn numbers_and_spells_each_status(rt: HostRuntime) -> Result<(), AllocError> {
             },
             5,
             ">limit Scenario 4194304",
+        ),
+        (
+            Status::Limit {
+                which: Which::Words,
+                number: 16_777_216,
+            },
+            5,
+            ">limit Words 16777216",
         ),
         (Status::Memory, 6, ">out of memory"),
         (

@@ -1,28 +1,34 @@
-use Rattle.std.proofs.Common.{◌∙◌, sym, arith}
+use Rattle.std.proofs.Common.{◌∙◌, Err, sym, ap, arith}
 use Rattle.std.proofs.lemmas.Bool.{eqb-true}
 use Rattle.std.proofs.lemmas.List.{nil_from_length}
 use Rattle.global_model.specs.Scenario.{line_command}
-use Rattle.scenario_run.proofs.RunLemmas.{next_step, said_nothing, said_something, said_no_word, so_far-comment, so_far-command, leaves_memory, leaves_unknown, leaves_early, leaves_ok, leaves_write}
+use Rattle.scenario_run.proofs.RunLemmas.{next_command, next_in_range, said_nothing, said_something, said_no_word, so_far-comment, so_far-command, leaves_unknown, leaves_early, leaves_ok, leaves_fault, was_write}
 use Rattle.scenario_run.proofs.run.run.Goals as goal
-use Rattle.scenario_run.proofs.run.run.Goals.{in-Comment, in-Command+in-Some+in-Ok}
-
-pub returns-in_default-clause-leaves : goal.returns-in_default-clause-leaves
-returns-in_default-clause-leaves g c =
-    let command = said_something (line_command c.first_line.result.0.now) c.in-Command.command c.in-Command.ensures in
-    leaves_early c.laws.ensures _ _ _ _ _ _ c.first_line.result.1.now _ _ _ c.loop-rest.invariant.so_far c.first_line.ensures.lines command (sym c.next_stage.ensures ∙ c.in_default.is)
+use Rattle.scenario_run.proofs.run.run.Goals.{in-Comment, in-Command+else-not-may_stand+in-Ok}
 
 pub returns-in-Unknown-clause-leaves : goal.returns-in-Unknown-clause-leaves
 returns-in-Unknown-clause-leaves g c =
     leaves_unknown c.laws.ensures _ _ _ _ _ _ c.first_line.result.1.now _ _ c.loop-rest.invariant.so_far c.first_line.ensures.lines (said_no_word _ c.in-Unknown.ensures)
 
-pub returns-in-Err-Memory-clause-leaves : goal.returns-in-Err-Memory-clause-leaves
-returns-in-Err-Memory-clause-leaves g c =
-    leaves_memory c.laws.ensures _ _ _ _ _ _ _ _ c.loop-rest.invariant.so_far (rw c.in-Err-Memory.field-0-is at c.in-Err-Memory.ensures.failed)
-
-pub returns-in-Err-Write-clause-leaves : goal.returns-in-Err-Write-clause-leaves
-returns-in-Err-Write-clause-leaves g c =
+pub returns-then-not-may_stand-clause-leaves : goal.returns-then-not-may_stand-clause-leaves
+returns-then-not-may_stand-clause-leaves g c =
     let command = said_something (line_command c.first_line.result.0.now) c.in-Command.command c.in-Command.ensures in
-    leaves_write c.laws.ensures _ _ _ _ _ _ _ c.first_line.result.1.now _ _ _ _ c.loop-rest.invariant.so_far c.first_line.ensures.lines command (sym c.next_stage.ensures ∙ c.in-Some.is) (rw c.in-Err-Write.field-0-is at c.in-Err-Write.ensures.failed)
+    leaves_early c.laws.ensures _ _ _ _ _ _ c.first_line.result.1.now _ _ _ c.loop-rest.invariant.so_far c.first_line.ensures.lines command (sym c.may_stand.ensures ∙ c.if-not-may_stand.true)
+
+pub execute-requires-clause-range : goal.execute-requires-clause-range
+execute-requires-clause-range g c =
+    let command = said_something (line_command c.first_line.result.0.now) c.in-Command.command c.in-Command.ensures in
+    next_in_range c.laws.ensures _ _ _ _ _ _ (next_command _ _ _ _ _ _ c.first_line.result.1.now _ _ _ c.loop-rest.invariant.so_far c.first_line.ensures.lines command (sym c.may_stand.ensures ∙ c.if-not-may_stand.false))
+
+pub returns-in-Err-clause-leaves : goal.returns-in-Err-clause-leaves
+returns-in-Err-clause-leaves g c =
+    let command = said_something (line_command c.first_line.result.0.now) c.in-Command.command c.in-Command.ensures in
+    let next = next_command _ _ _ _ _ _ c.first_line.result.1.now _ _ _ c.loop-rest.invariant.so_far c.first_line.ensures.lines command (sym c.may_stand.ensures ∙ c.if-not-may_stand.false) in
+    rw c.status_of.ensures (leaves_fault c.laws.ensures _ _ c.execute.new.world _ _ _ _ _ _ _ _ c.loop-rest.invariant.so_far next _ c.in-Err.ensures.failed)
+
+pub returns-in-Err-clause-write : goal.returns-in-Err-clause-write
+returns-in-Err-clause-write g c =
+    λ is. rw (← c.loop-rest.invariant.faults) (c.execute.ensures.write (c.in-Err.is ∙ ap Err (was_write c.in-Err.fault (sym c.status_of.ensures ∙ is))))
 
 pub returns-clause-leaves : goal.returns-clause-leaves
 returns-clause-leaves g c =
@@ -34,18 +40,18 @@ loop-rest-preserved g c =
     elim c.match-read_line.branch [
       | in-Comment w ↦
           record {
-            so_far = rw (w.sink-is, w.world-is, w.stage-is) (so_far-comment _ _ _ _ _ _ after _ _ c.loop-rest.invariant.so_far c.first_line.ensures.lines (said_nothing _ w.in-Comment.ensures));
+            so_far = rw (w.sink-is, w.world-is, w.before-is) (so_far-comment _ _ _ _ _ _ after _ _ c.loop-rest.invariant.so_far c.first_line.ensures.lines (said_nothing _ w.in-Comment.ensures));
             count = omega (arith, c.first_line.ensures.shorter, c.loop-rest.invariant.count);
+            before = omega (arith, w.before-is, c.loop-rest.invariant.before);
             faults = rw w.sink-is c.loop-rest.invariant.faults;
           }
-      | in-Command+in-Some+in-Ok w ↦
+      | in-Command+else-not-may_stand+in-Ok w ↦
           let command = said_something (line_command c.first_line.result.0.now) w.in-Command.command w.in-Command.ensures in
+          let next = next_command _ _ _ _ _ _ after _ _ _ c.loop-rest.invariant.so_far c.first_line.ensures.lines command (sym w.may_stand.ensures ∙ w.if-not-may_stand.false) in
           record {
-            so_far = rw (w.sink-is, w.world-is, w.stage-is, w.in-Ok.ensures.after) (so_far-command c.laws.ensures _ _ _ _ _ _ _ after _ _ _ _ c.loop-rest.invariant.so_far c.first_line.ensures.lines command (sym w.next_stage.ensures ∙ w.in-Some.is) w.in-Ok.ensures.written);
+            so_far = rw (w.sink-is, w.world-is, w.before-is) (so_far-command _ _ _ _ _ _ _ _ _ _ _ c.loop-rest.invariant.so_far next w.in-Ok.ensures.going w.in-Ok.ensures.commands w.in-Ok.ensures.written);
             count = omega (arith, c.first_line.ensures.shorter, c.loop-rest.invariant.count);
+            before = omega (arith, w.before-is, c.loop-rest.invariant.before);
             faults = rw w.sink-is (w.in-Ok.ensures.kept ∙ c.loop-rest.invariant.faults);
           }
     ]
-
-pub execute-requires-clause-ready : goal.execute-requires-clause-ready
-execute-requires-clause-ready g c = (next_step c.laws.ensures _ _ _ _ _ _ _ _ _ c.loop-rest.invariant.so_far (sym c.next_stage.ensures ∙ c.in-Some.is)).1
