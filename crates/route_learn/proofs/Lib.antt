@@ -1,0 +1,3 @@
+pub mod AskerLemmas
+pub mod FirstLemmas
+pub mod PastLemmas

@@ -1,0 +1,14 @@
+use Rattle.route_learn.proofs.PastLemmas.{Laws, filters}
+use Rattle.route_learn.proofs.laws.routes_are_filters.Goals as goal
+
+pub returns : goal.returns
+returns c =
+    let law = c.rows.ensures in
+    let laws : Laws = record { put_at = law.put; less_at = law.less; put_ascends = law.put_ascends; less_ascends = law.less_ascends } in
+    record {
+      way = λ holder events. (filters laws holder events).way;
+      back = λ holder events d. (filters laws holder events).back d;
+      routes = λ holder events d. (filters laws holder events).routes d;
+      askers = λ holder events n. (filters laws holder events).askers n;
+      ascending = λ holder events. (filters laws holder events).ascending;
+    }

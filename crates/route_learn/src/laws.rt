@@ -1,0 +1,37 @@
+// Laws of what is learned of ways, for the crates above.
+ghost use Rattle.std.specs.Prelude.{◌≡◌, ℕ, List, reverse, length, Bool, false, MatchOption};
+ghost use Rattle.xm_num.specs.declared.Neighbour.{Neighbour as Neighbours};
+ghost use Rattle.xm_num.specs.Rows.{at};
+ghost use Rattle.route_learn.specs.Routes.{RouteView, AreAscending, no_routes, place_of, first_asker};
+ghost use Rattle.route_learn.specs.Filters.{Event, after_event, after_events, without_askers, way_of, back_of, route_of, is_asker, asker_of, IsFirstAsker};
+ghost use Rattle.route_learn.specs.Filters.Event.{AskersTaken};
+
+use xm_num::Neighbour;
+use xm_num::laws::{rows, runs};
+
+/// What is known of ways is the filters of the calls that were made, the newest first: the way to the name server, each
+/// way back, each route and each asker. The tables ascend.
+pub fn routes_are_filters()
+    ensures way { (holder : Bool) (events : List Event) → (after_events (no_routes holder) events).way ≡ way_of holder (reverse events) }
+    ensures back { (holder : Bool) (events : List Event) (d : ℕ)
+        → at (after_events (no_routes holder) events).back d ≡ back_of d (reverse events) }
+    ensures routes { (holder : Bool) (events : List Event) (d : ℕ)
+        → at (after_events (no_routes holder) events).routes d ≡ route_of d (reverse events) }
+    ensures askers { (holder : Bool) (events : List Event) (n : Neighbours)
+        → at (after_events (no_routes holder) events).askers (place_of n) ≡ asker_of holder n (reverse events) }
+    ensures ascending { (holder : Bool) (events : List Event) → AreAscending (after_events (no_routes holder) events) }
+{
+    rows::<Neighbour>();
+}
+
+/// The first asker is the one of those that ask that has the lowest place. Taking the first one until there is none is
+/// one event.
+pub fn askers_are_taken()
+    ensures first { (holder : Bool) (events : List Event)
+        → MatchOption (first_asker (after_events (no_routes holder) events))
+        ((n : Neighbours) → is_asker holder n (reverse events) ≡ false) (λ n. IsFirstAsker holder (reverse events) n) }
+    ensures all { (v : RouteView) → without_askers (length v.askers) v ≡ after_event v AskersTaken }
+{
+    rows::<Neighbour>();
+    runs::<Neighbour>();
+}

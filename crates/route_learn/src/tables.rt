@@ -1,0 +1,131 @@
+// Neighbours by number, as rows.
+ghost use Rattle.std.specs.Prelude.{◌≡◌, [], drop, slice_get, option_map, IfSome, OnOk, OnErr, Some};
+ghost use Rattle.xm_num.specs.Rows as rows;
+ghost use Rattle.route_learn.specs.Routes.{place_of};
+
+use std::alloc::{AllocError, Global};
+use std::collections::BTreeMap;
+use std::marker::Model;
+use xm_num::{Enclave, Neighbour};
+
+// The place of a neighbour among those that asked: Up first, then the children by their numbers.
+fn place(of: Neighbour) -> u32
+    ensures { result ≡ place_of of }
+{
+    match of {
+        Neighbour::Up => 0,
+        Neighbour::Down(child) => u32::from(child.0) + 1,
+    }
+}
+
+// Neighbours by their places.
+#[derive(Drop)]
+pub struct Askers {
+    rows: BTreeMap<u32, Neighbour>,
+}
+
+impl Model for Askers {
+    ghost use Rattle.std.specs.Prelude.{ℕ, List};
+    ghost use Rattle.xm_num.specs.declared.Neighbour.{Neighbour};
+
+    ghost Value = { List (ℕ × Neighbour) };
+
+    ghost view = { λ a. a.rows.entries };
+}
+
+#[tactic(auto, unfolding(xm_num::specs::Rows::put, xm_num::specs::Rows::less))]
+impl Askers {
+    // No neighbour asked.
+    pub fn new(alloc: Global) -> Askers
+        ensures { result ≡ [] }
+    {
+        Askers {
+            rows: BTreeMap::new(alloc),
+        }
+    }
+
+    // Adds a neighbour. For want of memory they stay as they were.
+    pub fn insert(&mut self, by: Neighbour) -> Result<(), AllocError>
+        ensures ok { OnOk result (self.new ≡ rows.put self.old (place_of by) by) }
+        ensures err { OnErr result (self.new ≡ self.old) }
+    {
+        self.rows.insert(place(by), by)?;
+        Ok(())
+    }
+
+    // Takes a neighbour out.
+    pub fn remove(&mut self, by: Neighbour)
+        ensures { self.new ≡ rows.less self.old (place_of by) }
+    {
+        let _ = self.rows.remove(&place(by));
+    }
+
+    // Takes the first neighbour out.
+    pub fn take_first(&mut self) -> Option<Neighbour>
+        ensures first { result ≡ option_map (λ row. row.1) (slice_get self.old 0) }
+        ensures left { self.new ≡ drop 1 self.old }
+    {
+        let (_, asker) = self.rows.pop_first()?;
+        Some(asker)
+    }
+}
+
+// The neighbour over which each enclave lies, by the enclaves' numbers.
+#[derive(Drop)]
+pub struct Ways {
+    rows: BTreeMap<u16, Neighbour>,
+}
+
+impl Model for Ways {
+    ghost use Rattle.std.specs.Prelude.{ℕ, List};
+    ghost use Rattle.xm_num.specs.declared.Neighbour.{Neighbour};
+
+    ghost Value = { List (ℕ × Neighbour) };
+
+    ghost view = { λ w. w.rows.entries };
+}
+
+#[tactic(auto, unfolding(xm_num::specs::Rows::at, xm_num::specs::Rows::put, xm_num::specs::Rows::less))]
+impl Ways {
+    // No enclave has a way.
+    pub fn new(alloc: Global) -> Ways
+        ensures { result ≡ [] }
+    {
+        Ways {
+            rows: BTreeMap::new(alloc),
+        }
+    }
+
+    // The way to an enclave.
+    pub fn get(&self, of: Enclave) -> Option<Neighbour>
+        ensures { result ≡ rows.at self.now of.0 }
+    {
+        self.rows.get(&of.0).copied()
+    }
+
+    // Lays the way to an enclave. For want of memory the ways stay as they were.
+    pub fn insert(&mut self, of: Enclave, over: Neighbour) -> Result<(), AllocError>
+        ensures ok { OnOk result (self.new ≡ rows.put self.old of.0 over) }
+        ensures err { OnErr result (self.new ≡ self.old) }
+    {
+        self.rows.insert(of.0, over)?;
+        Ok(())
+    }
+
+    // Drops the way to an enclave.
+    pub fn remove(&mut self, of: Enclave)
+        ensures { self.new ≡ rows.less self.old of.0 }
+    {
+        let _ = self.rows.remove(&of.0);
+    }
+
+    // The least enclave from that number on that has a way, and its way.
+    pub fn next_from(&self, low: u16) -> Option<(Enclave, Neighbour)>
+        ensures next { option_map (λ way. way.0.0) result ≡ rows.next_from self.now low }
+        ensures over { IfSome result (λ way. rows.at self.now way.0.0 ≡ Some way.1) }
+        ensures ascending { rows.IsAscending self.now }
+    {
+        let (number, over) = self.rows.range(low..).next()?;
+        Some((Enclave(*number), *over))
+    }
+}
