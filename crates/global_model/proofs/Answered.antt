@@ -24,7 +24,7 @@ use Rattle.global_model.specs.Facts.{Facts, BlockFact, Absent, Free, is_free, is
 use Rattle.global_model.specs.Space.{mapping_of, pages_of, allows, unused_frames, free_blocks}
 use Rattle.global_model.specs.Refusals.{is_taken, denies}
 use Rattle.global_model.specs.View.{ProcessView, process_of, view_of}
-use Rattle.global_model.specs.Steps.{host, refusal, host_lines, process_at, alloc_lines, page_answer, touch_answer, answer_lines, state_lines, free_from, first_blocks}
+use Rattle.global_model.specs.Steps.{host, refusal, host_lines, process_at, alloc_lines, page_answer, touch_answer, answer_lines, route_lines, state_lines, free_from, first_blocks}
 use Rattle.global_model.specs.Due.{touched_lines, command_lines}
 use Rattle.global_model.specs.Known.{at_born, start_by, boot_by, IsAnswered}
 use Rattle.global_model.proofs.Runs.{filter_run-same, filter_all}
@@ -42,7 +42,7 @@ either_way false cause rest acts others same = same refl
 -- a condition that an enclave doesn't live, and the test that it was born
 where_born : (G : Facts) → IsKnown G → (e : Enclave) (rest : Option Cause) (acts others : List Line) → (e.0 < G.born → option_map_or (λ c. lines.Refused c ∷ []) rest acts ≡ others)
     → option_map_or (λ c. lines.Refused c ∷ []) (cond (not (is_living_enclave (G.enclave e.0))) (Some causes.NoEnclave) rest) acts ≡ at_born G.born e others
-where_born G known e rest acts others same = rw (known.star.enclaves e.0).living (by (ltb e.0 G.born) refl)
+where_born G known e rest acts others same = rw (known.tree.enclaves e.0).living (by (ltb e.0 G.born) refl)
   where
     by : (b : Bool) → ltb e.0 G.born ≡ b → option_map_or (λ c. lines.Refused c ∷ []) (cond (not b) (Some causes.NoEnclave) rest) acts ≡ cond b others (refusal causes.NoEnclave)
     by true is = same (ltb-true e.0 G.born is)
@@ -63,15 +63,18 @@ free_run f a (suc n) = by (free_run f (a + 1) n) (is_free (f a))
 boot_answered : (G : Facts) → IsKnown G → (kind : Kind) (parent : Enclave) (blocks : ℕ) (ns : Bool)
     → command_lines G (commands.Boot kind parent blocks ns) ≡ at_born G.born parent (boot_by G kind parent blocks ns)
 boot_answered G known kind parent blocks ns =
-    rw (free_run G.block 0 G.pool) (where_born G known parent _ _ _ (λ born. either_way (leb 256 G.born) causes.TooMany _ _ _ (λ room. either_way (ltb (length (free_blocks G)) blocks) causes.NoBlocks None _ _ (λ enough. refl))))
+    rw (free_run G.block 0 G.pool) (where_born G known parent _ _ _ (λ born. either_way (leb 256 G.born) causes.TooMany _ _ _ (λ room. either_way (ns && G.server) causes.NameServerTaken _ _ _ (λ free. either_way (ltb (length (free_blocks G)) blocks) causes.NoBlocks None _ _ (λ enough. refl)))))
 
 proc_answered : (G : Facts) → IsKnown G → (e : Enclave) (uid gid : ℕ) → command_lines G (commands.Proc e uid gid) ≡ at_born G.born e (start_by G e uid gid)
 proc_answered G known e uid gid =
     let count : length (view_of G e).processes ≡ G.started e.0 = length-map-range_with_len (process_of G e.0) 1 (G.started e.0) in
     rw count (where_born G known e _ _ _ (λ born. either_way (leb 1024 G.starts) causes.TooMany None _ _ (λ room. refl)))
 
+routes_answered : (G : Facts) → IsKnown G → (e : Enclave) → command_lines G (commands.ShowRoutes e) ≡ at_born G.born e (route_lines (view_of G e))
+routes_answered G known e = where_born G known e None _ _ (λ born. refl)
+
 pool_answered : (G : Facts) → IsKnown G → command_lines G commands.ShowPool ≡ at_born G.born host (state_lines 0 (view_of G host).host.states)
-pool_answered G known = rw (known.star.enclaves 0).known (by (ltb 0 G.born))
+pool_answered G known = rw (known.tree.enclaves 0).known (by (ltb 0 G.born))
   where
     by : (b : Bool) → option_map_or (λ c. lines.Refused c ∷ []) (cond (not b) (Some causes.NoEnclave) None) (state_lines 0 (map G.block (range_with_len 0 G.pool)))
         ≡ cond b (state_lines 0 (map G.block (range_with_len 0 G.pool))) (refusal causes.NoEnclave)
@@ -177,5 +180,6 @@ answered G known = record {
   proc = proc_answered G known;
   alloc = alloc_answered G known;
   touch = touch_answered G known;
+  routes = routes_answered G known;
   pool = pool_answered G known;
 }

@@ -1,7 +1,7 @@
 -- What a birth changes in the views of the new enclave, its parent and the host, and that it changes no other view.
-use Rattle.std.proofs.Common.{◌≡◌, ◌≢◌, ◌+◌, ◌≤◌, ℕ, zero, suc, List, [], ◌∷◌, ◌++◌, map, Bool, true, false, cond, not, ◌&&◌, eqb, ltb, Some, refl, sym, ap, ◌∙◌, inl, inr, arith, append-nil}
+use Rattle.std.proofs.Common.{◌≡◌, ◌≢◌, ◌+◌, ◌<◌, ◌≤◌, ℕ, zero, suc, List, [], ◌∷◌, ◌++◌, map, Bool, true, false, cond, not, ◌&&◌, ◌||◌, eqb, ltb, Some, refl, sym, ap, ◌∙◌, arith, append-nil}
 use Rattle.std.specs.List.{range_with_len, filter}
-use Rattle.std.proofs.lemmas.Bool.{cases_eq, eq-eqb, ne_eqb, le-ltb, and_right}
+use Rattle.std.proofs.lemmas.Bool.{eq-eqb, ne_eqb, eqb-true, eqb-false, le-ltb}
 use Rattle.std.proofs.lemmas.List.{map-append}
 use Rattle.std.proofs.lemmas.List.Elements.{filter-append}
 use Rattle.std.proofs.lemmas.List.FromFn.{map-range_with_len_more}
@@ -10,12 +10,12 @@ use Rattle.xm_num.specs.declared.Kind.{Kind}
 use Rattle.xm_num.specs.declared.Block.{Block}
 use Rattle.xm_num.specs.Rows.{put}
 use Rattle.global_model.specs.declared.line.Line.TheVariants as lines
-use Rattle.global_model.specs.Facts.{Facts, BlockFact, with_lent, after_line}
+use Rattle.global_model.specs.Facts.{Facts, BlockFact, fact_of, with_lent, after_line}
 use Rattle.global_model.specs.Channels.{is_child_of}
-use Rattle.global_model.specs.View.{HostView, fact_of, child_row, no_host, host_of, view_of, lend_from, as_born, with_record, own_line}
+use Rattle.global_model.specs.View.{View, HostView, child_row, no_host, host_of, view_of, lend_from, as_born, with_child, with_record, own_line}
 use Rattle.global_model.proofs.Runs.{passing_run-same, map_run-same, run-more}
 use Rattle.global_model.proofs.Kept.{IsKnown, IsBirth, no_fact}
-use Rattle.global_model.proofs.Shown.{IsShown, same_view, shown_here, shown_elsewhere}
+use Rattle.global_model.proofs.Shown.{IsShown, same_view, shown_here}
 use Rattle.global_model.proofs.Processes.{shown_at}
 use Rattle.global_model.proofs.Lending.{unused_born, unused_stay}
 
@@ -102,11 +102,14 @@ module _ (G : Facts) (e : Enclave) (kind : Kind) (parent : Enclave) (ns : Bool) 
 
   -- the new enclave is no child of itself
   no_own_child : (not (eqb e.0 0) && eqb parent.0 e.0) ≡ false
-  no_own_child = rw birth.root (by (eqb e.0 0) refl)
+  no_own_child = by (eqb e.0 0) refl
     where
-      by : (b : Bool) → eqb e.0 0 ≡ b → (not b && eqb 0 e.0) ≡ false
+      by : (b : Bool) → eqb e.0 0 ≡ b → (not b && eqb parent.0 e.0) ≡ false
       by true is = refl
-      by false is = ne_eqb 0 e.0 (λ same. let zero_is : eqb e.0 0 ≡ true = eq-eqb e.0 0 (sym same) in cc)
+      by false is =
+          let child : e.0 ≢ 0 = eqb-false e.0 0 is in
+          let lower : parent.0 < e.0 = birth.above (omega (arith, child)) in
+          ne_eqb parent.0 e.0 (omega (arith, lower))
 
   shown_own : IsShown G e (lines.Born e kind parent ns blocks)
   shown_own =
@@ -122,6 +125,9 @@ module _ (G : Facts) (e : Enclave) (kind : Kind) (parent : Enclave) (ns : Bool) 
         admitted = ap (λ o. (fact_of o).admitted) fact ∙ sym was;
         heard = refl;
         way = refl;
+        askers = refl;
+        backs = refl;
+        routes = refl;
         free = unused_born G e kind parent ns blocks known birth;
         processes = refl;
         children = children_stay e.0 no_own_child;
@@ -146,34 +152,61 @@ module _ (G : Facts) (e : Enclave) (kind : Kind) (parent : Enclave) (ns : Bool) 
         admitted = ap (λ o. (fact_of o).admitted) fact;
         heard = refl;
         way = refl;
+        askers = refl;
+        backs = refl;
+        routes = refl;
         free = unused_stay G e kind parent ns blocks known birth k.0 apart;
         processes = refl;
         children = children_is;
         host = host_is;
       })
 
-  -- the host, which is the parent, has one more child, and records it
-  shown_host : (k : Enclave) → e.0 ≢ k.0 → k.0 ≡ 0 → IsShown G k (lines.Born e kind parent ns blocks)
-  shown_host k apart zero_is =
-      let first : eqb k.0 0 ≡ true = eq-eqb k.0 0 zero_is in
-      let parental : eqb parent.0 k.0 ≡ true = eq-eqb parent.0 k.0 (birth.root ∙ sym zero_is) in
-      let other : eqb e.0 k.0 ≡ false = ne_eqb e.0 k.0 apart in
-      let child : eqb e.0 0 ≡ false = ne_eqb e.0 0 (λ same. apart (same ∙ sym zero_is)) in
-      let row : new_row (not (eqb e.0 0) && eqb parent.0 k.0) e.0 kind ≡ (e.0, kind) ∷ [] = rw (child, parental) refl in
-      let last : put (view_of G k).children e.0 kind ≡ (view_of G k).children ++ (e.0, kind) ∷ [] = put_past (λ c. (fact_of (G.enclave c)).kind) (λ c. is_child_of G c k.0) 0 G.born e.0 kind (omega (arith, birth.next)) in
-      let children : (view_of (with_born G e kind parent ns blocks) k).children ≡ put (view_of G k).children e.0 kind = children_born k.0 ∙ ap (λ rows. (view_of G k).children ++ rows) row ∙ sym last in
-      let host : (view_of (with_born G e kind parent ns blocks) k).host ≡ recorded e parent blocks (host_of G) = rw first host_recorded in
-      let own : own_line (view_of G k) (lines.Born e kind parent ns blocks) ≡ record (view_of G k) { children = put (view_of G k).children e.0 kind; host = recorded e parent blocks (host_of G) } = rw (other, parental, first) refl in
-      shown_here G k (lines.Born e kind parent ns blocks) (rw (other, parental) refl) (other_view k apart (put (view_of G k).children e.0 kind) children (recorded e parent blocks (host_of G)) host ∙ sym own)
+  -- the host isn't a child, and its parent is no other enclave
+  parent_test : (k : ℕ) → e.0 ≢ k → (not (eqb e.0 0) && eqb parent.0 k) ≡ eqb parent.0 k
+  parent_test k apart = by (eqb e.0 0) refl
+    where
+      by : (b : Bool) → eqb e.0 0 ≡ b → (not b && eqb parent.0 k) ≡ eqb parent.0 k
+      by true is =
+          let first : e.0 ≡ 0 = eqb-true e.0 0 is in
+          let root : parent.0 ≡ 0 = birth.root first in
+          sym (ne_eqb parent.0 k (λ same. apart (first ∙ sym root ∙ same)))
+      by false is = refl
 
-  shown_far : (k : Enclave) → e.0 ≢ k.0 → k.0 ≢ 0 → IsShown G k (lines.Born e kind parent ns blocks)
-  shown_far k apart child =
-      let beyond : eqb k.0 0 ≡ false = ne_eqb k.0 0 child in
-      let no_parent : eqb parent.0 k.0 ≡ false = ne_eqb parent.0 k.0 (λ same. child (sym same ∙ birth.root)) in
+  -- the parent has one more child, and no other enclave has
+  children_after : (k : Enclave) → e.0 ≢ k.0
+      → (view_of (with_born G e kind parent ns blocks) k).children ≡ cond (eqb parent.0 k.0) (put (view_of G k).children e.0 kind) (view_of G k).children
+  children_after k apart = children_born k.0 ∙ ap (λ b. (view_of G k).children ++ new_row b e.0 kind) (parent_test k.0 apart) ∙ by (eqb parent.0 k.0)
+    where
+      by : (b : Bool) → (view_of G k).children ++ new_row b e.0 kind ≡ cond b (put (view_of G k).children e.0 kind) (view_of G k).children
+      by true = sym (put_past (λ c. (fact_of (G.enclave c)).kind) (λ c. is_child_of G c k.0) 0 G.born e.0 kind (omega (arith, birth.next)))
+      by false = append-nil _
+
+  -- the view of an enclave before, with what it keeps where it is the host
+  abbrev as_before : Enclave → Bool → View
+  as_before k first = record (view_of G k) { host = cond first (host_of G) no_host }
+
+  -- and with the child where it is its parent
+  abbrev with_one : Enclave → Bool → Bool → View
+  with_one k is_parent first = cond is_parent (with_child e kind (as_before k first)) (as_before k first)
+
+  shown_other : (k : Enclave) → e.0 ≢ k.0 → IsShown G k (lines.Born e kind parent ns blocks)
+  shown_other k apart =
       let other : eqb e.0 k.0 ≡ false = ne_eqb e.0 k.0 apart in
-      let children : (view_of (with_born G e kind parent ns blocks) k).children ≡ (view_of G k).children = children_stay k.0 (and_right (not (eqb e.0 0)) (eqb parent.0 k.0) no_parent) in
-      let host : (view_of (with_born G e kind parent ns blocks) k).host ≡ (view_of G k).host = rw beyond refl in
-      shown_elsewhere G k (lines.Born e kind parent ns blocks) (rw (other, no_parent, beyond) refl) (other_view k apart (view_of G k).children children (view_of G k).host host)
+      let children = cond (eqb parent.0 k.0) (put (view_of G k).children e.0 kind) (view_of G k).children in
+      let host = cond (eqb k.0 0) (recorded e parent blocks (host_of G)) no_host in
+      let after = other_view k apart children (children_after k apart) host (ap (λ h. cond (eqb k.0 0) h no_host) host_recorded) in
+      rw other (after ∙ by (eqb parent.0 k.0) (eqb k.0 0))
+    where
+      by : (is_parent first : Bool)
+          → record (as_before k first) {
+            children = cond is_parent (put (view_of G k).children e.0 kind) (view_of G k).children;
+            host = cond first (recorded e parent blocks (host_of G)) no_host;
+          }
+          ≡ cond (is_parent || first) (cond first (with_record e parent blocks (with_one k is_parent first)) (with_one k is_parent first)) (as_before k first)
+      by true true = refl
+      by true false = refl
+      by false true = refl
+      by false false = refl
 
   pub shown_born : (k : Enclave) → IsShown G k (lines.Born e kind parent ns blocks)
-  shown_born k = shown_at G e k (lines.Born e kind parent ns blocks) shown_own (λ apart. elim (cases_eq k.0 0) [ inl zero_is ↦ shown_host k apart zero_is | inr child ↦ shown_far k apart child ])
+  shown_born k = shown_at G e k (lines.Born e kind parent ns blocks) shown_own (shown_other k)

@@ -1,5 +1,5 @@
 -- A count that stands still at its end.
-use Rattle.std.proofs.Common.{◌≡◌, ◌+◌, ◌-◌, ◌≤◌, ◌^◌, ℕ, List, min, drop, length, sym, ap, ◌∙◌, arith}
+use Rattle.std.proofs.Common.{◌≡◌, ◌+◌, ◌-◌, ◌≤◌, ◌^◌, ℕ, List, min, drop, length, ap, arith}
 use Rattle.std.proofs.lemmas.List.{drop_all}
 use Rattle.global_model.specs.declared.line.Line.{Line}
 use Rattle.global_model.specs.Spelling.{words_in}

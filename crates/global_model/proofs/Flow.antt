@@ -17,18 +17,20 @@ filled : (r : Record) → 1 ≤ size_of r
 unfolding spelling_of header_of
 filled r = omega arith
 
-bytes-cons : (r : Record) (rs : List Record) → bytes_of (r ∷ rs) ≡ size_of r + bytes_of rs
+pub bytes-cons : (r : Record) (rs : List Record) → bytes_of (r ∷ rs) ≡ size_of r + bytes_of rs
 bytes-cons r rs = length-append (spelling_of r) (spellings_of rs)
 
 bytes-more : (rs : List Record) (r : Record) → bytes_of rs ≤ bytes_of (rs ++ r ∷ [])
 bytes-more rs r =
-    let e : bytes_of (rs ++ r ∷ []) ≡ bytes_of rs + bytes_of (r ∷ []) = ap length (flat_map-append spelling_of rs (r ∷ [])) ∙ length-append (spellings_of rs) (spellings_of (r ∷ [])) in
+    let e : bytes_of (rs ++ r ∷ []) ≡ bytes_of rs + bytes_of (r ∷ [])
+    = ap length (flat_map-append spelling_of rs (r ∷ [])) ∙ length-append (spellings_of rs) (spellings_of (r ∷ [])) in
     omega (arith, e)
 
 -- ---- whole records
 
 -- the two cases of a first record
-first_whole : (P : List Record → Type 0) (n : ℕ) (r : Record) (rs : List Record) → (size_of r ≤ n → P (r ∷ whole_records (n - size_of r) rs)) → P [] → P (whole_records n (r ∷ rs))
+first_whole : (P : List Record → Type 0) (n : ℕ) (r : Record) (rs : List Record)
+    → (size_of r ≤ n → P (r ∷ whole_records (n - size_of r) rs)) → P [] → P (whole_records n (r ∷ rs))
 first_whole P n r rs fits none = by (leb (size_of r) n) refl
   where
     by : (b : Bool) → leb (size_of r) n ≡ b → P (cond b (r ∷ whole_records (n - size_of r) rs) [])
@@ -41,7 +43,8 @@ whole-fits n r rs fits = rw (le-leb (size_of r) n fits) refl
 
 pub whole-length : (n : ℕ) (rs : List Record) → length (whole_records n rs) ≤ length rs
 whole-length n [] = omega arith
-whole-length n (r ∷ rs) = first_whole (λ ws. length ws ≤ length (r ∷ rs)) n r rs (λ fits. omega (arith, whole-length (n - size_of r) rs)) (omega arith)
+whole-length n (r ∷ rs) = first_whole (λ ws. length ws ≤ length (r ∷ rs)) n r rs (λ fits. omega (arith, whole-length (n - size_of r) rs))
+    (omega arith)
 
 whole-grows : (n m : ℕ) (rs : List Record) → n ≤ m → length (whole_records n rs) ≤ length (whole_records m rs)
 whole-grows n m [] le = omega arith
@@ -65,13 +68,15 @@ pub whole-sent : (n : ℕ) (rs : List Record) (r : Record) → n ≤ bytes_of rs
 whole-sent n [] r le = first_whole (λ ws. ws ≡ []) n r [] (λ fits. absurd (omega (arith, filled r))) refl
 whole-sent n (s ∷ ss) r le = by (λ fits. whole-sent (n - size_of s) ss r (omega (arith, bytes-cons s ss, fits))) (leb (size_of s) n) refl
   where
-    by : (size_of s ≤ n → whole_records (n - size_of s) (ss ++ r ∷ []) ≡ whole_records (n - size_of s) ss) → (b : Bool) → leb (size_of s) n ≡ b
+    by : (size_of s ≤ n → whole_records (n - size_of s) (ss ++ r ∷ []) ≡ whole_records (n - size_of s) ss) → (b : Bool)
+        → leb (size_of s) n ≡ b
         → cond b (s ∷ whole_records (n - size_of s) (ss ++ r ∷ [])) [] ≡ cond b (s ∷ whole_records (n - size_of s) ss) []
     by same true is = ap (λ ws. s ∷ ws) (same (leb-true (size_of s) n is))
     by same false is = refl
 
 -- after so many whole records the others are whole by the bytes after theirs
-pub whole-rest : (k n : ℕ) (rs : List Record) → k ≤ length (whole_records n rs) → drop k (whole_records n rs) ≡ whole_records (n - bytes_of (take k rs)) (drop k rs)
+pub whole-rest : (k n : ℕ) (rs : List Record) → k ≤ length (whole_records n rs)
+    → drop k (whole_records n rs) ≡ whole_records (n - bytes_of (take k rs)) (drop k rs)
 whole-rest zero n rs le = let all : n ≡ n - 0 = omega arith in ap (λ m. whole_records m rs) all
 whole-rest (suc k) n [] le = refl
 whole-rest (suc k) n (r ∷ rs) le =

@@ -7,10 +7,10 @@ use Rattle.global_model.specs.declared.command.Command.{Command}
 use Rattle.global_model.specs.declared.command.Command.TheVariants as commands
 use Rattle.global_model.specs.declared.line.Line.TheVariants as lines
 use Rattle.global_model.specs.Facts.{Facts, no_facts, facts_after, after_line, after_lines}
-use Rattle.global_model.specs.Scenario.{may_stand, IsPlacedAfter, IsPlaced}
-use Rattle.global_model.specs.Flow.{IsStar}
-use Rattle.global_model.specs.Due.{step_lines, journal_from, journal_of}
-use Rattle.global_model.proofs.Pasts.{after_lines-append}
+use Rattle.global_model.specs.Place.{may_stand, IsPlacedAfter, IsPlaced}
+use Rattle.global_model.specs.Flow.{IsTree}
+use Rattle.global_model.specs.Due.{step_lines, journal_of}
+use Rattle.global_model.proofs.Pasts.{facts_by, facts_by-cons}
 use Rattle.global_model.proofs.Kept.{IsKnown, IsOwner}
 use Rattle.global_model.proofs.Apt.{IsReady, ready_step}
 
@@ -20,12 +20,12 @@ use Rattle.global_model.proofs.Apt.{IsReady, ready_step}
 abbrev pub pool_facts : ℕ → Facts
 pool_facts blocks = after_line no_facts (lines.Do (commands.Pool blocks))
 
-start_star : (G : Facts) → G.born ≡ 0 → ((e : ℕ) → G.enclave e ≡ no_facts.enclave e) → IsStar G
-start_star G none unborn = record {
+start_tree : (G : Facts) → G.born ≡ 0 → ((e : ℕ) → G.enclave e ≡ no_facts.enclave e) → IsTree G
+start_tree G none unborn = record {
   most = omega (arith, none);
   enclaves = λ e.
       let below : ltb e G.born ≡ false = le-ltb e G.born (omega (arith, none)) in
-      rw (unborn e) (record { known = sym below; living = sym below; parent = λ p. rw below refl });
+      rw (unborn e) (record { known = sym below; living = sym below; above = λ p has. cc });
 }
 
 no_runs : (p : ℕ) → false ≡ (leb 1 p && leb p 0)
@@ -33,9 +33,9 @@ no_runs p = grind (arith, nat_tests)
 
 known_none : IsKnown no_facts
 known_none = record {
-  star = start_star no_facts refl (λ e. refl);
+  tree = start_tree no_facts refl (λ e. refl);
   runs = λ e p. no_runs p;
-  way = λ e le. refl;
+  unaware = record { no_way = λ e le. refl; no_askers = λ e le. refl; no_backs = λ e le. refl; no_routes = λ e le. refl };
   started = λ e le. refl;
   heard = λ e. refl;
   owners = All-nil (IsOwner 0 no_facts.started);
@@ -44,9 +44,9 @@ known_none = record {
 
 known_pool : (blocks : ℕ) → IsKnown (pool_facts blocks)
 known_pool blocks = record {
-  star = start_star (pool_facts blocks) refl (λ e. refl);
+  tree = start_tree (pool_facts blocks) refl (λ e. refl);
   runs = λ e p. no_runs p;
-  way = λ e le. refl;
+  unaware = record { no_way = λ e le. refl; no_askers = λ e le. refl; no_backs = λ e le. refl; no_routes = λ e le. refl };
   started = λ e le. refl;
   heard = λ e. refl;
   owners = All-nil (IsOwner 0 no_facts.started);
@@ -59,30 +59,9 @@ ready_pool blocks = record { some = omega arith; known = known_pool blocks; unbo
 -- the first command is the pool's
 pub first_is_pool : (P : Command → Type 0) → ((blocks : ℕ) → P (commands.Pool blocks)) → (c : Command) → may_stand 0 c ≡ true → P c
 first_is_pool P pool (commands.Pool blocks) may = pool blocks
-first_is_pool P pool (commands.Host blocks ns) may = cc
-first_is_pool P pool (commands.Boot kind parent blocks ns) may = cc
-first_is_pool P pool (commands.Proc e uid gid) may = cc
-first_is_pool P pool (commands.Alloc e p page count) may = cc
-first_is_pool P pool (commands.Touch e p addr want) may = cc
-first_is_pool P pool (commands.Deliver x y count) may = cc
-first_is_pool P pool (commands.ShowLink x y) may = cc
-first_is_pool P pool commands.ShowPool may = cc
+first_is_pool P pool _ may = cc
 
 -- ---- several commands
-
--- the facts after commands
-abbrev pub facts_by : Facts → List Command → Facts
-facts_by G cs = after_lines G (journal_from G cs)
-
-pub facts_by-cons : (G : Facts) (c : Command) (cs : List Command) → facts_by G (c ∷ cs) ≡ facts_by (after_lines G (step_lines G c)) cs
-facts_by-cons G c cs = after_lines-append G (step_lines G c) (journal_from (after_lines G (step_lines G c)) cs)
-
--- the last command's lines come after those of the others
-pub facts_by-more : (G : Facts) (cs : List Command) (c : Command) → facts_by G (cs ++ c ∷ []) ≡ after_lines (facts_by G cs) (step_lines (facts_by G cs) c)
-facts_by-more G [] c = facts_by-cons G c []
-facts_by-more G (first ∷ cs) c =
-    let H = after_lines G (step_lines G first) in
-    facts_by-cons G first (cs ++ c ∷ []) ∙ facts_by-more H cs c ∙ ap (λ K. after_lines K (step_lines K c)) (sym (facts_by-cons G first cs))
 
 -- the commands but the last are placed, and the last may stand after them
 pub record IsLast (before : ℕ) (cs : List Command) (c : Command) : Type 0 where

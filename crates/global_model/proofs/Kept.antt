@@ -14,10 +14,10 @@ use Rattle.xm_num.specs.declared.Vpn.{Vpn}
 use Rattle.global_model.specs.declared.command.Command.TheVariants as commands
 use Rattle.global_model.specs.declared.line.Line.{Line}
 use Rattle.global_model.specs.declared.line.Line.TheVariants as lines
-use Rattle.global_model.specs.Facts.{Facts, EnclaveFact, BlockFact, Absent, Free, Lent, Held, OwnPage, ProcessFact, is_listed, own_from, is_living_process, after_line, after_lines}
+use Rattle.global_model.specs.Facts.{Facts, EnclaveFact, ChannelFact, BlockFact, Absent, Free, Lent, Held, OwnPage, ProcessFact, is_listed, own_from, is_living_process, at_number, after_line, after_lines}
 use Rattle.global_model.specs.Space.{unused_frames, free_blocks}
-use Rattle.global_model.specs.Flow.{IsStar}
-use Rattle.global_model.proofs.Star.{star_born, star_admitted}
+use Rattle.global_model.specs.Flow.{IsTree}
+use Rattle.global_model.proofs.Tree.{tree_born, tree_admitted}
 
 -- ---- what is kept
 
@@ -33,10 +33,17 @@ IsOfPool born Free = Unit {0}
 IsOfPool born (Lent e) = e < born
 IsOfPool born (Held e) = ⊥
 
+-- the enclaves from that number on know nothing of ways
+pub record AreUnaware (born : ℕ) (ways : ℕ → Option Enclave) (askers backs routes : ℕ → List (ℕ × Enclave)) : Type 0 where
+  pub no_way : (e : ℕ) → born ≤ e → ways e ≡ None
+  pub no_askers : (e : ℕ) → born ≤ e → askers e ≡ []
+  pub no_backs : (e : ℕ) → born ≤ e → backs e ≡ []
+  pub no_routes : (e : ℕ) → born ≤ e → routes e ≡ []
+
 pub record IsKnown (G : Facts) : Type 0 where
-  pub star : IsStar G
+  pub tree : IsTree G
   pub runs : (e p : ℕ) → is_living_process (G.process e p) ≡ (leb 1 p && leb p (G.started e))
-  pub way : (e : ℕ) → G.born ≤ e → G.way e ≡ None
+  pub unaware : AreUnaware G.born G.way G.askers G.backs G.routes
   pub started : (e : ℕ) → G.born ≤ e → G.started e ≡ 0
   pub heard : (e : ℕ) → G.heard e ≡ []
   pub owners : All (IsOwner G.born G.started) G.own
@@ -44,7 +51,7 @@ pub record IsKnown (G : Facts) : Type 0 where
 
 -- who isn't born has no fact
 pub no_fact : (G : Facts) → IsKnown G → (e : ℕ) → G.born ≤ e → G.enclave e ≡ None
-no_fact G known e le = by (G.enclave e) ((known.star.enclaves e).known ∙ le-ltb e G.born le)
+no_fact G known e le = by (G.enclave e) ((known.tree.enclaves e).known ∙ le-ltb e G.born le)
   where
     by : (o : Option EnclaveFact) → is_some o ≡ false → o ≡ None
     by None is = refl
@@ -52,11 +59,12 @@ no_fact G known e le = by (G.enclave e) ((known.star.enclaves e).known ∙ le-lt
 
 -- ---- which lines may come
 
--- the next enclave is born under the host, with the lowest free blocks
+-- the next enclave is born with the lowest free blocks, under one that was born before it; the host's parent is written 0
 pub record IsBirth (G : Facts) (e parent : Enclave) (blocks : List Block) : Type 0 where
   pub room : G.born < 256
   pub next : e.0 ≡ G.born
-  pub root : parent.0 ≡ 0
+  pub above : 0 < e.0 → parent.0 < e.0
+  pub root : e.0 ≡ 0 → parent.0 ≡ 0
   pub count : ℕ
   pub lowest : blocks ≡ take count (free_blocks G)
 
@@ -75,7 +83,10 @@ IsApt G (lines.Told e of) = ⊥
 IsApt G (lines.Admitted e) = e.0 < G.born
 IsApt G (lines.Proc e p uid gid) = (e.0 < G.born) × (p.0 ≡ G.started e.0 + 1)
 IsApt G (lines.Alloc e p page frames) = IsOwning G e p frames
+IsApt G (lines.Asked e by) = e.0 < G.born
 IsApt G (lines.Way e over) = e.0 < G.born
+IsApt G (lines.Back e of over) = e.0 < G.born
+IsApt G (lines.Route e of over) = e.0 < G.born
 IsApt G line = Unit {0}
 
 abbrev pub AreApt : Facts → List Line → Type 0
@@ -97,9 +108,14 @@ lent_of_pool born e false fact next is = pool_grows born fact is
 known_born : (G : Facts) (e : Enclave) (kind : Kind) (parent : Enclave) (ns : Bool) (blocks : List Block) → IsKnown G → IsBirth G e parent blocks
     → IsKnown (after_line G (lines.Born e kind parent ns blocks))
 known_born G e kind parent ns blocks known birth = record {
-  star = star_born G e kind parent ns blocks known.star birth.room birth.next birth.root;
+  tree = tree_born G e kind parent ns blocks known.tree birth.room birth.next birth.above;
   runs = known.runs;
-  way = λ k le. known.way k (omega (arith, le));
+  unaware = record {
+    no_way = λ k le. known.unaware.no_way k (omega (arith, le));
+    no_askers = λ k le. known.unaware.no_askers k (omega (arith, le));
+    no_backs = λ k le. known.unaware.no_backs k (omega (arith, le));
+    no_routes = λ k le. known.unaware.no_routes k (omega (arith, le));
+  };
   started = λ k le. known.started k (omega (arith, le));
   heard = known.heard;
   owners = All-weaker (IsOwner G.born G.started) (IsOwner (G.born + 1) G.started) (λ own is. record { born_is = omega (arith, is.born_is); started_is = is.started_is }) G.own known.owners;
@@ -125,9 +141,9 @@ runs_more fact uid gid p s q next is = by (eqb q p) refl
 
 known_proc : (G : Facts) (e : Enclave) (p : Pid) (uid gid : ℕ) → IsKnown G → e.0 < G.born → p.0 ≡ G.started e.0 + 1 → IsKnown (after_line G (lines.Proc e p uid gid))
 known_proc G e p uid gid known born next = record {
-  star = record { most = known.star.most; enclaves = known.star.enclaves };
+  tree = record { most = known.tree.most; enclaves = known.tree.enclaves };
   runs = λ k q. runs k q (eqb k e.0) refl;
-  way = known.way;
+  unaware = known.unaware;
   started = λ k le. let apart : eqb k e.0 ≡ false = ne_eqb k e.0 (omega (arith, le, born)) in rw apart (known.started k le);
   heard = known.heard;
   owners = All-weaker (IsOwner G.born G.started) (IsOwner G.born (after_line G (lines.Proc e p uid gid)).started) (λ own is. record { born_is = is.born_is; started_is = omega (arith, is.started_is, one_more G e.0 own.enclave.0) }) G.own known.owners;
@@ -146,35 +162,75 @@ owners_from born started e p page (f ∷ frames) born_is started_is =
 
 known_alloc : (G : Facts) (e : Enclave) (p : Pid) (page : Vpn) (frames : List Frame) → IsKnown G → IsOwning G e p frames → IsKnown (after_line G (lines.Alloc e p page frames))
 known_alloc G e p page frames known owning = record {
-  star = record { most = known.star.most; enclaves = known.star.enclaves };
+  tree = record { most = known.tree.most; enclaves = known.tree.enclaves };
   runs = known.runs;
-  way = known.way;
+  unaware = known.unaware;
   started = known.started;
   heard = known.heard;
   owners = All-append (IsOwner G.born G.started) G.own (own_from e p page.0 frames) known.owners (owners_from G.born G.started e p page.0 frames owning.born_is owning.last);
   blocks = known.blocks;
 }
 
-known_way : (G : Facts) (e over : Enclave) → IsKnown G → e.0 < G.born → IsKnown (after_line G (lines.Way e over))
-known_way G e over known born = record {
-  star = record { most = known.star.most; enclaves = known.star.enclaves };
+known_admitted : (G : Facts) (e : Enclave) → IsKnown G → IsKnown (after_line G (lines.Admitted e))
+known_admitted G e known = record {
+  tree = tree_admitted G e known.tree;
   runs = known.runs;
-  way = λ k le. let apart : eqb k e.0 ≡ false = ne_eqb k e.0 (omega (arith, le, born)) in rw apart (known.way k le);
+  unaware = known.unaware;
   started = known.started;
   heard = known.heard;
   owners = known.owners;
   blocks = known.blocks;
 }
 
+-- other channels, and other ways of which those that aren't born know nothing
+known_with : (G : Facts) (channel : ℕ → ℕ → ChannelFact) (way : ℕ → Option Enclave) (askers backs routes : ℕ → List (ℕ × Enclave)) → IsKnown G
+    → AreUnaware G.born way askers backs routes → IsKnown (record G { channel = channel; way = way; askers = askers; backs = backs; routes = routes })
+known_with G channel way askers backs routes known unaware = record {
+  tree = record { most = known.tree.most; enclaves = known.tree.enclaves };
+  runs = known.runs;
+  unaware = unaware;
+  started = known.started;
+  heard = known.heard;
+  owners = known.owners;
+  blocks = known.blocks;
+}
+
+known_channel : (G : Facts) (channel : ℕ → ℕ → ChannelFact) → IsKnown G → IsKnown (record G { channel = channel })
+known_channel G channel known = known_with G channel G.way G.askers G.backs G.routes known known.unaware
+
+-- what changes at an enclave that was born leaves those that aren't as they were
+unborn_stay : {A : Type 0} (born : ℕ) (f : ℕ → A) (none : A) (e : Enclave) (x : A) → e.0 < born → ((k : ℕ) → born ≤ k → f k ≡ none)
+    → (k : ℕ) → born ≤ k → at_number e.0 x f k ≡ none
+unborn_stay born f none e x here stays k le = let apart : eqb k e.0 ≡ false = ne_eqb k e.0 (omega (arith, le, here)) in rw apart (stays k le)
+
 pub known_line : (G : Facts) (line : Line) → IsKnown G → IsApt G line → IsKnown (after_line G line)
 known_line G (lines.Do (commands.Pool blocks)) known apt = absurd apt
 known_line G (lines.Born e kind parent ns blocks) known apt = known_born G e kind parent ns blocks known apt
 known_line G (lines.Told e of) known apt = absurd apt
-known_line G (lines.Admitted e) known apt = record { star = star_admitted G e known.star; runs = known.runs; way = known.way; started = known.started; heard = known.heard; owners = known.owners; blocks = known.blocks }
+known_line G (lines.Admitted e) known apt = known_admitted G e known
 known_line G (lines.Proc e p uid gid) known apt = known_proc G e p uid gid known apt.0 apt.1
 known_line G (lines.Alloc e p page frames) known apt = known_alloc G e p page frames known apt
-known_line G (lines.Way e over) known apt = known_way G e over known apt
-known_line G _ known apt = record { star = record { most = known.star.most; enclaves = known.star.enclaves }; runs = known.runs; way = known.way; started = known.started; heard = known.heard; owners = known.owners; blocks = known.blocks }
+known_line G (lines.Sent x y r) known apt = known_channel G _ known
+known_line G (lines.Took x y count) known apt = known_channel G _ known
+known_line G (lines.Got x y) known apt = known_channel G _ known
+known_line G (lines.Asked e by) known apt =
+    let none = known.unaware in
+    let askers = unborn_stay G.born G.askers [] e _ apt none.no_askers in
+    known_with G G.channel G.way _ G.backs G.routes known (record { no_way = none.no_way; no_askers = askers; no_backs = none.no_backs; no_routes = none.no_routes })
+known_line G (lines.Way e over) known apt =
+    let none = known.unaware in
+    let way = unborn_stay G.born G.way None e _ apt none.no_way in
+    let askers = unborn_stay G.born G.askers [] e _ apt none.no_askers in
+    known_with G G.channel _ _ G.backs G.routes known (record { no_way = way; no_askers = askers; no_backs = none.no_backs; no_routes = none.no_routes })
+known_line G (lines.Back e of over) known apt =
+    let none = known.unaware in
+    let backs = unborn_stay G.born G.backs [] e _ apt none.no_backs in
+    known_with G G.channel G.way G.askers _ G.routes known (record { no_way = none.no_way; no_askers = none.no_askers; no_backs = backs; no_routes = none.no_routes })
+known_line G (lines.Route e of over) known apt =
+    let none = known.unaware in
+    let routes = unborn_stay G.born G.routes [] e _ apt none.no_routes in
+    known_with G G.channel G.way G.askers G.backs _ known (record { no_way = none.no_way; no_askers = none.no_askers; no_backs = none.no_backs; no_routes = routes })
+known_line G _ known apt = known
 
 pub known_lines : (G : Facts) (ls : List Line) → IsKnown G → AreApt G ls → IsKnown (after_lines G ls)
 known_lines G [] known apt = known

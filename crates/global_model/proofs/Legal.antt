@@ -1,10 +1,10 @@
 -- The journal of commands that stand where they may is legal.
-use Rattle.std.proofs.Common.{◌≡◌, ◌+◌, ◌*◌, ◌/◌, ◌<◌, ◌≤◌, ℕ, zero, suc, List, [], ◌∷◌, length, take, get_or, filter, Bool, true, false, cond, eqb, not, ◌&&◌, ◌||◌, Option, None, Some, refl, sym, ap, ◌∙◌, subst, arith}
+use Rattle.std.proofs.Common.{◌≡◌, ◌+◌, ◌*◌, ◌/◌, ◌<◌, ◌≤◌, ℕ, zero, suc, List, [], ◌∷◌, length, take, filter, Bool, true, false, cond, eqb, not, ◌&&◌, ◌||◌, Option, None, Some, refl, sym, ap, ◌∙◌, subst, arith}
 use Rattle.std.specs.List.{All, range_with_len, list_any}
 use Rattle.std.specs.Option.{option_map, option_map_or}
 use Rattle.std.proofs.lemmas.Bool.{eqb-true, eq-eqb, and_parts}
 use Rattle.std.proofs.lemmas.List.{take_min, length-take}
-use Rattle.std.proofs.lemmas.List.Elements.{All-nil, All-map, All-take, All-filter, filter_passes, All-append}
+use Rattle.std.proofs.lemmas.List.Elements.{All-nil, All-cons, All-head, All-tail, All-weaker, All-map, All-take, All-filter, filter_passes, All-append}
 use Rattle.xm_num.specs.declared.Enclave.{Enclave}
 use Rattle.xm_num.specs.declared.Pid.{Pid}
 use Rattle.xm_num.specs.declared.Vpn.{Vpn}
@@ -27,31 +27,15 @@ use Rattle.global_model.specs.Space.{Mapping, IsUnmapped, is_of, own_page, with_
 use Rattle.global_model.specs.View.{view_of}
 use Rattle.global_model.specs.Steps.{host}
 use Rattle.global_model.specs.Refusals.{refusal_of}
-use Rattle.global_model.specs.Scenario.{may_stand, IsPlacedAfter}
-use Rattle.global_model.specs.Due.{next_enclave, deliver_lines, show_lines, touched_lines, acts_of, step_lines, journal_from}
+use Rattle.global_model.specs.Place.{may_stand, IsPlacedAfter}
+use Rattle.global_model.specs.Due.{next_enclave, touched_lines, acts_of, step_lines, journal_from}
 use Rattle.global_model.specs.Lawful.{LawfulRefusal, IsLegalAt, cause_of}
 use Rattle.global_model.specs.History.{Follows, onto}
-use Rattle.global_model.proofs.Plain.{is_plain, ArePlain, plain_host, plain_deliver, plain_show, plain_birth, plain_pool}
+use Rattle.global_model.proofs.Plain.{IsPlain, ArePlain, plain_host, plain_deliver, plain_settle, plain_routes, plain_show, plain_birth, plain_pool}
 use Rattle.global_model.proofs.Refused.{touch_allowed}
 use Rattle.global_model.proofs.Pasts.{facts_at-onto, Follows-append}
 
 -- ---- lists
-
-All-head : {X : Type 0} (P : X → Type 0) (x : X) (xs : List X) → All P (x ∷ xs) → P x
-All-head P x xs all = all 0 x (omega arith)
-
-All-tail : {X : Type 0} (P : X → Type 0) (x : X) (xs : List X) → All P (x ∷ xs) → All P xs
-All-tail P x xs all = λ k d lt. all (suc k) d (omega arith)
-
-All-cons : {X : Type 0} (P : X → Type 0) (x : X) (xs : List X) → P x → All P xs → All P (x ∷ xs)
-All-cons {X = X} P x xs p all = by
-  where
-    by : (k : ℕ) (d : X) → k < length (x ∷ xs) → P (get_or (x ∷ xs) k d)
-    by zero d lt = p
-    by (suc k) d lt = all k d (omega arith)
-
-All-weaker : {X : Type 0} (P Q : X → Type 0) → ((x : X) → P x → Q x) → (xs : List X) → All P xs → All Q xs
-All-weaker P Q h xs all = λ k d lt. h _ (all k d lt)
 
 or_left : (a b : Bool) → a ≡ true → (a || b) ≡ true
 or_left a b e = rw e refl
@@ -84,7 +68,8 @@ record IsBehind (P : OwnPage → Type 0) (page : Page) : Type 0 where
   has : P own
   is : own_page own.frame ≡ page
 
-behind_row : (P : OwnPage → Type 0) (owns : List OwnPage) (rows : List (ℕ × Page)) (k : ℕ) (page : Page) → All P owns → (at rows k ≡ Some page → IsBehind P page) → at (with_own rows owns) k ≡ Some page → IsBehind P page
+behind_row : (P : OwnPage → Type 0) (owns : List OwnPage) (rows : List (ℕ × Page)) (k : ℕ) (page : Page) → All P owns
+    → (at rows k ≡ Some page → IsBehind P page) → at (with_own rows owns) k ≡ Some page → IsBehind P page
 behind_row P [] rows k page all before is = before is
 behind_row P (own ∷ owns) rows k page all before is =
     behind_row P owns (put rows own.page (own_page own.frame)) k page (All-tail P own owns all) (λ e. by (eqb own.page k) (sym (at_put rows own.page k (own_page own.frame)) ∙ e)) is
@@ -93,7 +78,8 @@ behind_row P (own ∷ owns) rows k page all before is =
     by true e = let same : own_page own.frame ≡ page = cc in record { own = own; has = All-head P own owns all; is = same }
     by false e = before e
 
-behind_page : (P : OwnPage → Type 0) (owns : List OwnPage) (k : ℕ) (page : Page) → All P owns → at (with_own [] owns) k ≡ Some page → IsBehind P page
+behind_page : (P : OwnPage → Type 0) (owns : List OwnPage) (k : ℕ) (page : Page) → All P owns → at (with_own [] owns) k ≡ Some page
+    → IsBehind P page
 unfolding at
 behind_page P owns k page all is = behind_row P owns [] k page all (λ none. cc) is
 
@@ -110,13 +96,15 @@ IsKept G own = IsOwned G own × ((r : OwnPage → Bool) → r own ≡ true → l
 all_kept : (G : Facts) → IsSound G → All (IsKept G) G.own
 all_kept G sound = λ k d lt. (sound.owned k d lt, all_listed G.own k d lt)
 
-behind_found : (G : Facts) → IsSound G → (e p page : ℕ) (frame : Frame) (access : Access) → space_of G e p page ≡ Some (record { frame = frame; access = access }) → Behind G frame
+behind_found : (G : Facts) → IsSound G → (e p page : ℕ) (frame : Frame) (access : Access)
+    → space_of G e p page ≡ Some (record { frame = frame; access = access }) → Behind G frame
 behind_found G sound e p page frame access is = by (at (pages_of G e p) page) refl is
   where
     the_frame : (m n : Mapping) → Some m ≡ Some n → m.frame ≡ n.frame
     the_frame m n same = let inner : m ≡ n = cc in ap (λ x. x.frame) inner
 
-    by : (o : Option Page) → at (pages_of G e p) page ≡ o → option_map mapping_of o ≡ Some (record { frame = frame; access = access }) → Behind G frame
+    by : (o : Option Page) → at (pages_of G e p) page ≡ o → option_map mapping_of o ≡ Some (record { frame = frame; access = access })
+        → Behind G frame
     by None found same = cc
     by (Some row) found same =
         let b = behind_page (IsKept G) (filter (is_of e p) G.own) page row (All-filter (is_of e p) (IsKept G) G.own (all_kept G sound)) found in
@@ -206,7 +194,8 @@ block_unmapped G sound b free = All-weaker (λ f. f.0 / 64 ≡ b.0) (IsUnmapped 
 
 -- ---- what is kept stays kept
 
-own_from-owned : (G : Facts) (e : Enclave) (p : Pid) (page : ℕ) (frames : List Frame) → All (λ f. G.block (f.0 / 64) ≡ Lent e.0) frames → All (IsOwned G) (own_from e p page frames)
+own_from-owned : (G : Facts) (e : Enclave) (p : Pid) (page : ℕ) (frames : List Frame) → All (λ f. G.block (f.0 / 64) ≡ Lent e.0) frames
+    → All (IsOwned G) (own_from e p page frames)
 own_from-owned G e p page [] all = All-nil _
 own_from-owned G e p page (f ∷ frames) all =
     let P : Frame → Type 0 = λ x. G.block (x.0 / 64) ≡ Lent e.0 in
@@ -216,7 +205,8 @@ unused_lent : (G : Facts) (e : ℕ) (frame : Frame) → is_unused G e frame.0 �
 unused_lent G e frame unused = lent_is e _ (and_parts _ _ (and_parts _ _ unused).0).1
 
 -- lending free blocks leaves what is lent
-lent_stays : (G : Facts) (blocks : List Block) (e : Enclave) (own : OwnPage) → All (λ b. is_free (G.block b.0) ≡ true) blocks → IsOwned G own → with_lent blocks e G.block (own.frame.0 / 64) ≡ Lent own.enclave.0
+lent_stays : (G : Facts) (blocks : List Block) (e : Enclave) (own : OwnPage) → All (λ b. is_free (G.block b.0) ≡ true) blocks
+    → IsOwned G own → with_lent blocks e G.block (own.frame.0 / 64) ≡ Lent own.enclave.0
 lent_stays G blocks e own free owned = by (is_listed blocks (own.frame.0 / 64)) refl
   where
     by : (b : Bool) → is_listed blocks (own.frame.0 / 64) ≡ b → cond b (Lent e.0) (G.block (own.frame.0 / 64)) ≡ Lent own.enclave.0
@@ -238,24 +228,24 @@ pub record IsLegalUpTo (past journal : List Line) : Type 0 where
   pub closed : IsClosed (onto journal past)
 
 -- plain lines are legal where a line that is no refusal is
-plain_legal : (line : Line) (past : List Line) → IsClosed past → is_plain line ≡ true → IsLegalAt past line
-plain_legal (lines.Do c) past closed plain = cc
-plain_legal (lines.Refused cause) past closed plain = cc
-plain_legal (lines.Born e kind parent ns blocks) past closed plain = cc
-plain_legal (lines.Alloc e p at frames) past closed plain = cc
-plain_legal (lines.Touched e p page frame) past closed plain = cc
+plain_legal : (line : Line) (past : List Line) → IsClosed past → IsPlain line → IsLegalAt past line
+plain_legal (lines.Do c) past closed plain = absurd plain
+plain_legal (lines.Refused cause) past closed plain = absurd plain
+plain_legal (lines.Born e kind parent ns blocks) past closed plain = absurd plain
+plain_legal (lines.Alloc e p at frames) past closed plain = absurd plain
+plain_legal (lines.Touched e p page frame) past closed plain = absurd plain
 plain_legal line past closed plain = record { lending = tt; act = tt; refusal = closed line refl }
 
-plain_sound : (G : Facts) (line : Line) → is_plain line ≡ true → IsSound G → IsSound (after_line G line)
-plain_sound G (lines.Do c) plain sound = cc
-plain_sound G (lines.Refused cause) plain sound = cc
-plain_sound G (lines.Born e kind parent ns blocks) plain sound = cc
-plain_sound G (lines.Alloc e p at frames) plain sound = cc
-plain_sound G (lines.Touched e p page frame) plain sound = cc
+plain_sound : (G : Facts) (line : Line) → IsPlain line → IsSound G → IsSound (after_line G line)
+plain_sound G (lines.Do c) plain sound = absurd plain
+plain_sound G (lines.Refused cause) plain sound = absurd plain
+plain_sound G (lines.Born e kind parent ns blocks) plain sound = absurd plain
+plain_sound G (lines.Alloc e p at frames) plain sound = absurd plain
+plain_sound G (lines.Touched e p page frame) plain sound = absurd plain
 plain_sound G line plain sound = record { owned = sound.owned }
 
-plain_closed : (line : Line) (past : List Line) → is_plain line ≡ true → IsClosed (line ∷ past)
-plain_closed (lines.Do c) past plain = cc
+plain_closed : (line : Line) (past : List Line) → IsPlain line → IsClosed (line ∷ past)
+plain_closed (lines.Do c) past plain = absurd plain
 plain_closed line past plain = λ next h. h
 
 legal_plain : (ls past : List Line) → IsSound (facts_at past) → IsClosed past → ArePlain ls → IsLegalUpTo past ls
@@ -265,11 +255,13 @@ legal_plain (l ∷ ls) past sound closed plain =
     record { legal = (plain_legal l past closed plain.0, more.legal); sound = more.sound; closed = more.closed }
 
 -- a command whose acts are legal where it isn't refused
-with_refusal : (c : Command) (past : List Line) → IsClosed past → IsSound (facts_at (lines.Do c ∷ past)) → (refusal_of (facts_at past) c ≡ None → IsLegalUpTo (lines.Do c ∷ past) (acts_of (facts_at past) c))
+with_refusal : (c : Command) (past : List Line) → IsClosed past → IsSound (facts_at (lines.Do c ∷ past))
+    → (refusal_of (facts_at past) c ≡ None → IsLegalUpTo (lines.Do c ∷ past) (acts_of (facts_at past) c))
     → IsLegalUpTo past (step_lines (facts_at past) c)
 with_refusal c past closed sound acts = by (refusal_of (facts_at past) c) refl
   where
-    by : (o : Option Cause) → refusal_of (facts_at past) c ≡ o → IsLegalUpTo past (lines.Do c ∷ option_map_or (λ cause. lines.Refused cause ∷ []) o (acts_of (facts_at past) c))
+    by : (o : Option Cause) → refusal_of (facts_at past) c ≡ o
+        → IsLegalUpTo past (lines.Do c ∷ option_map_or (λ cause. lines.Refused cause ∷ []) o (acts_of (facts_at past) c))
     by None is = let more = acts is in record { legal = (record { lending = tt; act = tt; refusal = closed (lines.Do c) refl }, more.legal); sound = more.sound; closed = more.closed }
     by (Some cause) is = record {
       legal = (record { lending = tt; act = tt; refusal = closed (lines.Do c) refl }, (record { lending = tt; act = tt; refusal = sym is }, tt));
@@ -277,7 +269,8 @@ with_refusal c past closed sound acts = by (refusal_of (facts_at past) c) refl
       closed = λ line h. h;
     }
 
-legal_pool : (blocks : ℕ) (past : List Line) → (facts_at past).own ≡ [] → IsClosed past → IsLegalUpTo past (step_lines (facts_at past) (commands.Pool blocks))
+legal_pool : (blocks : ℕ) (past : List Line) → (facts_at past).own ≡ [] → IsClosed past
+    → IsLegalUpTo past (step_lines (facts_at past) (commands.Pool blocks))
 legal_pool blocks past none closed =
     let G = after_line (facts_at past) (lines.Do (commands.Pool blocks)) in
     record {
@@ -314,37 +307,27 @@ legal_born c past e kind parent ns blocks more sound none same plain =
     let rest = legal_plain more after (record { owned = lent.stays }) (λ line h. h) plain in
     record { legal = (record { lending = (lent.lowest, lent.unmapped); act = tt; refusal = sym none }, rest.legal); sound = rest.sound; closed = rest.closed }
 
-legal_host : (blocks : ℕ) (ns : Bool) (past : List Line) → IsSound (facts_at past) → IsClosed past → IsLegalUpTo past (step_lines (facts_at past) (commands.Host blocks ns))
+legal_host : (blocks : ℕ) (ns : Bool) (past : List Line) → IsSound (facts_at past) → IsClosed past
+    → IsLegalUpTo past (step_lines (facts_at past) (commands.Host blocks ns))
 legal_host blocks ns past sound closed =
     with_refusal (commands.Host blocks ns) past closed sound (λ none. legal_born (commands.Host blocks ns) past host kinds.Host host ns blocks _ sound none refl (plain_host ns))
 
-legal_boot : (kind : Kind) (parent : Enclave) (blocks : ℕ) (ns : Bool) (past : List Line) → IsSound (facts_at past) → IsClosed past → IsLegalUpTo past (step_lines (facts_at past) (commands.Boot kind parent blocks ns))
+legal_boot : (kind : Kind) (parent : Enclave) (blocks : ℕ) (ns : Bool) (past : List Line) → IsSound (facts_at past) → IsClosed past
+    → IsLegalUpTo past (step_lines (facts_at past) (commands.Boot kind parent blocks ns))
 legal_boot kind parent blocks ns past sound closed =
     let child = next_enclave (facts_at past) in
     with_refusal (commands.Boot kind parent blocks ns) past closed sound
     (λ none. legal_born (commands.Boot kind parent blocks ns) past child kind parent ns blocks _ sound none refl (plain_birth child parent ns ((facts_at past).heard parent.0) (view_of (facts_at past) parent)))
 
-legal_deliver : (x y : Enclave) (count : ℕ) (past : List Line) → IsSound (facts_at past) → IsClosed past → IsLegalUpTo past (step_lines (facts_at past) (commands.Deliver x y count))
-legal_deliver x y count past sound closed =
-    with_refusal (commands.Deliver x y count) past closed sound
-    (λ none. legal_plain (deliver_lines (facts_at past) x y count) (lines.Do (commands.Deliver x y count) ∷ past) sound (λ line h. h ∙ sym none) (plain_deliver (facts_at past) x y count))
+-- a command that changes no facts, and whose acts are plain
+legal_quiet : (c : Command) (past : List Line) → facts_at (lines.Do c ∷ past) ≡ facts_at past
+    → IsSound (facts_at past) → IsClosed past → ArePlain (acts_of (facts_at past) c) → IsLegalUpTo past (step_lines (facts_at past) c)
+legal_quiet c past same sound closed plain =
+    let after = subst IsSound (sym same) sound in
+    with_refusal c past closed after (λ none. legal_plain (acts_of (facts_at past) c) (lines.Do c ∷ past) after (λ line h. h ∙ sym none) plain)
 
-legal_show : (x y : Enclave) (past : List Line) → IsSound (facts_at past) → IsClosed past → IsLegalUpTo past (step_lines (facts_at past) (commands.ShowLink x y))
-legal_show x y past sound closed =
-    with_refusal (commands.ShowLink x y) past closed sound
-    (λ none. legal_plain (show_lines (facts_at past) x y) (lines.Do (commands.ShowLink x y) ∷ past) sound (λ line h. h ∙ sym none) (plain_show (facts_at past) x y))
-
-legal_show_pool : (past : List Line) → IsSound (facts_at past) → IsClosed past → IsLegalUpTo past (step_lines (facts_at past) commands.ShowPool)
-legal_show_pool past sound closed =
-    with_refusal commands.ShowPool past closed sound
-    (λ none. legal_plain (acts_of (facts_at past) commands.ShowPool) (lines.Do commands.ShowPool ∷ past) sound (λ line h. h ∙ sym none) (plain_pool (facts_at past)))
-
-legal_proc : (e : Enclave) (uid gid : ℕ) (past : List Line) → IsSound (facts_at past) → IsClosed past → IsLegalUpTo past (step_lines (facts_at past) (commands.Proc e uid gid))
-legal_proc e uid gid past sound closed =
-    with_refusal (commands.Proc e uid gid) past closed sound
-    (λ none. legal_plain (acts_of (facts_at past) (commands.Proc e uid gid)) (lines.Do (commands.Proc e uid gid) ∷ past) sound (λ line h. h ∙ sym none) (refl, tt))
-
-legal_alloc : (e : Enclave) (p : Pid) (at : Vpn) (pages : ℕ) (past : List Line) → IsSound (facts_at past) → IsClosed past → IsLegalUpTo past (step_lines (facts_at past) (commands.Alloc e p at pages))
+legal_alloc : (e : Enclave) (p : Pid) (at : Vpn) (pages : ℕ) (past : List Line) → IsSound (facts_at past) → IsClosed past
+    → IsLegalUpTo past (step_lines (facts_at past) (commands.Alloc e p at pages))
 legal_alloc e p at pages past sound closed =
     let G = facts_at past in
     let drawn = take pages (unused_frames G e.0) in
@@ -356,11 +339,13 @@ legal_alloc e p at pages past sound closed =
       closed = λ line h. h;
     })
 
-legal_touch : (e : Enclave) (p : Pid) (addr : ℕ) (want : Want) (past : List Line) → IsSound (facts_at past) → IsClosed past → IsLegalUpTo past (step_lines (facts_at past) (commands.Touch e p addr want))
+legal_touch : (e : Enclave) (p : Pid) (addr : ℕ) (want : Want) (past : List Line) → IsSound (facts_at past) → IsClosed past
+    → IsLegalUpTo past (step_lines (facts_at past) (commands.Touch e p addr want))
 legal_touch e p addr want past sound closed =
     with_refusal (commands.Touch e p addr want) past closed sound (λ none. by none (space_of (facts_at past) e.0 p.0 (addr / 4096)) refl)
   where
-    by : refusal_of (facts_at past) (commands.Touch e p addr want) ≡ None → (o : Option Mapping) → space_of (facts_at past) e.0 p.0 (addr / 4096) ≡ o
+    by : refusal_of (facts_at past) (commands.Touch e p addr want) ≡ None → (o : Option Mapping)
+        → space_of (facts_at past) e.0 p.0 (addr / 4096) ≡ o
         → IsLegalUpTo (lines.Do (commands.Touch e p addr want) ∷ past) (touched_lines e p (record { 0 = addr / 4096 }) o)
     by none None is = record { legal = tt; sound = sound; closed = λ line h. h ∙ sym none }
     by none (Some m) is = record {
@@ -376,18 +361,29 @@ pub record IsReady (before : ℕ) (past : List Line) : Type 0 where
   pub closed : IsClosed past
   pub fresh : before ≡ 0 → (facts_at past).own ≡ []
 
-legal_step : (before : ℕ) (c : Command) (past : List Line) → IsReady before past → may_stand before c ≡ true → IsLegalUpTo past (step_lines (facts_at past) c)
-legal_step before (commands.Pool blocks) past ready may = legal_pool blocks past (ready.fresh (eqb-true before 0 may)) ready.closed
+legal_step : (before : ℕ) (c : Command) (past : List Line) → IsReady before past → may_stand before c ≡ true
+    → IsLegalUpTo past (step_lines (facts_at past) c)
+legal_step before (commands.Pool blocks) past ready may = legal_pool blocks past (ready.fresh (eqb-true before 0 (and_parts _ _ may).0)) ready.closed
 legal_step before (commands.Host blocks ns) past ready may = legal_host blocks ns past ready.sound ready.closed
-legal_step before (commands.Proc e uid gid) past ready may = legal_proc e uid gid past ready.sound ready.closed
+legal_step before (commands.Boot kind parent blocks ns) past ready may = legal_boot kind parent blocks ns past ready.sound ready.closed
 legal_step before (commands.Alloc e p at pages) past ready may = legal_alloc e p at pages past ready.sound ready.closed
 legal_step before (commands.Touch e p addr want) past ready may = legal_touch e p addr want past ready.sound ready.closed
-legal_step before (commands.Boot kind parent blocks ns) past ready may = legal_boot kind parent blocks ns past ready.sound ready.closed
-legal_step before (commands.Deliver x y count) past ready may = legal_deliver x y count past ready.sound ready.closed
-legal_step before (commands.ShowLink x y) past ready may = legal_show x y past ready.sound ready.closed
-legal_step before commands.ShowPool past ready may = legal_show_pool past ready.sound ready.closed
+legal_step before (commands.Proc e uid gid) past ready may =
+    legal_quiet (commands.Proc e uid gid) past refl ready.sound ready.closed (tt, tt)
+legal_step before (commands.Deliver x y count) past ready may =
+    legal_quiet (commands.Deliver x y count) past refl ready.sound ready.closed (plain_deliver (facts_at past) x y count)
+legal_step before (commands.Settle most) past ready may =
+    legal_quiet (commands.Settle most) past refl ready.sound ready.closed (plain_settle most 0 (facts_at past))
+legal_step before (commands.ShowRoutes e) past ready may =
+    legal_quiet (commands.ShowRoutes e) past refl ready.sound ready.closed (plain_routes (view_of (facts_at past) e))
+legal_step before (commands.ShowLink x y) past ready may =
+    legal_quiet (commands.ShowLink x y) past refl ready.sound ready.closed (plain_show (facts_at past) x y)
+legal_step before commands.ShowPool past ready may =
+    legal_quiet commands.ShowPool past refl ready.sound ready.closed (plain_pool (facts_at past))
+legal_step before c past ready may = legal_quiet c past refl ready.sound ready.closed tt
 
-legal_journal : (cs : List Command) (before : ℕ) (G : Facts) (past : List Line) → G ≡ facts_at past → IsReady before past → IsPlacedAfter before cs → Follows IsLegalAt past (journal_from G cs)
+legal_journal : (cs : List Command) (before : ℕ) (G : Facts) (past : List Line) → G ≡ facts_at past → IsReady before past
+    → IsPlacedAfter before cs → Follows IsLegalAt past (journal_from G cs)
 legal_journal [] before G past is ready placed = tt
 legal_journal (c ∷ cs) before G past is ready placed =
     let ls = step_lines G c in

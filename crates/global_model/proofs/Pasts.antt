@@ -1,7 +1,9 @@
 -- Pasts, and the facts and laws along a journal.
-use Rattle.std.proofs.Common.{◌≡◌, List, [], ◌∷◌, ◌++◌, refl}
+use Rattle.std.proofs.Common.{◌≡◌, List, [], ◌∷◌, ◌++◌, refl, sym, ap, ◌∙◌}
+use Rattle.global_model.specs.declared.command.Command.{Command}
 use Rattle.global_model.specs.declared.line.Line.{Line}
 use Rattle.global_model.specs.Facts.{Facts, after_line, after_lines, facts_at}
+use Rattle.global_model.specs.Due.{step_lines, journal_from}
 use Rattle.global_model.specs.History.{Follows, onto}
 
 pub onto-append : (ls ms past : List Line) → onto (ls ++ ms) past ≡ onto ms (onto ls past)
@@ -16,6 +18,25 @@ pub facts_at-onto : (ls past : List Line) → facts_at (onto ls past) ≡ after_
 facts_at-onto [] past = refl
 facts_at-onto (l ∷ ls) past = facts_at-onto ls (l ∷ past)
 
-pub Follows-append : (Law : List Line → Line → Type 0) (ls ms past : List Line) → Follows Law past ls → Follows Law (onto ls past) ms → Follows Law past (ls ++ ms)
+pub Follows-append : (Law : List Line → Line → Type 0) (ls ms past : List Line) → Follows Law past ls → Follows Law (onto ls past) ms
+    → Follows Law past (ls ++ ms)
 Follows-append Law [] ms past f g = g
 Follows-append Law (l ∷ ls) ms past f g = (f.0, Follows-append Law ls ms (l ∷ past) f.1 g)
+
+-- ---- several commands
+
+-- the facts after commands
+abbrev pub facts_by : Facts → List Command → Facts
+facts_by G cs = after_lines G (journal_from G cs)
+
+pub facts_by-cons : (G : Facts) (c : Command) (cs : List Command) → facts_by G (c ∷ cs) ≡ facts_by (after_lines G (step_lines G c)) cs
+facts_by-cons G c cs = after_lines-append G (step_lines G c) (journal_from (after_lines G (step_lines G c)) cs)
+
+-- the last command's lines come after those of the others
+pub facts_by-more : (G : Facts) (cs : List Command) (c : Command)
+    → facts_by G (cs ++ c ∷ []) ≡ after_lines (facts_by G cs) (step_lines (facts_by G cs) c)
+facts_by-more G [] c = facts_by-cons G c []
+facts_by-more G (first ∷ cs) c =
+    let H = after_lines G (step_lines G first) in
+    facts_by-cons G first (cs ++ c ∷ []) ∙ facts_by-more H cs c
+    ∙ ap (λ K. after_lines K (step_lines K c)) (sym (facts_by-cons G first cs))

@@ -1,66 +1,88 @@
--- Plain lines: they begin no command, are no refusal, and leave the blocks and the own pages alone.
-use Rattle.std.proofs.Common.{◌≡◌, ◌+◌, ℕ, zero, suc, List, [], ◌∷◌, ◌++◌, length, map, Bool, true, false, not, ◌&&◌, Option, if◌then◌else◌, refl}
+-- Plain lines: they begin no command, are no refusal, leave the blocks and the own pages alone, and have a spelling, but for the
+-- records that they send.
+use Rattle.std.proofs.Common.{◌+◌, ℕ, zero, suc, List, [], ◌∷◌, ◌++◌, length, map, Bool, Option, None, Some, if◌then◌else◌}
 use Rattle.std.specs.Prelude.{◌==◌, min}
 use Rattle.std.specs.List.{range_with_len}
+use Rattle.std.specs.Option.{option_map_or}
 use Rattle.xm_num.specs.declared.Enclave.{Enclave}
+use Rattle.xm_num.specs.Rows.{at}
 use Rattle.xemem_wire.specs.declared.format.Record.{Record}
-use Rattle.xemem_wire.specs.declared.format.Body.{Body}
-use Rattle.xemem_wire.specs.declared.format.Body.TheVariants as bodies
 use Rattle.global_model.specs.declared.line.Line.{Line}
 use Rattle.global_model.specs.declared.line.Line.TheVariants as lines
-use Rattle.global_model.specs.Facts.{Facts, BlockFact, Absent, Free, Lent, Held, after_line, after_lines}
+use Rattle.global_model.specs.Ranges.{IsSpelled}
+use Rattle.global_model.specs.Facts.{Facts, after_line, after_lines}
 use Rattle.global_model.specs.Channels.{waiting_bytes, arriving}
 use Rattle.global_model.specs.View.{View, view_of}
-use Rattle.global_model.specs.Steps.{host, knows_way, is_for, is_stray, query_of, here_of, register_of, admit_of, drop_lines, query_lines, here_lines, register_lines, admit_lines, body_lines, record_lines, child_lines, told_lines, adopt_lines, state_line, state_lines}
-use Rattle.global_model.specs.Due.{got_lines, took_lines, deliver_lines, bytes_lines, show_lines}
+use Rattle.global_model.specs.Steps.{host, knows_way, query_of, record_lines, child_lines, told_lines, adopt_lines, route_lines, state_lines}
+use Rattle.global_model.specs.Due.{got_lines, took_lines, deliver_lines, show_lines, next_rest, first_waiting, settle_end, settle_from}
+use Rattle.global_model.proofs.Tells.{MayTell, tells_told, tells_bytes, tells_end, tells_routes, tells_states}
+use Rattle.global_model.proofs.Writes.{EachIs, each-append, each_either, writes_record}
 
-abbrev pub is_plain : Line → Bool
-is_plain (lines.Do command) = false
-is_plain (lines.Refused cause) = false
-is_plain (lines.Born e kind parent ns blocks) = false
-is_plain (lines.Alloc e p at frames) = false
-is_plain (lines.Touched e p page frame) = false
-is_plain line = true
+-- the line has a spelling, but perhaps for the record that it sends
+abbrev pub IsTellable : Line → Type 0
+IsTellable (lines.Sent x y r) = Unit {0}
+IsTellable line = IsSpelled line
+
+abbrev pub IsPlain : Line → Type 0
+IsPlain (lines.Do command) = ⊥
+IsPlain (lines.Refused cause) = ⊥
+IsPlain (lines.Born e kind parent ns blocks) = ⊥
+IsPlain (lines.Alloc e p at frames) = ⊥
+IsPlain (lines.Touched e p page frame) = ⊥
+IsPlain line = IsTellable line
 
 abbrev pub ArePlain : List Line → Type 0
-ArePlain [] = Unit {0}
-ArePlain (line ∷ journal) = (is_plain line ≡ true) × ArePlain journal
+ArePlain journal = EachIs IsPlain journal
 
-pub plain-append : (ls ms : List Line) → ArePlain ls → ArePlain ms → ArePlain (ls ++ ms)
-plain-append [] ms first more = more
-plain-append (l ∷ ls) ms first more = (first.0, plain-append ls ms first.1 more)
+plain-append : (ls ms : List Line) → ArePlain ls → ArePlain ms → ArePlain (ls ++ ms)
+plain-append ls ms first more = each-append IsPlain ls ms first more
 
 plain_either : (b : Bool) (ls ms : List Line) → ArePlain ls → ArePlain ms → ArePlain (if b then ls else ms)
-plain_either true ls ms left right = left
-plain_either false ls ms left right = right
+plain_either b ls ms left right = each_either IsPlain b ls ms left right
 
--- ---- what is written for a record
+plain_option : {A : Type 0} (f : A → List Line) (found : Option A) (none : List Line)
+    → ((x : A) → ArePlain (f x)) → ArePlain none → ArePlain (option_map_or f found none)
+plain_option f None none some plain = plain
+plain_option f (Some x) none some plain = some x
 
-plain_drop : (v : View) → ArePlain (drop_lines v)
-plain_drop v = (refl, tt)
+-- what each of the lines has, each also has where it follows
+pub each-weaker : (P Q : Line → Type 0) → ((line : Line) → P line → Q line) → (ls : List Line) → EachIs P ls → EachIs Q ls
+each-weaker P Q h [] all = tt
+each-weaker P Q h (l ∷ ls) all = (h l all.0, each-weaker P Q h ls all.1)
 
-plain_query : (v : View) (from : Enclave) → ArePlain (query_lines v from)
-plain_query v from = plain_either (knows_way v) (lines.Sent v.me from (here_of v.me) ∷ []) (drop_lines v) (refl, tt) (plain_drop v)
+-- what is told beside records is plain
+plain_tells : MayTell IsPlain
+plain_tells = record {
+  told = λ e d. tt;
+  bytes = λ x y at bytes some most. (some, most);
+  settled = λ made. tt;
+  waiting = λ made. tt;
+  own = λ e. tt;
+  none = λ e. tt;
+  way = λ e over. tt;
+  route = λ e d over. tt;
+  free = λ b. tt;
+  lent = λ b e. tt;
+  held = λ b e. tt;
+}
 
-plain_here : (v : View) (from : Enclave) → ArePlain (here_lines v from)
-plain_here v from = plain_either (knows_way v) (drop_lines v) (lines.Way v.me from ∷ lines.Sent v.me from (register_of v.me) ∷ []) (plain_drop v) (refl, (refl, tt))
-
-plain_register : (v : View) (from of : Enclave) → ArePlain (register_lines v from of)
-plain_register v from of =
-    plain_either v.holder (lines.Back v.me of from ∷ lines.Route v.me of from ∷ lines.Sent v.me from (admit_of v.me of) ∷ []) (drop_lines v) (refl, (refl, (refl, tt))) (plain_drop v)
-
-plain_admit : (v : View) (dest : Option Enclave) → ArePlain (admit_lines v dest)
-plain_admit v dest = plain_either (is_for v dest && not v.admitted) (lines.Admitted v.me ∷ []) (drop_lines v) (refl, tt) (plain_drop v)
-
-plain_body : (v : View) (from : Enclave) (r : Record) (body : Body) → ArePlain (body_lines v from r body)
-plain_body v from r bodies.Query = plain_query v from
-plain_body v from r bodies.Here = plain_here v from
-plain_body v from r bodies.Register = plain_register v from r.origin
-plain_body v from r bodies.Admit = plain_admit v r.dest
-plain_body v from r _ = plain_drop v
-
+-- what is written for a record, whatever the enclave knows and is sent
 plain_record : (v : View) (from : Enclave) (r : Record) → ArePlain (record_lines v from r)
-plain_record v from r = plain_either (is_stray v r) (drop_lines v) (body_lines v from r r.body) (plain_drop v) (plain_body v from r r.body)
+plain_record v from r =
+    writes_record IsPlain (λ x. Unit {0}) (λ sent. Unit {0}) v
+    (record {
+      dropped = tt;
+      admitted = tt;
+      asked = λ x near. tt;
+      way = λ x near. tt;
+      back = λ d x near. tt;
+      route = λ d x near. tt;
+      sent = λ x sent near good. tt;
+    })
+    from r
+    (record { way = λ x is. tt; askers = λ k d lt. tt; backs = λ k d lt. tt })
+    tt
+    (record { here = tt; register = tt; admit = tt; passed = tt })
 
 -- ---- the lines of the commands over channels
 
@@ -68,53 +90,53 @@ plain_got : (G : Facts) (x y : Enclave) (rs : List Record) → ArePlain (got_lin
 plain_got G x y [] = tt
 plain_got G x y (r ∷ rs) =
     let own = lines.Got x y ∷ record_lines (view_of G y) x r in
-    plain-append own (got_lines (after_lines G own) x y rs) (refl, plain_record (view_of G y) x r) (plain_got (after_lines G own) x y rs)
+    plain-append own (got_lines (after_lines G own) x y rs) (tt, plain_record (view_of G y) x r) (plain_got (after_lines G own) x y rs)
 
 plain_took : (G : Facts) (x y : Enclave) (count : ℕ) → ArePlain (took_lines G x y count)
-plain_took G x y count = let H = after_line G (lines.Took x y count) in (refl, plain_got H x y (arriving (H.channel x.0 y.0)))
+plain_took G x y count = let H = after_line G (lines.Took x y count) in (tt, plain_got H x y (arriving (H.channel x.0 y.0)))
 
 pub plain_deliver : (G : Facts) (x y : Enclave) (count : ℕ) → ArePlain (deliver_lines G x y count)
 plain_deliver G x y count =
     let waiting = length (waiting_bytes G x.0 y.0) in
-    plain_either (waiting == 0) (lines.Idle x y ∷ []) (took_lines G x y (min count waiting)) (refl, tt) (plain_took G x y (min count waiting))
+    plain_either (waiting == 0) (lines.Idle x y ∷ []) (took_lines G x y (min count waiting)) (tt, tt) (plain_took G x y (min count waiting))
 
-plain_bytes : (x y : Enclave) (most at : ℕ) (bytes : List ℕ) → ArePlain (bytes_lines x y most at bytes)
-plain_bytes x y zero at bytes = tt
-plain_bytes x y (suc most) at [] = tt
-plain_bytes x y (suc most) at (byte ∷ bytes) = (refl, plain_bytes x y most _ _)
+pub plain_settle : (left made : ℕ) (G : Facts) → ArePlain (settle_from left made G)
+plain_settle zero made G = (tells_end IsPlain plain_tells G made, tt)
+plain_settle (suc left) made G =
+    plain_option _ (first_waiting G) (settle_end G made ∷ [])
+    (λ channel.
+    let own = deliver_lines G channel.0 channel.1 (next_rest G channel.0 channel.1) in
+    let H = after_lines G own in
+    plain-append own (settle_from left (made + 1) H) (plain_deliver G channel.0 channel.1 _) (plain_settle left (made + 1) H))
+    (tells_end IsPlain plain_tells G made, tt)
 
 pub plain_show : (G : Facts) (x y : Enclave) → ArePlain (show_lines G x y)
-plain_show G x y = plain_bytes x y _ 0 _
+plain_show G x y = tells_bytes IsPlain plain_tells x y _ 0 _
+
+-- ---- births
 
 plain_child : (child parent : Enclave) (ns : Bool) → ArePlain (child_lines child parent ns)
-plain_child child parent ns = plain_either ns (lines.Admitted child ∷ []) (lines.Sent child parent (query_of child) ∷ []) (refl, tt) (refl, tt)
-
-plain_told : (child : Enclave) (heard : List Enclave) → ArePlain (told_lines child heard)
-plain_told child [] = tt
-plain_told child (d ∷ heard) = (refl, plain_told child heard)
+plain_child child parent ns = plain_either ns (lines.Admitted child ∷ []) (lines.Sent child parent (query_of child) ∷ []) (tt, tt) (tt, tt)
 
 plain_adopt : (v : View) (child : Enclave) → ArePlain (adopt_lines v child)
-plain_adopt v child = plain_either (knows_way v) [] (lines.Sent v.me child (query_of v.me) ∷ []) tt (refl, tt)
+plain_adopt v child = plain_either (knows_way v) [] (lines.Sent v.me child (query_of v.me) ∷ []) tt (tt, tt)
 
 -- what follows a birth: the deaths of which the child is told, its own lines, and its parent's
-pub plain_birth : (child parent : Enclave) (ns : Bool) (heard : List Enclave) (v : View) → ArePlain ((told_lines child heard ++ child_lines child parent ns) ++ adopt_lines v child)
+pub plain_birth : (child parent : Enclave) (ns : Bool) (heard : List Enclave) (v : View)
+    → ArePlain ((told_lines child heard ++ child_lines child parent ns) ++ adopt_lines v child)
 plain_birth child parent ns heard v =
     plain-append (told_lines child heard ++ child_lines child parent ns) (adopt_lines v child)
-    (plain-append (told_lines child heard) (child_lines child parent ns) (plain_told child heard) (plain_child child parent ns))
+    (plain-append (told_lines child heard) (child_lines child parent ns) (tells_told IsPlain plain_tells child heard)
+    (plain_child child parent ns))
     (plain_adopt v child)
 
 pub plain_host : (ns : Bool) → ArePlain (if ns then lines.Admitted host ∷ [] else [])
-plain_host ns = plain_either ns (lines.Admitted host ∷ []) [] (refl, tt) tt
+plain_host ns = plain_either ns (lines.Admitted host ∷ []) [] (tt, tt) tt
 
-plain_state : (b : ℕ) (s : BlockFact) → ArePlain (state_line b s)
-plain_state b Absent = tt
-plain_state b Free = (refl, tt)
-plain_state b (Lent e) = (refl, tt)
-plain_state b (Held e) = (refl, tt)
+-- ---- what is shown
 
-plain_states : (b : ℕ) (ss : List BlockFact) → ArePlain (state_lines b ss)
-plain_states b [] = tt
-plain_states b (s ∷ ss) = plain-append (state_line b s) (state_lines (b + 1) ss) (plain_state b s) (plain_states (b + 1) ss)
+pub plain_routes : (v : View) → ArePlain (route_lines v)
+plain_routes v = tells_routes IsPlain plain_tells v
 
 pub plain_pool : (G : Facts) → ArePlain (state_lines 0 (map G.block (range_with_len 0 G.pool)))
-plain_pool G = plain_states 0 (map G.block (range_with_len 0 G.pool))
+plain_pool G = tells_states IsPlain plain_tells 0 (map G.block (range_with_len 0 G.pool))

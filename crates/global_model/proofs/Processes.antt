@@ -17,7 +17,7 @@ use Rattle.global_model.specs.Space.{is_of, own_page, pages_of, unused_frames}
 use Rattle.global_model.specs.View.{ProcessView, user_of, process_of, view_of, new_process, with_pages}
 use Rattle.global_model.proofs.Runs.{map_run-same, run-more, set_run}
 use Rattle.global_model.proofs.Kept.{IsKnown, IsOwner, IsOwning}
-use Rattle.global_model.proofs.Shown.{IsShown, same_view, shown_here, shown_elsewhere}
+use Rattle.global_model.proofs.Shown.{IsShown, shown_here, shown_elsewhere}
 use Rattle.global_model.proofs.Pages.{pages_more, unused_others, unused_rest}
 
 -- a line at one enclave: what it changes there, and that it changes nothing elsewhere
@@ -77,36 +77,10 @@ pub shown_proc : (G : Facts) (e : Enclave) (p : Pid) (uid gid : ℕ) (k : Enclav
 shown_proc G e p uid gid k known next = shown_at G e k (lines.Proc e p uid gid) own others
   where
     own : IsShown G e (lines.Proc e p uid gid)
-    own = shown_here G e (lines.Proc e p uid gid) (eq-eqb e.0 e.0 refl) (same_view _ _ (record {
-      me = refl;
-      kind = refl;
-      parent = refl;
-      blocks = refl;
-      holder = refl;
-      admitted = refl;
-      heard = refl;
-      way = refl;
-      free = refl;
-      processes = processes_started G e p uid gid known next;
-      children = refl;
-      host = refl;
-    }))
+    own = shown_here G e (lines.Proc e p uid gid) (eq-eqb e.0 e.0 refl) (λ i. record (view_of G e) { processes = processes_started G e p uid gid known next i })
 
     others : e.0 ≢ k.0 → IsShown G k (lines.Proc e p uid gid)
-    others apart = shown_elsewhere G k (lines.Proc e p uid gid) (ne_eqb e.0 k.0 apart) (same_view _ _ (record {
-      me = refl;
-      kind = refl;
-      parent = refl;
-      blocks = refl;
-      holder = refl;
-      admitted = refl;
-      heard = refl;
-      way = refl;
-      free = refl;
-      processes = starts_elsewhere G e p uid gid k apart;
-      children = refl;
-      host = refl;
-    }))
+    others apart = shown_elsewhere G k (lines.Proc e p uid gid) (ne_eqb e.0 k.0 apart) (λ i. record (view_of G k) { processes = starts_elsewhere G e p uid gid k apart i })
 
 -- ---- an allocation
 
@@ -153,33 +127,9 @@ shown_alloc G e p page frames k owning = shown_at G e k (lines.Alloc e p page fr
     rest = subst (λ fs. unused_frames (with_alloc G e p page fs) e.0 ≡ drop (length fs) (unused_frames G e.0)) (sym owning.lowest) (unused_rest G e p page owning.count)
 
     own : IsShown G e (lines.Alloc e p page frames)
-    own = shown_here G e (lines.Alloc e p page frames) (eq-eqb e.0 e.0 refl) (same_view _ _ (record {
-      me = refl;
-      kind = refl;
-      parent = refl;
-      blocks = refl;
-      holder = refl;
-      admitted = refl;
-      heard = refl;
-      way = refl;
-      free = rest;
-      processes = processes_get G e p page frames owning;
-      children = refl;
-      host = refl;
-    }))
+    own = shown_here G e (lines.Alloc e p page frames) (eq-eqb e.0 e.0 refl) (λ i. record (view_of G e) { free = rest i; processes = processes_get G e p page frames owning i })
 
     others : e.0 ≢ k.0 → IsShown G k (lines.Alloc e p page frames)
-    others apart = shown_elsewhere G k (lines.Alloc e p page frames) (ne_eqb e.0 k.0 apart) (same_view _ _ (record {
-      me = refl;
-      kind = refl;
-      parent = refl;
-      blocks = refl;
-      holder = refl;
-      admitted = refl;
-      heard = refl;
-      way = refl;
-      free = unused_others G e p page frames k.0 apart;
-      processes = processes_others G e p page frames k apart;
-      children = refl;
-      host = refl;
-    }))
+    others apart =
+        let free = unused_others G e p page frames k.0 apart in
+        shown_elsewhere G k (lines.Alloc e p page frames) (ne_eqb e.0 k.0 apart) (λ i. record (view_of G k) { free = free i; processes = processes_others G e p page frames k apart i })

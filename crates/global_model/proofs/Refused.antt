@@ -12,7 +12,8 @@ use Rattle.global_model.specs.Space.{Mapping, space_of, allows}
 use Rattle.global_model.specs.Refusals.{Condition, when, denies, first_cause, refusal_of}
 
 -- no condition of it holds
-pub no_condition : (cause : Cause) (holds : Bool) (others : List Condition) → first_cause (when cause holds ∷ others) ≡ None → (holds ≡ false) × (first_cause others ≡ None)
+pub no_condition : (cause : Cause) (holds : Bool) (others : List Condition) → first_cause (when cause holds ∷ others) ≡ None
+    → (holds ≡ false) × (first_cause others ≡ None)
 no_condition cause true others none = cc
 no_condition cause false others none = (refl, none)
 
@@ -21,7 +22,8 @@ not_false true is = refl
 not_false false is = cc
 
 -- the mapping of a touched page allows what was wanted
-pub touch_allowed : (G : Facts) (e : Enclave) (p : Pid) (addr : ℕ) (want : Want) (m : Mapping) → refusal_of G (commands.Touch e p addr want) ≡ None → space_of G e.0 p.0 (addr / 4096) ≡ Some m → allows m.access want ≡ true
+pub touch_allowed : (G : Facts) (e : Enclave) (p : Pid) (addr : ℕ) (want : Want) (m : Mapping)
+    → refusal_of G (commands.Touch e p addr want) ≡ None → space_of G e.0 p.0 (addr / 4096) ≡ Some m → allows m.access want ≡ true
 touch_allowed G e p addr want m none is =
     let found = space_of G e.0 p.0 (addr / 4096) in
     let fourth = when causes.Denied (denies want found) ∷ [] in

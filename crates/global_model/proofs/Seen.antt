@@ -1,25 +1,26 @@
 -- The lines of a command change each view by itself; who isn't born knows nothing.
-use Rattle.std.proofs.Common.{◌≡◌, ◌+◌, ◌*◌, ◌<◌, ◌≤◌, ℕ, List, [], ◌∷◌, ◌++◌, length, map, Bool, true, false, cond, not, eqb, ltb, None, refl, sym, ap, ◌∙◌, subst, inl, inr, arith}
-use Rattle.std.proofs.Math.Bool.{and-false}
+use Rattle.std.proofs.Common.{◌≡◌, ◌+◌, ◌*◌, ◌<◌, ◌≤◌, ℕ, List, [], ◌∷◌, ◌++◌, length, map, Bool, true, false, cond, eqb, None, refl, sym, ap, ◌∙◌, subst, inl, inr, arith}
 use Rattle.std.specs.List.{range_with_len}
-use Rattle.std.proofs.lemmas.Bool.{cases_eq, ne_eqb, lt-ltb}
+use Rattle.std.proofs.lemmas.Bool.{cases_eq, ne_eqb, false_from_ne_true}
 use Rattle.xm_num.specs.declared.Enclave.{Enclave}
 use Rattle.global_model.specs.declared.command.Command.{Command}
 use Rattle.global_model.specs.declared.command.Command.TheVariants as commands
 use Rattle.global_model.specs.declared.line.Line.{Line}
 use Rattle.global_model.specs.declared.line.Line.TheVariants as lines
-use Rattle.global_model.specs.Facts.{Facts, BlockFact, Absent, Free, Lent, Held, no_facts, facts_after, is_living_enclave, after_line, after_lines}
+use Rattle.global_model.specs.Facts.{Facts, BlockFact, Absent, Free, Lent, Held, no_facts, facts_after, fact_of, is_living_enclave, after_line, after_lines}
 use Rattle.global_model.specs.Channels.{is_child_of}
 use Rattle.global_model.specs.Space.{is_unused, frame_list}
-use Rattle.global_model.specs.View.{View, fact_of, process_of, child_row, no_host, view_of, is_at, seen_lines}
+use Rattle.global_model.specs.View.{View, process_of, child_row, no_host, view_of, is_at, seen_lines}
 use Rattle.global_model.specs.Known.{free_pool, unborn_view}
-use Rattle.global_model.specs.Scenario.{may_stand, IsPlacedAfter, IsPlaced}
+use Rattle.global_model.specs.Place.{may_stand, IsPlacedAfter, IsPlaced}
 use Rattle.global_model.specs.Due.{step_lines, journal_of}
+use Rattle.global_model.proofs.Tree.{child_under, born_living}
 use Rattle.global_model.proofs.Runs.{map_run-same, filter_run-none}
 use Rattle.global_model.proofs.Kept.{IsKnown, IsOfPool, no_fact, IsApt, AreApt, known_line}
 use Rattle.global_model.proofs.Apt.{IsReady, apt_step}
-use Rattle.global_model.proofs.Journeys.{pool_facts, ready_pool, first_is_pool, facts_by, facts_by-cons, facts_by-more, IsLast, placed_last, ready_by}
-use Rattle.global_model.proofs.Shown.{IsShown, same_view, shown_admitted, shown_way}
+use Rattle.global_model.proofs.Pasts.{facts_by, facts_by-cons, facts_by-more}
+use Rattle.global_model.proofs.Journeys.{pool_facts, ready_pool, first_is_pool, IsLast, placed_last, ready_by}
+use Rattle.global_model.proofs.Shown.{IsShown, same_view, shown_admitted, shown_asked, shown_way, shown_back, shown_route}
 use Rattle.global_model.proofs.Processes.{shown_proc, shown_alloc}
 use Rattle.global_model.proofs.Births.{shown_born}
 
@@ -34,10 +35,13 @@ shown_line : (G : Facts) (line : Line) (k : Enclave) → IsKnown G → IsApt G l
 shown_line G (lines.Do (commands.Pool blocks)) k known apt = absurd apt
 shown_line G (lines.Born e kind parent ns blocks) k known apt = shown_born G e kind parent ns blocks known apt k
 shown_line G (lines.Told e of) k known apt = absurd apt
-shown_line G (lines.Admitted e) k known apt = shown_admitted G e k ((known.star.enclaves e.0).living ∙ lt-ltb e.0 G.born apt)
+shown_line G (lines.Admitted e) k known apt = shown_admitted G e k (born_living G e.0 known.tree apt)
 shown_line G (lines.Proc e p uid gid) k known apt = shown_proc G e p uid gid k known apt.1
 shown_line G (lines.Alloc e p page frames) k known apt = shown_alloc G e p page frames k apt
+shown_line G (lines.Asked e by) k known apt = shown_asked G e by k
 shown_line G (lines.Way e over) k known apt = shown_way G e over k
+shown_line G (lines.Back e of over) k known apt = shown_back G e of over k
+shown_line G (lines.Route e of over) k known apt = shown_route G e of over k
 shown_line G line k known apt = unmoved (is_at k line) (view_of G k)
 
 seen_by : (ls : List Line) (G : Facts) (k : Enclave) → IsKnown G → AreApt G ls → view_of (after_lines G ls) k ≡ seen_lines (view_of G k) ls
@@ -111,7 +115,10 @@ unborn_known G known e le =
       holder = ap (λ o. (fact_of o).ns) fact;
       admitted = ap (λ o. (fact_of o).admitted) fact;
       heard = known.heard e.0;
-      way = known.way e.0 le;
+      way = known.unaware.no_way e.0 le;
+      askers = known.unaware.no_askers e.0 le;
+      backs = known.unaware.no_backs e.0 le;
+      routes = known.unaware.no_routes e.0 le;
       free = ap frame_list (filter_run-none (is_unused G e.0) 0 (64 * G.pool) (λ f low high. rw dead refl));
       processes = ap (λ n. map (process_of G e.0) (range_with_len 1 n)) (known.started e.0 le);
       children = ap (map (child_row G)) (filter_run-none (λ c. is_child_of G c e.0) 0 G.born (λ c low high. childless c (omega (arith, high))));
@@ -119,6 +126,4 @@ unborn_known G known e le =
     })
   where
     childless : (c : ℕ) → c < G.born → is_child_of G c e.0 ≡ false
-    childless c born =
-        let stranger : eqb 0 e.0 ≡ false = ne_eqb 0 e.0 (omega (arith, le, born)) in
-        rw ((known.star.enclaves c).parent e.0, stranger, and-false (ltb c G.born)) (and-false (not (eqb c 0)))
+    childless c born = false_from_ne_true (is_child_of G c e.0) (λ is. let under = child_under G c e.0 known.tree is in omega (arith, under.above, born, le))

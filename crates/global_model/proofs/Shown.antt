@@ -5,9 +5,9 @@ use Rattle.std.proofs.lemmas.Bool.{cases_eq, eq-eqb, ne_eqb, eqb-true}
 use Rattle.xm_num.specs.declared.Enclave.{Enclave}
 use Rattle.global_model.specs.declared.line.Line.{Line}
 use Rattle.global_model.specs.declared.line.Line.TheVariants as lines
-use Rattle.global_model.specs.Facts.{Facts, EnclaveFact, as_admitted, has_parent, is_lent_to, is_living_enclave, after_line}
+use Rattle.global_model.specs.Facts.{Facts, EnclaveFact, as_admitted, has_parent, is_lent_to, fact_of, is_living_enclave, after_line}
 use Rattle.global_model.specs.Space.{is_own_frame, frame_list}
-use Rattle.global_model.specs.View.{View, fact_of, no_host, view_of, own_line, is_at}
+use Rattle.global_model.specs.View.{View, no_host, view_of, own_line, is_at}
 
 -- ---- views with the same parts
 
@@ -20,6 +20,9 @@ pub record AreAlike (v w : View) : Type 0 where
   pub admitted : v.admitted ≡ w.admitted
   pub heard : v.heard ≡ w.heard
   pub way : v.way ≡ w.way
+  pub askers : v.askers ≡ w.askers
+  pub backs : v.backs ≡ w.backs
+  pub routes : v.routes ≡ w.routes
   pub free : v.free ≡ w.free
   pub processes : v.processes ≡ w.processes
   pub children : v.children ≡ w.children
@@ -35,6 +38,9 @@ same_view v w are = λ i. record {
   admitted = are.admitted i;
   heard = are.heard i;
   way = are.way i;
+  askers = are.askers i;
+  backs = are.backs i;
+  routes = are.routes i;
   free = are.free i;
   processes = are.processes i;
   children = are.children i;
@@ -108,6 +114,9 @@ admitted_view G a e mark is =
       admitted = is;
       heard = refl;
       way = refl;
+      askers = refl;
+      backs = refl;
+      routes = refl;
       free = λ i. frame_list (filter (λ f. alive i && is_lent_to e.0 (G.block (f / 64)) && not (is_own_frame G e.0 f)) (range_with_len 0 (64 * G.pool)));
       processes = refl;
       children = λ i. map (λ c. (c, kinds c i)) (filter (λ c. not (eqb c 0) && family c i) (range_with_len 0 G.born));
@@ -132,8 +141,31 @@ shown_admitted G a e living =
           rw elsewhere (admitted_view G a e (fact_of (G.enclave e.0)).admitted mark)
     ]
 
+-- ---- what is known of ways
+
+pub shown_asked : (G : Facts) (a by e : Enclave) → IsShown G e (lines.Asked a by)
+shown_asked G a by e =
+    elim (cases_eq a.0 e.0) [
+      | inl same ↦ rw (same, eq-eqb e.0 e.0 refl) refl
+      | inr apart ↦ rw (ne_eqb a.0 e.0 apart, ne_eqb e.0 a.0 (λ same. apart (sym same))) refl
+    ]
+
 pub shown_way : (G : Facts) (a over e : Enclave) → IsShown G e (lines.Way a over)
 shown_way G a over e =
+    elim (cases_eq a.0 e.0) [
+      | inl same ↦ rw (same, eq-eqb e.0 e.0 refl) refl
+      | inr apart ↦ rw (ne_eqb a.0 e.0 apart, ne_eqb e.0 a.0 (λ same. apart (sym same))) refl
+    ]
+
+pub shown_back : (G : Facts) (a of over e : Enclave) → IsShown G e (lines.Back a of over)
+shown_back G a of over e =
+    elim (cases_eq a.0 e.0) [
+      | inl same ↦ rw (same, eq-eqb e.0 e.0 refl) refl
+      | inr apart ↦ rw (ne_eqb a.0 e.0 apart, ne_eqb e.0 a.0 (λ same. apart (sym same))) refl
+    ]
+
+pub shown_route : (G : Facts) (a of over e : Enclave) → IsShown G e (lines.Route a of over)
+shown_route G a of over e =
     elim (cases_eq a.0 e.0) [
       | inl same ↦ rw (same, eq-eqb e.0 e.0 refl) refl
       | inr apart ↦ rw (ne_eqb a.0 e.0 apart, ne_eqb e.0 a.0 (λ same. apart (sym same))) refl

@@ -1,22 +1,13 @@
 -- Exactly one journal is told and whole for given commands.
-use Rattle.std.proofs.Common.{◌≡◌, ◌+◌, ℕ, zero, suc, List, [], ◌∷◌, ◌++◌, drop, Bool, true, false, Option, None, Some, refl, sym, ap, ◌∙◌, subst, arith, add-one, append_assoc, append-nil}
+use Rattle.std.proofs.Common.{◌≡◌, ◌+◌, ℕ, zero, suc, List, [], ◌∷◌, ◌++◌, drop, Bool, true, false, None, Some, refl, sym, ap, ◌∙◌, subst, arith, add-one, append_assoc, append-nil}
 use Rattle.std.specs.List.{slice_get}
-use Rattle.std.specs.Option.{option_map_or}
-use Rattle.xm_num.specs.declared.Enclave.{Enclave}
-use Rattle.xm_num.specs.declared.Pid.{Pid}
-use Rattle.xm_num.specs.declared.Vpn.{Vpn}
-use Rattle.xm_num.specs.declared.Cause.{Cause}
 use Rattle.global_model.specs.declared.command.Command.{Command}
-use Rattle.global_model.specs.declared.command.Command.TheVariants as commands
 use Rattle.global_model.specs.declared.line.Line.{Line}
 use Rattle.global_model.specs.declared.line.Line.TheVariants as lines
 use Rattle.global_model.specs.Facts.{Facts, after_lines, facts_at, no_facts}
-use Rattle.global_model.specs.Space.{Mapping}
-use Rattle.global_model.specs.View.{view_of}
-use Rattle.global_model.specs.Refusals.{refusal_of}
-use Rattle.global_model.specs.Due.{next_enclave, touched_lines, acts_of, command_lines, step_lines, journal_from, journal_of, due_since, due_line}
+use Rattle.global_model.specs.Due.{command_lines, step_lines, journal_from, journal_of, due_since, due_line}
 use Rattle.global_model.specs.History.{Follows, IsDueAt, IsTold, IsWhole, onto, do_commands}
-use Rattle.global_model.proofs.Plain.{is_plain, ArePlain, plain_host, plain_deliver, plain_show, plain_birth, plain_pool}
+use Rattle.global_model.proofs.Acts.{IsAct, AreActs, command_lines-acts}
 use Rattle.global_model.proofs.Pasts.{onto-append, after_lines-append, facts_at-onto, Follows-append}
 
 -- ---- lines that begin no command
@@ -25,43 +16,10 @@ pub is_do : Line → Bool
 is_do (lines.Do command) = true
 is_do line = false
 
-abbrev pub AreActs : List Line → Type 0
-AreActs [] = Unit {0}
-AreActs (line ∷ journal) = (is_do line ≡ false) × AreActs journal
-
-plain_no_do : (line : Line) → is_plain line ≡ true → is_do line ≡ false
+no_do : (line : Line) → IsAct line → is_do line ≡ false
 unfolding is_do
-plain_no_do (lines.Do command) plain = cc
-plain_no_do _ plain = refl
-
-acts_touched : (e : Enclave) (p : Pid) (page : Vpn) (mapping : Option Mapping) → AreActs (touched_lines e p page mapping)
-unfolding is_do
-acts_touched e p page None = tt
-acts_touched e p page (Some found) = (refl, tt)
-
-acts_plain : (ls : List Line) → ArePlain ls → AreActs ls
-acts_plain [] plain = tt
-acts_plain (l ∷ ls) plain = (plain_no_do l plain.0, acts_plain ls plain.1)
-
-acts_of-acts : (G : Facts) (command : Command) → AreActs (acts_of G command)
-unfolding is_do
-acts_of-acts G (commands.Pool blocks) = tt
-acts_of-acts G (commands.Host blocks ns) = (refl, acts_plain _ (plain_host ns))
-acts_of-acts G (commands.Proc e uid gid) = (refl, tt)
-acts_of-acts G (commands.Alloc e p at pages) = (refl, tt)
-acts_of-acts G (commands.Touch e p addr want) = acts_touched e p _ _
-acts_of-acts G (commands.Boot kind parent blocks ns) = (refl, acts_plain _ (plain_birth (next_enclave G) parent ns (G.heard parent.0) (view_of G parent)))
-acts_of-acts G (commands.Deliver x y count) = acts_plain _ (plain_deliver G x y count)
-acts_of-acts G (commands.ShowLink x y) = acts_plain _ (plain_show G x y)
-acts_of-acts G commands.ShowPool = acts_plain _ (plain_pool G)
-
-refused_or_acts : (cause : Option Cause) (acts : List Line) → AreActs acts → AreActs (option_map_or (λ c. lines.Refused c ∷ []) cause acts)
-unfolding is_do
-refused_or_acts None acts h = h
-refused_or_acts (Some c) acts h = (refl, tt)
-
-pub command_lines-acts : (G : Facts) (command : Command) → AreActs (command_lines G command)
-command_lines-acts G command = refused_or_acts (refusal_of G command) (acts_of G command) (acts_of-acts G command)
+no_do (lines.Do command) act = absurd act
+no_do _ act = refl
 
 -- ---- what is due after a past
 
@@ -131,9 +89,9 @@ told_acts : (journal past : List Line) → rest_of past ≡ journal → AreActs 
 told_acts [] past rest acts = record { told = tt; whole = rest }
 told_acts (line ∷ journal) past rest acts =
     let due : due_line past ≡ Some line = due_line-first past ∙ ap (λ ls. slice_get ls 0) rest in
-    let less : rest_of (line ∷ past) ≡ journal = rest_of-act line past acts.0 ∙ ap (drop 1) rest in
+    let less : rest_of (line ∷ past) ≡ journal = rest_of-act line past (no_do line acts.0) ∙ ap (drop 1) rest in
     let more = told_acts journal (line ∷ past) less acts.1 in
-    record { told = (act_is_due line past acts.0 due, more.told); whole = more.whole }
+    record { told = (act_is_due line past (no_do line acts.0) due, more.told); whole = more.whole }
 
 nothing_due : (past : List Line) → rest_of past ≡ [] → due_line past ≡ None
 nothing_due past none = due_line-first past ∙ ap (λ ls. slice_get ls 0) none
@@ -143,7 +101,8 @@ told_step command past none =
     let more = told_acts (command_lines (facts_at past) command) (lines.Do command ∷ past) (rest_of-do command past) (command_lines-acts (facts_at past) command) in
     record { told = (nothing_due past none, more.told); whole = more.whole }
 
-pub told_journal : (cs : List Command) (G : Facts) (past : List Line) → G ≡ facts_at past → rest_of past ≡ [] → IsToldUpTo past (journal_from G cs)
+pub told_journal : (cs : List Command) (G : Facts) (past : List Line) → G ≡ facts_at past → rest_of past ≡ []
+    → IsToldUpTo past (journal_from G cs)
 told_journal [] G past is none = record { told = tt; whole = none }
 told_journal (c ∷ cs) G past is none =
     let ls = step_lines G c in
@@ -172,11 +131,14 @@ do_commands-append [] ms = refl
 do_commands-append (lines.Do command ∷ ls) ms = ap (λ cs. command ∷ cs) (do_commands-append ls ms)
 do_commands-append (_ ∷ ls) ms = do_commands-append ls ms
 
-do_commands-acts : (ls : List Line) → AreActs ls → do_commands ls ≡ []
+do_commands-act : (line : Line) (ls : List Line) → is_do line ≡ false → do_commands (line ∷ ls) ≡ do_commands ls
 unfolding is_do
+do_commands-act (lines.Do command) ls act = cc
+do_commands-act _ ls act = refl
+
+do_commands-acts : (ls : List Line) → AreActs ls → do_commands ls ≡ []
 do_commands-acts [] acts = refl
-do_commands-acts (lines.Do command ∷ ls) acts = let no = acts.0 in cc
-do_commands-acts (_ ∷ ls) acts = do_commands-acts ls acts.1
+do_commands-acts (line ∷ ls) acts = do_commands-act line ls (no_do line acts.0) ∙ do_commands-acts ls acts.1
 
 pub do_commands-journal : (G : Facts) (cs : List Command) → do_commands (journal_from G cs) ≡ cs
 do_commands-journal G [] = refl
@@ -186,7 +148,8 @@ do_commands-journal G (c ∷ cs) =
 
 -- ---- no other journal is told and whole
 
-pub journal_from-more : (G : Facts) (done : List Command) (c : Command) → journal_from G (done ++ c ∷ []) ≡ journal_from G done ++ step_lines (after_lines G (journal_from G done)) c
+pub journal_from-more : (G : Facts) (done : List Command) (c : Command)
+    → journal_from G (done ++ c ∷ []) ≡ journal_from G done ++ step_lines (after_lines G (journal_from G done)) c
 journal_from-more G [] c = append-nil _
 journal_from-more G (first ∷ done) c =
     let ls = step_lines G first in
@@ -218,13 +181,14 @@ so_far-do front c is due =
     let journal : journal_of (do_commands (front ++ lines.Do c ∷ [])) ≡ front ++ step (after_lines no_facts front) = ap journal_of (do_commands-append front (lines.Do c ∷ [])) ∙ journal_from-more no_facts (do_commands front) c ∙ ap (λ ls. ls ++ step (after_lines no_facts ls)) whole in
     journal ∙ sym (append_assoc front (lines.Do c ∷ []) (command_lines (after_lines no_facts front) c)) ∙ ap (λ ls. (front ++ lines.Do c ∷ []) ++ ls) (sym rest)
 
-so_far-act : (front : List Line) (line : Line) → is_do line ≡ false → IsSoFar front → IsDueAt (onto front []) line → IsSoFar (front ++ line ∷ [])
+so_far-act : (front : List Line) (line : Line) → is_do line ≡ false → IsSoFar front → IsDueAt (onto front []) line
+    → IsSoFar (front ++ line ∷ [])
 unfolding IsSoFar
 so_far-act front line act is due =
     let past = onto front [] in
     let first : rest_of past ≡ line ∷ drop 1 (rest_of past) = first_some (rest_of past) line (sym (due_line-first past) ∙ due_of_act line past act due) in
     let rest : rest_of (onto (front ++ line ∷ []) []) ≡ drop 1 (rest_of past) = ap rest_of (onto-append front (line ∷ []) []) ∙ rest_of-act line past act in
-    let commands : do_commands (front ++ line ∷ []) ≡ do_commands front = do_commands-append front (line ∷ []) ∙ ap (λ cs. do_commands front ++ cs) (do_commands-acts (line ∷ []) (act, tt)) ∙ append-nil (do_commands front) in
+    let commands : do_commands (front ++ line ∷ []) ≡ do_commands front = do_commands-append front (line ∷ []) ∙ ap (λ cs. do_commands front ++ cs) (do_commands-act line [] act) ∙ append-nil (do_commands front) in
     ap journal_of commands ∙ is ∙ ap (λ ls. front ++ ls) first ∙ sym (append_assoc front (line ∷ []) (drop 1 (rest_of past))) ∙ ap (λ ls. (front ++ line ∷ []) ++ ls) (sym rest)
 
 so_far-line : (front : List Line) (line : Line) → IsSoFar front → IsDueAt (onto front []) line → IsSoFar (front ++ line ∷ [])

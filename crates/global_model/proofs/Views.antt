@@ -1,22 +1,22 @@
 -- The lines that an enclave writes for records change its view by themselves, and no other enclave's.
-use Rattle.std.proofs.Common.{◌≡◌, ◌≢◌, List, [], ◌∷◌, ◌++◌, Bool, true, false, cond, not, ◌&&◌, eqb, refl, sym, ap, ◌∙◌, subst}
+use Rattle.std.proofs.Common.{◌≡◌, ◌≢◌, List, [], ◌∷◌, ◌++◌, true, false, cond, eqb, refl, sym, ap, ◌∙◌, subst}
 use Rattle.std.proofs.lemmas.Bool.{eq-eqb, ne_eqb}
 use Rattle.xm_num.specs.declared.Enclave.{Enclave}
 use Rattle.xemem_wire.specs.declared.format.Record.{Record}
-use Rattle.xemem_wire.specs.declared.format.Body.{Body}
-use Rattle.xemem_wire.specs.declared.format.Body.TheVariants as bodies
 use Rattle.global_model.specs.declared.line.Line.{Line}
 use Rattle.global_model.specs.declared.line.Line.TheVariants as lines
 use Rattle.global_model.specs.Facts.{Facts, is_living_enclave, after_line, after_lines}
 use Rattle.global_model.specs.View.{View, view_of, own_line, own_lines, is_at, seen_lines}
-use Rattle.global_model.specs.Steps.{knows_way, is_for, is_stray, here_of, register_of, admit_of, drop_lines, body_lines, record_lines, lines_of_records}
+use Rattle.global_model.specs.Steps.{record_lines, lines_of_records}
 use Rattle.global_model.specs.Due.{got_lines}
-use Rattle.global_model.proofs.Shown.{shown_admitted, shown_way, admitted-living}
+use Rattle.global_model.proofs.Writes.{EachIs, each-append, MayWrite, KnowsNear, MaySend, writes_record}
+use Rattle.global_model.proofs.Shown.{IsShown, shown_admitted, shown_asked, shown_way, shown_back, shown_route, admitted-living}
 
 -- ---- the lines that an enclave writes for a record
 
 abbrev pub IsOf : Enclave → Line → Type 0
 IsOf y (lines.Admitted e) = e ≡ y
+IsOf y (lines.Asked e by) = e ≡ y
 IsOf y (lines.Way e over) = e ≡ y
 IsOf y (lines.Sent a b r) = a ≡ y
 IsOf y (lines.Got a b) = b ≡ y
@@ -26,31 +26,31 @@ IsOf y (lines.Route e of over) = e ≡ y
 IsOf y line = ⊥
 
 abbrev pub AreOf : Enclave → List Line → Type 0
-AreOf y [] = Unit {0}
-AreOf y (line ∷ journal) = IsOf y line × AreOf y journal
-
-of_either : (y : Enclave) (b : Bool) (ls ms : List Line) → AreOf y ls → AreOf y ms → AreOf y (cond b ls ms)
-of_either y true ls ms left right = left
-of_either y false ls ms left right = right
-
-of_body : (v : View) (from : Enclave) (r : Record) (body : Body) → AreOf v.me (body_lines v from r body)
-of_body v from r bodies.Query = of_either v.me (knows_way v) (lines.Sent v.me from (here_of v.me) ∷ []) (drop_lines v) (refl, tt) (refl, tt)
-of_body v from r bodies.Here = of_either v.me (knows_way v) (drop_lines v) (lines.Way v.me from ∷ lines.Sent v.me from (register_of v.me) ∷ []) (refl, tt) (refl, (refl, tt))
-of_body v from r bodies.Register =
-    of_either v.me v.holder (lines.Back v.me r.origin from ∷ lines.Route v.me r.origin from ∷ lines.Sent v.me from (admit_of v.me r.origin) ∷ []) (drop_lines v) (refl, (refl, (refl, tt))) (refl, tt)
-of_body v from r bodies.Admit = of_either v.me (is_for v r.dest && not v.admitted) (lines.Admitted v.me ∷ []) (drop_lines v) (refl, tt) (refl, tt)
-of_body v from r _ = (refl, tt)
+AreOf y journal = EachIs (IsOf y) journal
 
 of_record : (v : View) (from : Enclave) (r : Record) → AreOf v.me (record_lines v from r)
-of_record v from r = of_either v.me (is_stray v r) (drop_lines v) (body_lines v from r r.body) (refl, tt) (of_body v from r r.body)
+of_record v from r = writes_record (IsOf v.me) (λ x. Unit {0}) (λ sent. Unit {0}) v own from r known tt sends
+  where
+    own : MayWrite (IsOf v.me) (λ x. Unit {0}) (λ sent. Unit {0}) v
+    own = record {
+      dropped = refl;
+      admitted = refl;
+      asked = λ x near. refl;
+      way = λ x near. refl;
+      back = λ d x near. refl;
+      route = λ d x near. refl;
+      sent = λ x sent near good. refl;
+    }
+
+    known : KnowsNear (λ x. Unit {0}) v
+    known = record { way = λ x is. tt; askers = λ k d lt. tt; backs = λ k d lt. tt }
+
+    sends : MaySend (λ sent. Unit {0}) v r
+    sends = record { here = tt; register = tt; admit = tt; passed = tt }
 
 -- the first record's lines
 of_own : (v : View) (from : Enclave) (r : Record) → AreOf v.me (lines.Got from v.me ∷ record_lines v from r)
 of_own v from r = (refl, of_record v from r)
-
-of_append : (y : Enclave) (ls ms : List Line) → AreOf y ls → AreOf y ms → AreOf y (ls ++ ms)
-of_append y [] ms first more = more
-of_append y (l ∷ ls) ms first more = (first.0, of_append y ls ms first.1 more)
 
 -- ---- what they leave of the facts
 
@@ -59,20 +59,24 @@ record Leaves (y : Enclave) (G : Facts) (v : View) : Type 0 where
   view : view_of G y ≡ v
   living : is_living_enclave (G.enclave y.0) ≡ true
 
+-- a line of the enclave that changes no enclave's fact, by what it shows
+seen_leaves : (y e : Enclave) (line : Line) (G : Facts) → e ≡ y → is_at y line ≡ eqb e.0 y.0 → IsShown G y line
+    → is_living_enclave ((after_line G line).enclave y.0) ≡ true → Leaves y (after_line G line) (own_line (view_of G y) line)
+seen_leaves y e line G of place view living =
+    let here : is_at y line ≡ true = place ∙ eq-eqb e.0 y.0 (ap (λ a. a.0) of) in
+    record { view = rw here at view; living = living }
+
 line_leaves : (y : Enclave) (line : Line) (G : Facts) → IsOf y line → is_living_enclave (G.enclave y.0) ≡ true → Leaves y (after_line G line) (own_line (view_of G y) line)
 line_leaves y (lines.Admitted e) G of living =
-    let here : eqb e.0 y.0 ≡ true = eq-eqb e.0 y.0 (ap (λ a. a.0) of) in
     let view = shown_admitted G e y (subst (λ a. is_living_enclave (G.enclave a.0) ≡ true) (sym of) living) in
-    record { view = rw here at view; living = admitted-living G e y.0 ∙ living }
-line_leaves y (lines.Way e over) G of living =
-    let here : eqb e.0 y.0 ≡ true = eq-eqb e.0 y.0 (ap (λ a. a.0) of) in
-    let view = shown_way G e over y in
-    record { view = rw here at view; living = living }
+    seen_leaves y e (lines.Admitted e) G of refl view (admitted-living G e y.0 ∙ living)
+line_leaves y (lines.Asked e by) G of living = seen_leaves y e (lines.Asked e by) G of refl (shown_asked G e by y) living
+line_leaves y (lines.Way e over) G of living = seen_leaves y e (lines.Way e over) G of refl (shown_way G e over y) living
+line_leaves y (lines.Back e d over) G of living = seen_leaves y e (lines.Back e d over) G of refl (shown_back G e d over y) living
+line_leaves y (lines.Route e d over) G of living = seen_leaves y e (lines.Route e d over) G of refl (shown_route G e d over y) living
 line_leaves y (lines.Sent a b r) G of living = record { view = refl; living = living }
 line_leaves y (lines.Got a b) G of living = record { view = refl; living = living }
 line_leaves y (lines.Dropped e) G of living = record { view = refl; living = living }
-line_leaves y (lines.Back e d over) G of living = record { view = refl; living = living }
-line_leaves y (lines.Route e d over) G of living = record { view = refl; living = living }
 line_leaves y _ G of living = absurd of
 
 lines_leave : (y : Enclave) (ls : List Line) (G : Facts) → AreOf y ls → is_living_enclave (G.enclave y.0) ≡ true → Leaves y (after_lines G ls) (own_lines (view_of G y) ls)
@@ -94,6 +98,7 @@ got_lines-records G x y (r ∷ rs) living =
 
 of_at : (y z : Enclave) (line : Line) → IsOf y line → is_at z line ≡ eqb y.0 z.0
 of_at y z (lines.Admitted e) of = ap (λ a. eqb a.0 z.0) of
+of_at y z (lines.Asked e by) of = ap (λ a. eqb a.0 z.0) of
 of_at y z (lines.Way e over) of = ap (λ a. eqb a.0 z.0) of
 of_at y z (lines.Sent a b r) of = ap (λ a. eqb a.0 z.0) of
 of_at y z (lines.Got a b) of = ap (λ a. eqb a.0 z.0) of
@@ -104,6 +109,7 @@ of_at y z _ of = absurd of
 
 me_stays : (y : Enclave) (line : Line) (v : View) → IsOf y line → (own_line v line).me ≡ v.me
 me_stays y (lines.Admitted e) v of = refl
+me_stays y (lines.Asked e by) v of = refl
 me_stays y (lines.Way e over) v of = refl
 me_stays y (lines.Sent a b r) v of = refl
 me_stays y (lines.Got a b) v of = refl
@@ -121,7 +127,7 @@ of_records v x [] = tt
 of_records v x (r ∷ rs) =
     let own = lines.Got x v.me ∷ record_lines v x r in
     let next = own_lines v own in
-    of_append v.me own (lines_of_records next x rs) (of_own v x r) (subst (λ e. AreOf e (lines_of_records next x rs)) (me_stays_on v.me own v (of_own v x r)) (of_records next x rs))
+    each-append (IsOf v.me) own (lines_of_records next x rs) (of_own v x r) (subst (λ e. AreOf e (lines_of_records next x rs)) (me_stays_on v.me own v (of_own v x r)) (of_records next x rs))
 
 seen_own : (ls : List Line) (v : View) → AreOf v.me ls → seen_lines v ls ≡ own_lines v ls
 seen_own [] v of = refl

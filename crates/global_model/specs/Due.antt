@@ -1,6 +1,6 @@
 -- The lines that commands are to have, and the line that is due.
-use Rattle.std.specs.Prelude.{◌+◌, ◌/◌, ℕ, zero, suc, min, List, [], ◌∷◌, ◌++◌, length, map, ◌==◌, if◌then◌else◌, Option, None, take, drop, slice_get}
-use Rattle.std.specs.List.{range_with_len}
+use Rattle.std.specs.Prelude.{◌+◌, ◌-◌, ◌/◌, ℕ, zero, suc, min, List, [], ◌∷◌, ◌++◌, length, map, filter, Bool, ◌&&◌, ◌==◌, nat_le, nat_lt, if◌then◌else◌, Option, None, is_some, take, drop, slice_get}
+use Rattle.std.specs.List.{range_with_len, flat_map}
 use Rattle.std.specs.Option.{option_map_or}
 use Rattle.xm_num.specs.declared.Enclave.{Enclave}
 use Rattle.xm_num.specs.declared.Pid.{Pid}
@@ -10,10 +10,10 @@ use Rattle.global_model.specs.declared.command.Command.TheVariants as commands
 use Rattle.global_model.specs.declared.line.Line.{Line}
 use Rattle.global_model.specs.declared.line.Line.TheVariants as lines
 use Rattle.xemem_wire.specs.declared.format.Record.{Record}
-use Rattle.global_model.specs.Channels.{waiting_bytes, arriving}
+use Rattle.global_model.specs.Channels.{waiting_bytes, arriving, size_of}
 use Rattle.global_model.specs.View.{view_of}
-use Rattle.global_model.specs.Steps.{record_lines, host_lines, birth_lines, adopt_lines, state_lines}
-use Rattle.global_model.specs.Facts.{Facts, after_line, after_lines, facts_at, no_facts}
+use Rattle.global_model.specs.Steps.{record_lines, host_lines, birth_lines, adopt_lines, route_lines, state_lines}
+use Rattle.global_model.specs.Facts.{Facts, after_line, after_lines, facts_at, no_facts, fact_of, is_living_enclave}
 use Rattle.global_model.specs.Space.{Mapping, space_of, unused_frames, free_blocks}
 use Rattle.global_model.specs.Refusals.{refusal_of}
 
@@ -54,6 +54,44 @@ bytes_lines x y (suc most) at (byte ∷ bytes) =
 abbrev pub show_lines : Facts → Enclave → Enclave → List Line
 show_lines G x y = let waiting = waiting_bytes G x.0 y.0 in bytes_lines x y (length waiting) 0 waiting
 
+-- ---- settling
+
+-- the bytes to the end of the first record that isn't wholly taken, so many bytes being taken
+abbrev pub rest_of_record : ℕ → List Record → ℕ
+rest_of_record taken [] = 0
+rest_of_record taken (r ∷ rs) = if nat_le (size_of r) taken then rest_of_record (taken - size_of r) rs else size_of r - taken
+
+-- how many bytes a delivery of a settle takes
+abbrev pub next_rest : Facts → Enclave → Enclave → ℕ
+next_rest G x y = rest_of_record (G.channel x.0 y.0).taken (G.channel x.0 y.0).sent
+
+-- a child's channel up to its parent, and the one down from it
+abbrev pub channels_of : Facts → ℕ → List (Enclave × Enclave)
+channels_of G c = let parent = (fact_of (G.enclave c)).parent in (record { 0 = c }, parent) ∷ (parent, record { 0 = c }) ∷ []
+
+-- something waits in the channel, and its receiver lives
+abbrev pub waits : Facts → Enclave × Enclave → Bool
+waits G channel = is_living_enclave (G.enclave channel.1.0) && nat_lt 0 (length (waiting_bytes G channel.0.0 channel.1.0))
+
+-- the channels in which something waits, by child, up before down
+abbrev pub waiting_channels : Facts → List (Enclave × Enclave)
+waiting_channels G = filter (waits G) (flat_map (channels_of G) (range_with_len 1 (G.born - 1)))
+
+abbrev pub first_waiting : Facts → Option (Enclave × Enclave)
+first_waiting G = slice_get (waiting_channels G) 0
+
+-- the end of a settle after so many deliveries
+abbrev pub settle_end : Facts → ℕ → Line
+settle_end G made = if is_some (first_waiting G) then lines.Waiting made else lines.Settled made
+
+-- while deliveries are left, each takes the rest of a record of the first channel in which something waits
+abbrev pub settle_from : ℕ → ℕ → Facts → List Line
+settle_from zero made G = settle_end G made ∷ []
+settle_from (suc left) made G =
+    option_map_or (λ channel. let own = deliver_lines G channel.0 channel.1 (next_rest G channel.0 channel.1) in own ++ settle_from left (made + 1) (after_lines G own)) (first_waiting G) (settle_end G made ∷ [])
+
+-- ---- commands
+
 -- the number that is drawn for the next enclave
 abbrev pub next_enclave : Facts → Enclave
 next_enclave G = record { 0 = G.born }
@@ -68,8 +106,11 @@ acts_of G (commands.Proc e uid gid) = lines.Proc e (next_pid G e) uid gid ∷ []
 acts_of G (commands.Alloc e p at pages) = lines.Alloc e p at (take pages (unused_frames G e.0)) ∷ []
 acts_of G (commands.Touch e p addr want) = touched_lines e p (record { 0 = addr / 4096 }) (space_of G e.0 p.0 (addr / 4096))
 acts_of G (commands.Deliver x y count) = deliver_lines G x y count
+acts_of G (commands.Settle most) = settle_from most 0 G
+acts_of G (commands.ShowRoutes e) = route_lines (view_of G e)
 acts_of G (commands.ShowLink x y) = show_lines G x y
 acts_of G commands.ShowPool = state_lines 0 (map G.block (range_with_len 0 G.pool))
+acts_of G command = []
 
 -- what follows the `do` line of a command: its refusal, or its acts
 abbrev pub command_lines : Facts → Command → List Line

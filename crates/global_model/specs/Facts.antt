@@ -1,11 +1,13 @@
 -- The facts that a journal leaves: who lives, which blocks are lent, which pages are whose.
-use Rattle.std.specs.Prelude.{◌+◌, ℕ, List, [], ◌∷◌, ◌++◌, Bool, true, false, ◌&&◌, ◌==◌, nat_lt, if◌then◌else◌, Option, None, Some}
+use Rattle.std.specs.Prelude.{◌+◌, ℕ, List, [], ◌∷◌, ◌++◌, Bool, true, false, ◌&&◌, ◌==◌, ◌||◌, nat_lt, if◌then◌else◌, Option, None, Some}
 use Rattle.std.specs.List.{list_any}
 use Rattle.xm_num.specs.declared.Enclave.{Enclave}
 use Rattle.xm_num.specs.declared.Pid.{Pid}
 use Rattle.xm_num.specs.declared.Frame.{Frame}
 use Rattle.xm_num.specs.declared.Block.{Block}
 use Rattle.xm_num.specs.declared.Kind.{Kind}
+use Rattle.xm_num.specs.declared.Kind.TheVariants as kinds
+use Rattle.xm_num.specs.Rows.{put}
 use Rattle.xemem_wire.specs.declared.format.Record.{Record}
 use Rattle.global_model.specs.declared.command.Command.TheVariants as commands
 use Rattle.global_model.specs.declared.line.Line.{Line}
@@ -49,14 +51,20 @@ abbrev pub no_channel : ChannelFact
 no_channel = record { sent = []; taken = 0; got = 0 }
 
 -- All facts. What is asked by a number is a function of it; `born` counts the enclaves, `started` the processes of an
--- enclave, `starts` those of all. A channel is named by its sender and its receiver, and a way by the neighbour over which it
--- goes. `heard` has the deaths that an enclave knows of.
+-- enclave, `starts` those of all. `server` says that an enclave was born with the name server. A channel is named by its
+-- sender and its receiver. Of each enclave, `way` is the neighbour over which its way to the name server goes, `askers` are the
+-- neighbours that asked it for the way and weren't answered, in their order, `backs` and `routes` the neighbours over which it
+-- answers an enclave and over which one lies, by that enclave's number, and `heard` the deaths that it knows of.
 pub record Facts : Type 0 where
   pub pool : ℕ
   pub block : ℕ → BlockFact
   pub born : ℕ
   pub enclave : ℕ → Option EnclaveFact
+  pub server : Bool
   pub way : ℕ → Option Enclave
+  pub askers : ℕ → List (ℕ × Enclave)
+  pub backs : ℕ → List (ℕ × Enclave)
+  pub routes : ℕ → List (ℕ × Enclave)
   pub channel : ℕ → ℕ → ChannelFact
   pub heard : ℕ → List Enclave
   pub starts : ℕ
@@ -65,7 +73,35 @@ pub record Facts : Type 0 where
   pub own : List OwnPage
 
 abbrev pub no_facts : Facts
-no_facts = record { pool = 0; block = λ b. Absent; born = 0; enclave = λ e. None; way = λ e. None; channel = λ x y. no_channel; heard = λ e. []; starts = 0; started = λ e. 0; process = λ e p. None; own = [] }
+no_facts = record {
+  pool = 0;
+  block = λ b. Absent;
+  born = 0;
+  enclave = λ e. None;
+  server = false;
+  way = λ e. None;
+  askers = λ e. [];
+  backs = λ e. [];
+  routes = λ e. [];
+  channel = λ x y. no_channel;
+  heard = λ e. [];
+  starts = 0;
+  started = λ e. 0;
+  process = λ e p. None;
+  own = [];
+}
+
+-- an enclave that isn't born
+abbrev pub unborn_fact : EnclaveFact
+unborn_fact = record { kind = kinds.Host; parent = record { 0 = 0 }; blocks = []; ns = false; living = false; admitted = false }
+
+abbrev pub fact_of : Option EnclaveFact → EnclaveFact
+fact_of None = unborn_fact
+fact_of (Some fact) = fact
+
+-- the place of a neighbour in the order of an enclave's neighbours: its parent, then its children by their numbers
+abbrev pub place_among : Enclave → Enclave → ℕ
+place_among parent x = if x.0 == parent.0 then 0 else x.0 + 1
 
 -- a function with another value at one number
 abbrev pub at_number : {A : Type 0} → ℕ → A → (ℕ → A) → ℕ → A
@@ -107,6 +143,7 @@ after_line G (lines.Do (commands.Pool blocks)) = record G { pool = blocks; block
 after_line G (lines.Born e kind parent ns blocks) = record G {
   block = with_lent blocks e G.block;
   born = G.born + 1;
+  server = G.server || ns;
   enclave = at_number e.0 (Some (record { kind = kind; parent = parent; blocks = blocks; ns = ns; living = true; admitted = false })) G.enclave;
 }
 after_line G (lines.Told e of) = record G { heard = at_number e.0 (G.heard e.0 ++ of ∷ []) G.heard }
@@ -120,7 +157,10 @@ after_line G (lines.Alloc e p at frames) = record G { own = G.own ++ own_from e 
 after_line G (lines.Sent x y r) = record G { channel = at_pair x.0 y.0 (with_sent r) G.channel }
 after_line G (lines.Took x y count) = record G { channel = at_pair x.0 y.0 (with_taken count) G.channel }
 after_line G (lines.Got x y) = record G { channel = at_pair x.0 y.0 with_got G.channel }
-after_line G (lines.Way e over) = record G { way = at_number e.0 (Some over) G.way }
+after_line G (lines.Asked e by) = record G { askers = at_number e.0 (put (G.askers e.0) (place_among (fact_of (G.enclave e.0)).parent by) by) G.askers }
+after_line G (lines.Way e over) = record G { way = at_number e.0 (Some over) G.way; askers = at_number e.0 [] G.askers }
+after_line G (lines.Back e of over) = record G { backs = at_number e.0 (put (G.backs e.0) of.0 over) G.backs }
+after_line G (lines.Route e of over) = record G { routes = at_number e.0 (put (G.routes e.0) of.0 over) G.routes }
 after_line G line = G
 
 -- the facts after these lines, from those before

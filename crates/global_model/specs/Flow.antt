@@ -1,17 +1,20 @@
 -- What holds of the enclaves and of their channels wherever a command has ended.
-use Rattle.std.specs.Prelude.{◌≡◌, ◌≤◌, ℕ, [], length, ◌&&◌, ◌==◌, nat_lt, Option, is_some, false}
+use Rattle.std.specs.Prelude.{◌≡◌, ◌<◌, ◌≤◌, ℕ, [], length, nat_lt, Option, Some, is_some, true, false}
+use Rattle.xm_num.specs.declared.Enclave.{Enclave}
+use Rattle.xm_num.specs.Rows.{at}
 use Rattle.xemem_wire.specs.Spelling.{AreValid, spellings_of}
 use Rattle.global_model.specs.Facts.{Facts, EnclaveFact, ChannelFact, no_channel, is_living_enclave, has_parent}
 use Rattle.global_model.specs.Channels.{is_neighbour, whole_records, arriving}
 
--- the enclaves below that number were born, and no others; each of them lives, and its parent is the host
+-- the enclaves below that number were born, and no others; each of them lives, and each but the first has a parent with a lower
+-- number
 pub record IsBornBelow (born e : ℕ) (fact : Option EnclaveFact) : Type 0 where
   pub known : is_some fact ≡ nat_lt e born
   pub living : is_living_enclave fact ≡ nat_lt e born
-  pub parent : (p : ℕ) → has_parent p fact ≡ (nat_lt e born && (0 == p))
+  pub above : (p : ℕ) → has_parent p fact ≡ true → 0 < e → p < e
 
--- the enclaves are the host, which is 0, and its children, no more than a record can name
-pub record IsStar (G : Facts) : Type 0 where
+-- the enclaves are a tree below the host, which is 0, and no more than a record can name
+pub record IsTree (G : Facts) : Type 0 where
   pub most : G.born ≤ 256
   pub enclaves : (e : ℕ) → IsBornBelow G.born e (G.enclave e)
 
@@ -21,9 +24,17 @@ pub record IsFlow (channel : ChannelFact) : Type 0 where
   pub taken : channel.taken ≤ length (spellings_of channel.sent)
   pub got : channel.got ≤ length (whole_records channel.taken channel.sent)
 
+-- what an enclave knows of ways names its neighbours alone
+pub record AreWays (G : Facts) : Type 0 where
+  pub way : (e : ℕ) (x : Enclave) → G.way e ≡ Some x → is_neighbour G e x.0 ≡ true
+  pub askers : (e k : ℕ) (x : Enclave) → at (G.askers e) k ≡ Some x → is_neighbour G e x.0 ≡ true
+  pub backs : (e d : ℕ) (x : Enclave) → at (G.backs e) d ≡ Some x → is_neighbour G e x.0 ≡ true
+  pub routes : (e d : ℕ) (x : Enclave) → at (G.routes e) d ≡ Some x → is_neighbour G e x.0 ≡ true
+
 -- each channel flows, all its whole records were got, and nothing was ever sent but between neighbours
 pub record IsFlowing (G : Facts) : Type 0 where
-  pub star : IsStar G
+  pub tree : IsTree G
+  pub ways : AreWays G
   pub flows : (x y : ℕ) → IsFlow (G.channel x y)
   pub arrived : (x y : ℕ) → arriving (G.channel x y) ≡ []
   pub apart : (x y : ℕ) → is_neighbour G x y ≡ false → G.channel x y ≡ no_channel

@@ -1,5 +1,5 @@
 -- Journals as histories: legal, told and whole.
-use Rattle.std.specs.Prelude.{◌≡◌, List, [], ◌∷◌, None, Some}
+use Rattle.std.specs.Prelude.{◌≡◌, ℕ, List, [], ◌∷◌, length, filter, Bool, true, false, None, Some}
 use Rattle.global_model.specs.declared.command.Command.{Command}
 use Rattle.global_model.specs.declared.line.Line.{Line}
 use Rattle.global_model.specs.declared.line.Line.TheVariants as lines
@@ -46,3 +46,13 @@ abbrev pub do_commands : List Line → List Command
 do_commands [] = []
 do_commands (lines.Do command ∷ journal) = command ∷ do_commands journal
 do_commands (line ∷ journal) = do_commands journal
+
+-- a delivery: bytes, or an end mark, are taken
+abbrev pub is_delivery : Line → Bool
+is_delivery (lines.Took x y count) = true
+is_delivery (lines.End x y torn) = true
+is_delivery line = false
+
+-- how many deliveries a journal tells
+abbrev pub deliveries_in : List Line → ℕ
+deliveries_in journal = length (filter is_delivery journal)

@@ -1,5 +1,5 @@
 -- What a command writes, by the views of the enclaves.
-use Rattle.std.specs.Prelude.{◌≡◌, ℕ, List, [], ◌++◌, length, take, map, Bool, ◌==◌, nat_le, nat_lt, if◌then◌else◌, None, false}
+use Rattle.std.specs.Prelude.{◌≡◌, ℕ, List, [], ◌++◌, length, take, map, Bool, ◌&&◌, ◌==◌, nat_le, nat_lt, if◌then◌else◌, None, false}
 use Rattle.std.specs.List.{range_with_len}
 use Rattle.xm_num.specs.declared.Enclave.{Enclave}
 use Rattle.xm_num.specs.declared.Pid.{Pid}
@@ -12,7 +12,7 @@ use Rattle.global_model.specs.declared.command.Command.TheVariants as commands
 use Rattle.global_model.specs.declared.line.Line.{Line}
 use Rattle.global_model.specs.Facts.{Facts, BlockFact, Free}
 use Rattle.global_model.specs.View.{View, no_host, view_of}
-use Rattle.global_model.specs.Steps.{host, refusal, birth_lines, adopt_lines, start_lines, alloc_lines, touch_answer, answer_lines, state_lines, free_from}
+use Rattle.global_model.specs.Steps.{host, refusal, birth_lines, adopt_lines, start_lines, alloc_lines, touch_answer, answer_lines, route_lines, state_lines, free_from}
 use Rattle.global_model.specs.Due.{next_enclave, command_lines}
 
 -- a pool of so many blocks, all of them free
@@ -30,6 +30,9 @@ unborn_view pool e = record {
   admitted = false;
   heard = [];
   way = None;
+  askers = [];
+  backs = [];
+  routes = [];
   free = [];
   processes = [];
   children = [];
@@ -47,8 +50,9 @@ abbrev pub boot_by : Facts → Kind → Enclave → ℕ → Bool → List Line
 boot_by G kind parent blocks ns =
     let free = free_from 0 (view_of G host).host.states in
     if nat_le 256 G.born then refusal causes.TooMany
+    else (if ns && G.server then refusal causes.NameServerTaken
     else (if nat_lt (length free) blocks then refusal causes.NoBlocks
-    else birth_lines (next_enclave G) kind parent (take blocks free) ns (view_of G parent).heard ++ adopt_lines (view_of G parent) (next_enclave G))
+    else birth_lines (next_enclave G) kind parent (take blocks free) ns (view_of G parent).heard ++ adopt_lines (view_of G parent) (next_enclave G)))
 
 -- each command's lines follow from the views of the enclaves that it names, how many enclaves were born, and how many
 -- processes were started
@@ -57,4 +61,5 @@ pub record IsAnswered (G : Facts) : Type 0 where
   pub proc : (e : Enclave) (uid gid : ℕ) → command_lines G (commands.Proc e uid gid) ≡ at_born G.born e (start_by G e uid gid)
   pub alloc : (e : Enclave) (p : Pid) (page : Vpn) (count : ℕ) → command_lines G (commands.Alloc e p page count) ≡ at_born G.born e (alloc_lines (view_of G e) p page count)
   pub touch : (e : Enclave) (p : Pid) (addr : ℕ) (want : Want) → command_lines G (commands.Touch e p addr want) ≡ at_born G.born e (answer_lines e p (touch_answer (view_of G e) p addr want))
+  pub routes : (e : Enclave) → command_lines G (commands.ShowRoutes e) ≡ at_born G.born e (route_lines (view_of G e))
   pub pool : command_lines G commands.ShowPool ≡ at_born G.born host (state_lines 0 (view_of G host).host.states)

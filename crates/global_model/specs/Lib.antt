@@ -1,6 +1,4 @@
-pub mod Words
 pub mod Spelling
-pub mod Scenario
 pub mod Ranges
 pub mod Facts
 pub mod Channels
@@ -13,4 +11,6 @@ pub mod Due
 pub mod Known
 pub mod Lawful
 pub mod History
-pub mod Examples
+pub mod Place
+pub mod Rest
+pub mod Ways

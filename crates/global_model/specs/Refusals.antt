@@ -50,6 +50,7 @@ conditions_of G (commands.Host blocks ns) = when causes.NoBlocks (nat_lt G.pool 
 conditions_of G (commands.Boot kind parent blocks ns) =
     no_enclave G parent
     ∷ when causes.TooMany (nat_le 256 G.born)
+    ∷ when causes.NameServerTaken (ns && G.server)
     ∷ when causes.NoBlocks (nat_lt (length (free_blocks G)) blocks)
     ∷ []
 conditions_of G (commands.Proc e uid gid) = no_enclave G e ∷ when causes.TooMany (nat_le 1024 G.starts) ∷ []
@@ -67,8 +68,10 @@ conditions_of G (commands.Touch e p addr want) =
     ∷ when causes.Denied (denies want (space_of G e.0 p.0 (addr / 4096)))
     ∷ []
 conditions_of G (commands.Deliver x y count) = link_conditions G x y
+conditions_of G (commands.ShowRoutes e) = no_enclave G e ∷ []
 conditions_of G (commands.ShowLink x y) = link_conditions G x y
 conditions_of G commands.ShowPool = when causes.NoEnclave (not (was_born G 0)) ∷ []
+conditions_of G command = []
 
 abbrev pub first_cause : List Condition → Option Cause
 first_cause [] = None

@@ -1,5 +1,5 @@
 -- What an enclave writes, for a record or for a call: a function of its view and of the record or the call alone.
-use Rattle.std.specs.Prelude.{◌+◌, ◌-◌, ◌/◌, ℕ, List, [], ◌∷◌, ◌++◌, length, take, map, Bool, not, ◌&&◌, ◌||◌, ◌==◌, nat_lt, if◌then◌else◌, Option, None, Some, is_some, slice_get, false, Result, Ok, Err}
+use Rattle.std.specs.Prelude.{◌+◌, ◌-◌, ◌/◌, ℕ, List, [], ◌∷◌, ◌++◌, length, take, map, Bool, ◌||◌, ◌==◌, nat_lt, if◌then◌else◌, Option, None, Some, is_some, slice_get, false, Result, Ok, Err}
 use Rattle.std.specs.List.{list_any, range_with_len}
 use Rattle.std.specs.Option.{option_map_or}
 use Rattle.xm_num.specs.declared.Enclave.{Enclave}
@@ -13,13 +13,13 @@ use Rattle.xm_num.specs.declared.Page.{Page}
 use Rattle.xm_num.specs.declared.Want.{Want}
 use Rattle.xm_num.specs.declared.Cause.{Cause}
 use Rattle.xm_num.specs.declared.Cause.TheVariants as causes
-use Rattle.xm_num.specs.Rows.{at, any_between}
+use Rattle.xm_num.specs.Rows.{at, less, any_between}
 use Rattle.xemem_wire.specs.declared.format.Record.{Record}
 use Rattle.xemem_wire.specs.declared.format.Body.{Body}
 use Rattle.xemem_wire.specs.declared.format.Body.TheVariants as bodies
 use Rattle.global_model.specs.declared.line.Line.{Line}
 use Rattle.global_model.specs.declared.line.Line.TheVariants as lines
-use Rattle.global_model.specs.Facts.{BlockFact, Absent, Free, Lent, Held, is_free}
+use Rattle.global_model.specs.Facts.{BlockFact, Absent, Free, Lent, Held, is_free, place_among}
 use Rattle.global_model.specs.Space.{allows}
 use Rattle.global_model.specs.View.{View, ProcessView, own_lines}
 
@@ -70,31 +70,50 @@ admit_of e d = record { origin = e; dest = Some d; call = 0; body = bodies.Admit
 abbrev pub drop_lines : View → List Line
 drop_lines v = lines.Dropped v.me ∷ []
 
--- a query is answered where the way is known
+-- a query is answered where the way is known, and else its sender is remembered
 abbrev pub query_lines : View → Enclave → List Line
-query_lines v from = if knows_way v then lines.Sent v.me from (here_of v.me) ∷ [] else drop_lines v
+query_lines v from = if knows_way v then lines.Sent v.me from (here_of v.me) ∷ [] else lines.Asked v.me from ∷ []
 
--- the first here fixes the way, and the enclave registers over it
+-- those that asked are told, in their order
+abbrev pub told_askers : View → List (ℕ × Enclave) → List Line
+told_askers v askers = map (λ row. lines.Sent v.me row.1 (here_of v.me)) askers
+
+-- The first here fixes the way. The enclave tells those that asked, but not the one that told it, and registers over the way.
 abbrev pub here_lines : View → Enclave → List Line
-here_lines v from = if knows_way v then drop_lines v else lines.Way v.me from ∷ lines.Sent v.me from (register_of v.me) ∷ []
+here_lines v from =
+    if knows_way v then drop_lines v
+    else lines.Way v.me from ∷ told_askers v (less v.askers (place_among v.parent from)) ++ lines.Sent v.me from (register_of v.me) ∷ []
 
--- the holder of the name server learns the route and admits
-abbrev pub register_lines : View → Enclave → Enclave → List Line
-register_lines v from of =
-    if v.holder then lines.Back v.me of from ∷ lines.Route v.me of from ∷ lines.Sent v.me from (admit_of v.me of) ∷ []
-    else drop_lines v
+-- a record is passed on over a neighbour, where there is one and it isn't the one over which it came
+abbrev pub passed_lines : View → Enclave → Option Enclave → Record → List Line
+passed_lines v from None r = drop_lines v
+passed_lines v from (Some over) r = if over.0 == from.0 then drop_lines v else lines.Sent v.me over r ∷ []
 
-abbrev pub is_for : View → Option Enclave → Bool
-is_for v dest = option_map_or (λ d. d.0 == v.me.0) dest false
+-- Who takes a register remembers the way back. The holder of the name server learns it as the route and admits over it, and
+-- another enclave passes the register on toward the name server.
+abbrev pub register_lines : View → Enclave → Record → List Line
+register_lines v from r =
+    lines.Back v.me r.origin from
+    ∷ (if v.holder then lines.Route v.me r.origin from ∷ lines.Sent v.me from (admit_of v.me r.origin) ∷ []
+    else passed_lines v from v.way r)
 
-abbrev pub admit_lines : View → Option Enclave → List Line
-admit_lines v dest = if is_for v dest && not v.admitted then lines.Admitted v.me ∷ [] else drop_lines v
+-- an admit for another enclave goes over the way back to it, which becomes the route
+abbrev pub admit_over : View → Enclave → Enclave → Record → Option Enclave → List Line
+admit_over v from d r None = drop_lines v
+admit_over v from d r (Some over) = lines.Route v.me d over ∷ passed_lines v from (Some over) r
+
+-- an admit for the enclave itself makes it ready
+abbrev pub admit_to : View → Enclave → Record → Option Enclave → List Line
+admit_to v from r None = drop_lines v
+admit_to v from r (Some d) =
+    if d.0 == v.me.0 then (if v.admitted then drop_lines v else lines.Admitted v.me ∷ [])
+    else admit_over v from d r (at v.backs d.0)
 
 abbrev pub body_lines : View → Enclave → Record → Body → List Line
 body_lines v from r bodies.Query = query_lines v from
 body_lines v from r bodies.Here = here_lines v from
-body_lines v from r bodies.Register = register_lines v from r.origin
-body_lines v from r bodies.Admit = admit_lines v r.dest
+body_lines v from r bodies.Register = register_lines v from r
+body_lines v from r bodies.Admit = admit_to v from r r.dest
 body_lines v from r body = drop_lines v
 
 abbrev pub knows_dead : View → Enclave → Bool
@@ -145,6 +164,15 @@ touch_answer v p addr want = option_map_or (λ process. page_answer want (record
 abbrev pub answer_lines : Enclave → Pid → Result (Vpn × Frame) Cause → List Line
 answer_lines e p (Ok found) = lines.Touched e p found.0 found.1 ∷ []
 answer_lines e p (Err cause) = refusal cause
+
+-- ---- routes
+
+abbrev pub way_line : View → Line
+way_line v = if v.holder then lines.AtWayOwn v.me else option_map_or (λ over. lines.AtWay v.me over) v.way (lines.AtWayNone v.me)
+
+-- the way to the name server, and the learned routes, ascending
+abbrev pub route_lines : View → List Line
+route_lines v = way_line v ∷ map (λ row. lines.AtRoute v.me (record { 0 = row.0 }) row.1) v.routes
 
 -- ---- the pool
 

@@ -3,14 +3,13 @@ use Rattle.std.specs.Prelude.{◌+◌, ◌-◌, ℕ, List, [], ◌∷◌, ◌++�
 use Rattle.std.specs.List.{range_with_len, flat_map}
 use Rattle.xm_num.specs.declared.Enclave.{Enclave}
 use Rattle.xm_num.specs.declared.Kind.{Kind}
-use Rattle.xm_num.specs.declared.Kind.TheVariants as kinds
 use Rattle.xm_num.specs.declared.Block.{Block}
 use Rattle.xm_num.specs.declared.Frame.{Frame}
 use Rattle.xm_num.specs.declared.Page.{Page}
 use Rattle.xm_num.specs.Rows.{put, put_all}
 use Rattle.global_model.specs.declared.line.Line.{Line}
 use Rattle.global_model.specs.declared.line.Line.TheVariants as lines
-use Rattle.global_model.specs.Facts.{Facts, BlockFact, Lent, EnclaveFact, ProcessFact, is_listed}
+use Rattle.global_model.specs.Facts.{Facts, BlockFact, Lent, ProcessFact, fact_of, place_among, is_listed}
 use Rattle.global_model.specs.Channels.{is_child_of}
 use Rattle.global_model.specs.Space.{own_page, pages_of, unused_frames, block_frames}
 
@@ -26,8 +25,9 @@ pub record HostView : Type 0 where
   pub parents : List Enclave
 
 -- The view of an enclave: its number, kind, parent and blocks; whether it holds the name server, and is admitted; the deaths
--- it knows of; the neighbour over which its way to the name server goes; its unused frames, ascending; its processes, of
--- which the first is process 1; its children and their kinds, ascending; and what it keeps as the host.
+-- it knows of; the neighbour over which its way to the name server goes, those that asked it for the way, in their order, and
+-- those over which it answers other enclaves and over which these lie, by their numbers; its unused frames, ascending; its
+-- processes, of which the first is process 1; its children and their kinds, ascending; and what it keeps as the host.
 pub record View : Type 0 where
   pub me : Enclave
   pub kind : Kind
@@ -37,20 +37,15 @@ pub record View : Type 0 where
   pub admitted : Bool
   pub heard : List Enclave
   pub way : Option Enclave
+  pub askers : List (ℕ × Enclave)
+  pub backs : List (ℕ × Enclave)
+  pub routes : List (ℕ × Enclave)
   pub free : List Frame
   pub processes : List ProcessView
   pub children : List (ℕ × Kind)
   pub host : HostView
 
 -- ---- the view, by the facts
-
--- an enclave that isn't born
-abbrev pub unborn_fact : EnclaveFact
-unborn_fact = record { kind = kinds.Host; parent = record { 0 = 0 }; blocks = []; ns = false; living = false; admitted = false }
-
-abbrev pub fact_of : Option EnclaveFact → EnclaveFact
-fact_of None = unborn_fact
-fact_of (Some fact) = fact
 
 abbrev pub user_of : Option ProcessFact → ProcessFact
 user_of None = record { uid = 0; gid = 0; living = false }
@@ -78,6 +73,9 @@ view_of G e = record {
   admitted = (fact_of (G.enclave e.0)).admitted;
   heard = G.heard e.0;
   way = G.way e.0;
+  askers = G.askers e.0;
+  backs = G.backs e.0;
+  routes = G.routes e.0;
   free = unused_frames G e.0;
   processes = map (process_of G e.0) (range_with_len 1 (G.started e.0));
   children = map (child_row G) (filter (λ c. is_child_of G c e.0) (range_with_len 0 G.born));
@@ -127,7 +125,10 @@ own_line v (lines.Told e of) = record v { heard = v.heard ++ of ∷ [] }
 own_line v (lines.Admitted e) = record v { admitted = true }
 own_line v (lines.Proc e p uid gid) = record v { processes = v.processes ++ new_process uid gid ∷ [] }
 own_line v (lines.Alloc e p page frames) = record v { free = drop (length frames) v.free; processes = with_pages v.processes (p.0 - 1) page.0 frames }
-own_line v (lines.Way e over) = record v { way = Some over }
+own_line v (lines.Asked e by) = record v { askers = put v.askers (place_among v.parent by) by }
+own_line v (lines.Way e over) = record v { way = Some over; askers = [] }
+own_line v (lines.Back e of over) = record v { backs = put v.backs of.0 over }
+own_line v (lines.Route e of over) = record v { routes = put v.routes of.0 over }
 own_line v line = v
 
 abbrev pub own_lines : View → List Line → View
@@ -147,6 +148,7 @@ is_at e (lines.Took x y count) = y.0 == e.0
 is_at e (lines.Got x y) = y.0 == e.0
 is_at e (lines.End x y torn) = y.0 == e.0
 is_at e (lines.Dropped of) = of.0 == e.0
+is_at e (lines.Asked of by) = of.0 == e.0
 is_at e (lines.Way of over) = of.0 == e.0
 is_at e (lines.Back of d over) = of.0 == e.0
 is_at e (lines.Route of d over) = of.0 == e.0

@@ -1,22 +1,25 @@
 // Laws of the definitions: each is the contract of a function with an empty body, which a crate above calls to have it.
-ghost use Rattle.std.specs.Prelude.{◌≡◌, ◌≢◌, ◌≤◌, ◌-◌, ℕ, List, [], ◌∷◌, ◌++◌, length, take, drop, Bool, true, nat_lt, if◌then◌else◌, None, Some, codes};
-ghost use Rattle.global_model.specs.Examples.{Gives, text, smallest, smallest_journal, refused, refused_journal, one_byte_short, one_byte_short_journal, discovered, discovered_journal, child_memory, child_memory_journal, no_host_born, no_host_born_journal};
+ghost use Rattle.std.specs.Prelude.{◌≡◌, ◌≢◌, ◌≤◌, ◌-◌, ℕ, List, [], ◌∷◌, ◌++◌, length, take, drop, Bool, true, nat_lt, if◌then◌else◌, Some, All};
 ghost use Rattle.xm_num.specs.declared.Enclave.{Enclave as Enclaves};
 ghost use Rattle.xemem_wire.specs.declared.format.Record.{Record as WireRecord};
 ghost use Rattle.xemem_wire.specs.Spelling.{spellings_of};
 ghost use Rattle.global_model.specs.declared.command.Command.{Command as Commands};
 ghost use Rattle.global_model.specs.declared.line.Line.{Line as JournalLine};
-ghost use Rattle.global_model.specs.Scenario.{IsPlaced, scenario_of};
-ghost use Rattle.global_model.specs.Facts.{Facts, after_lines, facts_after, is_living_enclave};
+ghost use Rattle.xm_num.specs.Rows.{at};
+ghost use Rattle.global_model.specs.Place.{IsPlaced};
+ghost use Rattle.global_model.specs.Ranges.{IsSpelled};
+ghost use Rattle.global_model.specs.Facts.{Facts, after_lines, facts_at, facts_after, is_living_enclave};
 ghost use Rattle.global_model.specs.Channels.{whole_records};
 ghost use Rattle.xm_num.specs.declared.Cause.TheVariants as causes;
 ghost use Rattle.global_model.specs.declared.command.Command.TheVariants as command;
 ghost use Rattle.global_model.specs.View.{View, view_of, own_lines, seen_lines};
 ghost use Rattle.global_model.specs.Steps.{refusal, host_lines, first_blocks, lines_of_records};
 ghost use Rattle.global_model.specs.Known.{IsAnswered, unborn_view};
-ghost use Rattle.global_model.specs.Due.{got_lines, command_lines, journal_of, step_lines};
+ghost use Rattle.global_model.specs.Due.{got_lines, deliver_lines, next_rest, first_waiting, command_lines, journal_of, step_lines};
 ghost use Rattle.global_model.specs.Flow.{IsFlowing};
 ghost use Rattle.global_model.specs.History.{do_commands, IsCarried, IsLegal, IsTold, IsWhole};
+ghost use Rattle.global_model.specs.Rest.{EndsSettle};
+ghost use Rattle.global_model.specs.Ways.{way_heard, back_heard, route_heard};
 
 /// Exactly one journal is told and whole and has given commands in its `do` lines.
 pub fn one_journal()
@@ -40,8 +43,8 @@ pub fn journals_are_legal()
 {}
 
 /// The journal of commands, each of which may stand after those before it, is carried. Wherever a command has ended the
-/// enclaves are the host and its children, every record that was sent is valid, every whole record was got, and nothing was
-/// sent but between neighbours.
+/// enclaves are a tree below the host, their ways go over neighbours, every record that was sent is valid, every whole record was
+/// got, and nothing was sent but between neighbours.
 pub fn journals_are_carried()
     ensures carried { (commands : List Commands) → IsPlaced commands → IsCarried (journal_of commands) }
     ensures flowing { (commands : List Commands) → IsPlaced commands → IsFlowing (facts_after (journal_of commands)) }
@@ -88,19 +91,29 @@ pub fn views_follow()
         ≡ seen_lines (view_of (facts_after (journal_of commands)) e) (step_lines (facts_after (journal_of commands)) one) }
 {}
 
-/// Each command of a scenario may stand after those before it.
-pub fn scenarios_are_placed()
-    ensures { (bytes : List ℕ) → IsPlaced (scenario_of bytes).commands }
+/// The neighbours over which an enclave's ways go are those of which it heard last.
+pub fn ways_are_heard()
+    ensures way { (e : ℕ) (past : List JournalLine) → (facts_at past).way e ≡ way_heard e past }
+    ensures backs { (e d : ℕ) (past : List JournalLine) → at ((facts_at past).backs e) d ≡ back_heard e d past }
+    ensures routes { (e d : ℕ) (past : List JournalLine) → at ((facts_at past).routes e) d ≡ route_heard e d past }
 {}
 
-/// The worked scenarios come out as they were wanted, byte for byte.
-pub fn worked_examples()
-    ensures smallest { Gives (text smallest) None (text smallest_journal) }
-    ensures refused { Gives (text refused) None (text refused_journal) }
-    ensures one_byte_short { Gives (text one_byte_short) None (text one_byte_short_journal) }
-    ensures discovered { Gives (text discovered) None (text discovered_journal) }
-    ensures child_memory { Gives (text child_memory) None (text child_memory_journal) }
-    ensures no_host_born { Gives (text no_host_born) None (text no_host_born_journal) }
-    ensures comment { Gives (codes "# nothing") None [] }
-    ensures unbuilt { Gives (text (codes "pool 2" ∷ codes "  # a comment" ∷ codes "host 1" ∷ [])) (Some 3) (text (codes "do pool 2" ∷ [])) }
+/// A delivery of a settle is that of a `deliver` of the same bytes, which isn't refused. A settle ends with `settled`
+/// exactly where nothing waits any more, and with `waiting` exactly where something does after all its deliveries.
+pub fn settles_deliver()
+    ensures placed { (commands : List Commands) (x y : Enclaves) → IsPlaced commands
+        → first_waiting (facts_after (journal_of commands)) ≡ Some (x, y)
+        → IsPlaced (commands ++ command.Deliver x y (next_rest (facts_after (journal_of commands)) x y) ∷ []) }
+    ensures lines { (commands : List Commands) (x y : Enclaves) → IsPlaced commands
+        → first_waiting (facts_after (journal_of commands)) ≡ Some (x, y)
+        → command_lines (facts_after (journal_of commands)) (command.Deliver x y (next_rest (facts_after (journal_of commands)) x y))
+        ≡ deliver_lines (facts_after (journal_of commands)) x y (next_rest (facts_after (journal_of commands)) x y) }
+    ensures ends { (commands : List Commands) (most : ℕ) → IsPlaced commands
+        → EndsSettle most (command_lines (facts_after (journal_of commands)) (command.Settle most))
+        (facts_after (journal_of (commands ++ command.Settle most ∷ []))) }
+{}
+
+/// Each line of a journal has a spelling.
+pub fn journals_are_spelled()
+    ensures { (commands : List Commands) → IsPlaced commands → All IsSpelled (journal_of commands) }
 {}

@@ -6,14 +6,12 @@ mod count;
 mod laws;
 mod line;
 mod lines;
-mod text_laws;
 
 pub use command::Command;
 pub use count::{word_count, words};
 pub use laws::{
-    journals_are_carried, journals_are_legal, journals_grow, one_journal, scenarios_are_placed,
-    view_step, views_answer, views_follow, whole_records_stay, worked_examples,
+    journals_are_carried, journals_are_legal, journals_are_spelled, journals_grow, one_journal,
+    settles_deliver, view_step, views_answer, views_follow, ways_are_heard, whole_records_stay,
 };
 pub use line::{ByteList, Line};
 pub use lines::Lines;
-pub use text_laws::{commands_are_read_back, journals_are_split_again};

@@ -1,0 +1,164 @@
+-- The tree of enclaves: who are neighbours, and what a birth and an admission leave.
+use Rattle.std.proofs.Common.{◌≡◌, ◌≢◌, ◌+◌, ◌<◌, ◌≤◌, ℕ, List, Bool, true, false, cond, not, ◌&&◌, ◌||◌, eqb, ltb, is_some, Option, None, Some, inl, inr, refl, sym, ap, ◌∙◌, subst, arith}
+use Rattle.std.proofs.lemmas.Bool.{eqb-true, eqb-false, eq-eqb, ne_eqb, lt-ltb, le-ltb, ltb-true, ltb-false, and_parts, and_from, or_cases, or_left, or_right, not-true, not_from_false, false_from_ne_true, both_ways}
+use Rattle.xm_num.specs.declared.Enclave.{Enclave}
+use Rattle.xm_num.specs.declared.Block.{Block}
+use Rattle.xm_num.specs.declared.Kind.{Kind}
+use Rattle.global_model.specs.declared.line.Line.TheVariants as lines
+use Rattle.global_model.specs.Facts.{Facts, EnclaveFact, after_line, as_admitted, has_parent, is_living_enclave}
+use Rattle.global_model.specs.Channels.{is_child_of, is_neighbour}
+use Rattle.global_model.specs.Flow.{IsBornBelow, IsTree}
+
+-- ---- children and neighbours
+
+-- a child isn't the host, was born, and has a parent with a lower number
+pub record IsUnder (born c p : ℕ) : Type 0 where
+  pub some : 0 < c
+  pub below : c < born
+  pub above : p < c
+
+has_some : (p : ℕ) (fact : Option EnclaveFact) → has_parent p fact ≡ true → is_some fact ≡ true
+has_some p None is = cc
+has_some p (Some fact) is = refl
+
+pub child_under : (G : Facts) (c p : ℕ) → IsTree G → is_child_of G c p ≡ true → IsUnder G.born c p
+child_under G c p tree is =
+    let parts = and_parts (not (eqb c 0)) (has_parent p (G.enclave c)) is in
+    let apart : c ≡ 0 → ⊥ = eqb-false c 0 (not-true (eqb c 0) parts.0) in
+    let some : 0 < c = omega (arith, apart) in
+    record {
+      some = some;
+      below = ltb-true c G.born (sym (tree.enclaves c).known ∙ has_some p (G.enclave c) parts.1);
+      above = (tree.enclaves c).above p parts.1 some;
+    }
+
+pub is_child : (G : Facts) (c p : ℕ) → 0 < c → has_parent p (G.enclave c) ≡ true → is_child_of G c p ≡ true
+is_child G c p some has = and_from _ _ (not_from_false (eqb c 0) (ne_eqb c 0 (λ is. omega (arith, is, some)))) has
+
+or_turned : (a b : Bool) → (a || b) ≡ (b || a)
+or_turned true true = refl
+or_turned true false = refl
+or_turned false true = refl
+or_turned false false = refl
+
+pub near-turned : (G : Facts) (x y : ℕ) → is_neighbour G x y ≡ is_neighbour G y x
+near-turned G x y = or_turned (is_child_of G x y) (is_child_of G y x)
+
+-- a child and its parent are neighbours
+pub child_near : (G : Facts) (c p : ℕ) → is_child_of G c p ≡ true → is_neighbour G c p ≡ true
+child_near G c p is = or_left _ _ is
+
+pub parent_near : (G : Facts) (c p : ℕ) → is_child_of G c p ≡ true → is_neighbour G p c ≡ true
+parent_near G c p is = or_right (is_child_of G p c) _ is
+
+-- neighbours were born
+pub near_born : (G : Facts) (x y : ℕ) → IsTree G → is_neighbour G x y ≡ true → x < G.born
+near_born G x y tree is = elim (or_cases (is_child_of G x y) (is_child_of G y x) is) [
+  | inl up ↦ (child_under G x y tree up).below
+  | inr down ↦ let under = child_under G y x tree down in omega (arith, under.below, under.above)
+]
+
+-- what was born lives, and what lives was born
+pub born_living : (G : Facts) (e : ℕ) → IsTree G → e < G.born → is_living_enclave (G.enclave e) ≡ true
+born_living G e tree lt = (tree.enclaves e).living ∙ lt-ltb e G.born lt
+
+pub living_born : (G : Facts) (e : ℕ) → IsTree G → is_living_enclave (G.enclave e) ≡ true → e < G.born
+living_born G e tree is = ltb-true e G.born (sym (tree.enclaves e).living ∙ is)
+
+pub near_living : (G : Facts) (x y : ℕ) → IsTree G → is_neighbour G x y ≡ true → is_living_enclave (G.enclave x) ≡ true
+near_living G x y tree is = born_living G x tree (near_born G x y tree is)
+
+-- who aren't neighbours where there are more neighbours aren't where there are fewer
+pub far_before : (G H : Facts) → ((x y : ℕ) → is_neighbour G x y ≡ true → is_neighbour H x y ≡ true) → (x y : ℕ)
+    → is_neighbour H x y ≡ false → is_neighbour G x y ≡ false
+far_before G H grows x y far = false_from_ne_true (is_neighbour G x y) (λ near. both_ways (is_neighbour H x y) far (grows x y near))
+
+-- ---- an admission
+
+below_admitted : (born e : ℕ) (fact : Option EnclaveFact) → IsBornBelow born e fact → IsBornBelow born e (as_admitted fact)
+below_admitted born e None is = is
+below_admitted born e (Some fact) is = record { known = is.known; living = is.living; above = is.above }
+
+pub tree_admitted : (G : Facts) (e : Enclave) → IsTree G → IsTree (after_line G (lines.Admitted e))
+tree_admitted G e tree = record { most = tree.most; enclaves = λ j. by j (eqb j e.0) refl }
+  where
+    by : (j : ℕ) (b : Bool) → eqb j e.0 ≡ b → IsBornBelow G.born j (cond b (as_admitted (G.enclave e.0)) (G.enclave j))
+    by j true is = subst (λ k. IsBornBelow G.born k (as_admitted (G.enclave e.0))) (sym (eqb-true j e.0 is))
+        (below_admitted G.born e.0 (G.enclave e.0) (tree.enclaves e.0))
+    by j false is = tree.enclaves j
+
+parent_admitted : (p : ℕ) (fact : Option EnclaveFact) → has_parent p (as_admitted fact) ≡ has_parent p fact
+parent_admitted p None = refl
+parent_admitted p (Some fact) = refl
+
+child_admitted : (G : Facts) (e : Enclave) (c p : ℕ) → is_child_of (after_line G (lines.Admitted e)) c p ≡ is_child_of G c p
+child_admitted G e c p = by (eqb c e.0) refl
+  where
+    by : (b : Bool) → eqb c e.0 ≡ b
+        → (not (eqb c 0) && has_parent p (cond b (as_admitted (G.enclave e.0)) (G.enclave c)))
+        ≡ (not (eqb c 0) && has_parent p (G.enclave c))
+    by true is = ap (λ has. not (eqb c 0) && has)
+        (parent_admitted p (G.enclave e.0) ∙ ap (λ k. has_parent p (G.enclave k)) (sym (eqb-true c e.0 is)))
+    by false is = refl
+
+pub near_admitted : (G : Facts) (e : Enclave) (x y : ℕ) → is_neighbour (after_line G (lines.Admitted e)) x y ≡ is_neighbour G x y
+near_admitted G e x y = rw (child_admitted G e x y, child_admitted G e y x) refl
+
+-- ---- a birth
+
+other_below : (born j : ℕ) (fact : Option EnclaveFact) → eqb j born ≡ false → IsBornBelow born j fact → IsBornBelow (born + 1) j fact
+other_below born j fact other below =
+    let same : ltb j born ≡ ltb j (born + 1) = by (ltb j born) refl in
+    record { known = below.known ∙ same; living = below.living ∙ same; above = below.above }
+  where
+    by : (b : Bool) → ltb j born ≡ b → b ≡ ltb j (born + 1)
+    by true is = let lt : j < born = ltb-true j born is in sym (lt-ltb j (born + 1) (omega (arith, lt)))
+    by false is =
+        let le : born ≤ j = ltb-false j born is in
+        let apart : j ≢ born = eqb-false j born other in
+        sym (le-ltb j (born + 1) (omega (arith, le, apart)))
+
+pub tree_born : (G : Facts) (e : Enclave) (kind : Kind) (parent : Enclave) (ns : Bool) (blocks : List Block) → IsTree G → G.born < 256
+    → e.0 ≡ G.born → (0 < e.0 → parent.0 < e.0)
+    → IsTree (after_line G (lines.Born e kind parent ns blocks))
+tree_born G e kind parent ns blocks tree room next above = record { most = omega (arith, room); enclaves = λ j. by j (eqb j e.0) refl }
+  where
+    by : (j : ℕ) (b : Bool) → eqb j e.0 ≡ b
+        → IsBornBelow (G.born + 1) j (cond b
+        (Some (record { kind = kind; parent = parent; blocks = blocks; ns = ns; living = true; admitted = false }))
+        (G.enclave j))
+    by j true is =
+        let same : j ≡ e.0 = eqb-true j e.0 is in
+        let lt : ltb j (G.born + 1) ≡ true = lt-ltb j (G.born + 1) (omega (arith, same, next)) in
+        record {
+          known = sym lt;
+          living = sym lt;
+          above = λ p has some. let number : parent.0 ≡ p
+              = eqb-true parent.0 p has in let lower : parent.0 < e.0 = above (omega (arith, same, some)) in omega
+              (arith, number, lower, same);
+        }
+    by j false is = other_below G.born j (G.enclave j) (rw next at is) (tree.enclaves j)
+
+child_grows : (G : Facts) (e : Enclave) (kind : Kind) (parent : Enclave) (ns : Bool) (blocks : List Block) → IsTree G → e.0 ≡ G.born
+    → (c p : ℕ) → is_child_of G c p ≡ true → is_child_of (after_line G (lines.Born e kind parent ns blocks)) c p ≡ true
+child_grows G e kind parent ns blocks tree next c p is =
+    let under = child_under G c p tree is in
+    let other : eqb c e.0 ≡ false = ne_eqb c e.0 (λ same. omega (arith, same, next, under.below)) in
+    rw other is
+
+-- neighbours stay neighbours when another enclave is born
+pub near_grows : (G : Facts) (e : Enclave) (kind : Kind) (parent : Enclave) (ns : Bool) (blocks : List Block) → IsTree G → e.0 ≡ G.born
+    → (x y : ℕ) → is_neighbour G x y ≡ true → is_neighbour (after_line G (lines.Born e kind parent ns blocks)) x y ≡ true
+near_grows G e kind parent ns blocks tree next x y is = elim (or_cases (is_child_of G x y) (is_child_of G y x) is) [
+  | inl up ↦ or_left _ _ (child_grows G e kind parent ns blocks tree next x y up)
+  | inr down ↦ or_right _ _ (child_grows G e kind parent ns blocks tree next y x down)
+]
+
+-- and it is its parent's
+pub near_newborn : (G : Facts) (e : Enclave) (kind : Kind) (parent : Enclave) (ns : Bool) (blocks : List Block) → 0 < e.0
+    → is_neighbour (after_line G (lines.Born e kind parent ns blocks)) e.0 parent.0 ≡ true
+near_newborn G e kind parent ns blocks some =
+    let here : eqb e.0 e.0 ≡ true = eq-eqb e.0 e.0 refl in
+    let mine : eqb parent.0 parent.0 ≡ true = eq-eqb parent.0 parent.0 refl in
+    let H = after_line G (lines.Born e kind parent ns blocks) in
+    child_near H e.0 parent.0 (is_child H e.0 parent.0 some (rw here (rw mine refl)))
