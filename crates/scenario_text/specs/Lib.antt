@@ -1,0 +1,11 @@
+pub mod Words
+pub mod Forms
+pub mod Scenario
+pub mod Digits
+pub mod Rows
+pub mod Items
+pub mod Tables
+pub mod Slots
+pub mod Lines
+pub mod Typed
+pub mod Examples
