@@ -3,3 +3,5 @@ pub mod RowLemmas
 pub mod PoolLemmas
 pub mod BirthLemmas
 pub mod ReceiveLemmas
+pub mod SideLemmas
+pub mod WayLemmas

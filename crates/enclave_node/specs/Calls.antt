@@ -4,7 +4,7 @@ use Rattle.xm_num.specs.declared.Pid.{Pid}
 use Rattle.global_model.specs.declared.line.Line.{Line}
 use Rattle.global_model.specs.Ranges.{IsWithin}
 use Rattle.global_model.specs.View.{View}
-use Rattle.global_model.specs.Steps.{alloc_lines, state_lines}
+use Rattle.global_model.specs.Steps.{alloc_lines, route_lines, state_lines}
 use Rattle.enclave_node.specs.declared.call.Call.{Call}
 use Rattle.enclave_node.specs.declared.call.Call.TheVariants as calls
 use Rattle.enclave_node.specs.declared.call.Show.{Show}
@@ -18,10 +18,12 @@ IsCallInRange (calls.Alloc at n) = IsWithin 1 16777215 at.0 × IsWithin 1 4096 n
 abbrev pub call_lines : View → Pid → Call → List Line
 call_lines v p (calls.Alloc at n) = alloc_lines v p at n
 
--- the enclave has what is to be shown: the pool, the host
+-- the enclave has what is to be shown: the host has the pool
 abbrev pub HasShown : View → Show → Type 0
+HasShown v shows.Routes = Unit {0}
 HasShown v shows.Pool = v.me.0 ≡ 0
 
 -- the lines that show it
 abbrev pub show_lines : View → Show → List Line
+show_lines v shows.Routes = route_lines v
 show_lines v shows.Pool = state_lines 0 v.host.states

@@ -4,3 +4,4 @@ pub mod Blocks
 pub mod Births
 pub mod Calls
 pub mod Answers
+pub mod Sides

@@ -11,6 +11,8 @@ pub enum Call {
 /// What can be shown of a node.
 #[derive(Clone, Copy, Debug, PartialEq, Eq)]
 pub enum Show {
+    /// The way to the name server, and the learned routes.
+    Routes,
     /// The state of each block, at the host.
     Pool,
 }

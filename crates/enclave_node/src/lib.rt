@@ -10,6 +10,7 @@ mod host;
 mod lists;
 mod node;
 mod process;
+mod sides;
 mod state;
 #[cfg(test)]
 mod tests;

@@ -292,6 +292,7 @@ impl<A: AddressSpace> Node<A> {
         }
         let mut fresh = Lines::new(self.alloc);
         match what {
+            Show::Routes => self.state.show_routes(&mut fresh)?,
             Show::Pool => self.state.show_pool(&mut fresh)?,
         }
         out.append(fresh)

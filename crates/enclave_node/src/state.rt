@@ -6,6 +6,7 @@ ghost use Rattle.enclave_node.specs.Births.{born_view};
 
 mod calls;
 mod records;
+mod ways;
 
 use crate::children::Children;
 use crate::frames::Frames;
@@ -14,6 +15,7 @@ use crate::process::Process;
 use frame_pool::PoolFault;
 use global_model::{Line, Lines};
 use page_table::AddressSpace;
+use route_learn::Routes;
 use std::alloc::{AllocError, Global};
 use std::marker::Model;
 use xemem_wire::{Body, Record};
@@ -40,10 +42,9 @@ pub struct State<A: AddressSpace> {
     kind: Kind,
     parent: Enclave,
     blocks: BlockList,
-    holder: bool,
     admitted: bool,
     heard: EnclaveList,
-    way: Option<Enclave>,
+    routes: Routes,
     frames: Frames,
     processes: Vec<Process<A>>,
     children: Children,
@@ -52,7 +53,9 @@ pub struct State<A: AddressSpace> {
 
 impl<A: AddressSpace> Model for State<A> {
     ghost use Rattle.global_model.specs.View.{View};
+    ghost use Rattle.std.specs.Prelude.{option_map};
     ghost use Rattle.enclave_node.specs.Births.{host_view};
+    ghost use Rattle.enclave_node.specs.Sides.{enclave_of, rows_of};
 
     ghost Value = { View };
 
@@ -61,10 +64,13 @@ impl<A: AddressSpace> Model for State<A> {
       kind = s.kind;
       parent = s.parent;
       blocks = s.blocks;
-      holder = s.holder;
+      holder = s.routes.holder;
       admitted = s.admitted;
       heard = s.heard;
-      way = s.way;
+      way = option_map (enclave_of s.parent) s.routes.way;
+      askers = rows_of s.parent s.routes.askers;
+      backs = rows_of s.parent s.routes.back;
+      routes = rows_of s.parent s.routes.routes;
       free = s.frames;
       processes = s.processes.items;
       children = s.children;
@@ -93,24 +99,23 @@ pub fn query(me: Enclave) -> Record
 
 impl<A: AddressSpace> State<A> {
     /// The state of an enclave as it is born. The holder of the name server is admitted at its birth.
-    pub fn born(alloc: Global, birth: Birth) -> State<A>
-        ensures { result ≡ born_view birth }
+    pub fn born(alloc: Global, birth: Birth) -> Result<State<A>, AllocError>
+        ensures { IfOk result (λ state. state ≡ born_view birth) }
     {
-        State {
+        Ok(State {
             alloc,
             me: birth.me,
             kind: birth.kind,
             parent: birth.parent,
             blocks: birth.blocks,
-            holder: birth.holder,
             admitted: birth.holder,
             heard: birth.heard,
-            way: None,
+            routes: Routes::new(alloc, birth.holder)?,
             frames: birth.frames,
             processes: Vec::new(alloc),
             children: Children::new(alloc),
             host: birth.host,
-        }
+        })
     }
 
     /// The enclave's number.
@@ -137,7 +142,7 @@ impl<A: AddressSpace> State<A> {
     fn knows_way(&self) -> bool
         ensures { result ≡ steps.knows_way self.now }
     {
-        self.holder || self.way.is_some()
+        self.is_holder() || self.way().is_some()
     }
 
     /// The host lends the `n` lowest free blocks to an enclave that is born, and records its parent. Where too few are
@@ -189,10 +194,9 @@ impl<A: AddressSpace> State<A> {
             kind: _,
             parent: _,
             blocks: _,
-            holder: _,
             admitted: _,
             heard: _,
-            way: _,
+            routes: _,
             frames: _,
             mut processes,
             children: _,

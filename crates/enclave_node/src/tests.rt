@@ -3,6 +3,8 @@ ghost use Rattle.std.specs.Prelude.{◌≡◌, ◌≤◌, [], ◌∷◌, length,
 ghost use Rattle.xm_num.specs.Rows.{at};
 ghost use Rattle.enclave_node.specs.Nodes.{number_of, new_host};
 
+mod ways;
+
 use crate::{Call, Node, NodeFault, Show};
 use frame_pool::PoolFault;
 use global_model::{Line, Lines};
@@ -58,6 +60,14 @@ fn words_of(alloc: Global, line: &Line) -> Result<String, AllocError> {
         Line::Got { from, to } => format!(in alloc; "got {} {}", from.0, to.0),
         Line::End { from, to, torn } => format!(in alloc; "end {} {} {torn}", from.0, to.0),
         Line::Dropped { enclave } => format!(in alloc; "drop {}", enclave.0),
+        _ => way_words(alloc, line),
+    }
+}
+
+// The words of a line about ways.
+fn way_words(alloc: Global, line: &Line) -> Result<String, AllocError> {
+    match line {
+        Line::Asked { enclave, by } => format!(in alloc; "asked {} {}", enclave.0, by.0),
         Line::Way { enclave, over } => format!(in alloc; "way {} {}", enclave.0, over.0),
         Line::Back { enclave, of, over } => format!(in alloc;
             "back {} {} {}",
@@ -65,6 +75,13 @@ fn words_of(alloc: Global, line: &Line) -> Result<String, AllocError> {
         ),
         Line::Route { enclave, of, over } => format!(in alloc;
             "route {} {} {}",
+            enclave.0, of.0, over.0
+        ),
+        Line::AtWay { enclave, over } => format!(in alloc; "at way {} {}", enclave.0, over.0),
+        Line::AtWayOwn { enclave } => format!(in alloc; "at way {} own", enclave.0),
+        Line::AtWayNone { enclave } => format!(in alloc; "at way {} none", enclave.0),
+        Line::AtRoute { enclave, of, over } => format!(in alloc;
+            "at route {} {} {}",
             enclave.0, of.0, over.0
         ),
         _ => memory_words(alloc, line),
@@ -357,6 +374,8 @@ fn a_child_registers<A: AddressSpace>(rt: &impl Abort, alloc: Global) {
             "admitted 3",
         ],
     );
+    assert_eq!(rt; says(node.show(Show::Routes, &mut out)), "done");
+    wrote(rt, alloc, &mut out, &["at way 3 1"]);
     starts(rt, &mut node, &mut out, 1);
     allocates(rt, &mut node, &mut out, 1, 1, 65);
     assert_eq!(rt;
@@ -399,6 +418,8 @@ fn a_bad_field_stops_a_channel<A: AddressSpace>(rt: &impl Abort, alloc: Global) 
             "drop 0",
         ],
     );
+    assert_eq!(rt; says(node.show(Show::Routes, &mut out)), "done");
+    wrote(rt, alloc, &mut out, &["at way 0 own", "at route 0 1 1"]);
     let bad = NodeFault::BadRecord {
         fault: WireFault::Version,
         place: 68,
@@ -446,7 +467,7 @@ fn an_end_drops_torn_bytes<A: AddressSpace>(rt: &impl Abort, alloc: Global) {
     feeds(rt, &mut node, child, &QUERY_OF_1[9..], &mut out, Ok(()));
     feeds(rt, &mut node, child, &HERE_OF_1[..5], &mut out, Ok(()));
     match node.ended(Enclave(1), &mut out) {
-        Ok(()) => wrote(rt, alloc, &mut out, &["got 1 0", "drop 0", "end 1 0 5"]),
+        Ok(()) => wrote(rt, alloc, &mut out, &["got 1 0", "asked 0 1", "end 1 0 5"]),
         Err(AllocError) => panic!(rt; "memory is wanting"),
     }
     node.close();

@@ -57,14 +57,20 @@ impl<A: AddressSpace> Node<A> {
         ensures err { OnErr result (out.new ≡ out.old) }
     {
         let appended = fresh.words();
-        out.append(fresh)?;
-        Ok(Node {
-            alloc,
-            state: State::born(alloc, birth),
-            feeds,
-            appended,
-            failed: false,
-        })
+        let state = State::born(alloc, birth)?;
+        match out.append(fresh) {
+            Ok(()) => Ok(Node {
+                alloc,
+                state,
+                feeds,
+                appended,
+                failed: false,
+            }),
+            Err(AllocError) => {
+                state.close();
+                Err(AllocError)
+            }
+        }
     }
 
     /// Makes the host, with the first `n` blocks of a pool of so many, 1 to 4,096. It may hold the name server.

@@ -1,8 +1,10 @@
 // What an enclave does with a record.
-ghost use Rattle.std.specs.Prelude.{◌≡◌, [], ◌∷◌, ◌++◌, OnOk};
+ghost use Rattle.std.specs.Prelude.{◌≡◌, [], ◌∷◌, ◌++◌, Some, OnOk};
+ghost use Rattle.xm_num.specs.Rows.{at};
 ghost use Rattle.global_model.specs.declared.line.Line.TheVariants as lines;
 ghost use Rattle.global_model.specs.View.{own_lines};
 ghost use Rattle.global_model.specs.Steps as steps;
+ghost use Rattle.enclave_node.specs.Sides as spec;
 
 use super::{State, plain};
 use crate::feeds::Feed;
@@ -11,12 +13,13 @@ use page_table::AddressSpace;
 use std::alloc::AllocError;
 use xemem_wire::{Body, Record};
 use xm_num::Enclave;
+use xm_num::laws::rows;
 
 impl<A: AddressSpace> State<A> {
     /// Gets a record that came whole from a neighbour, and handles it.
-    pub fn take(&mut self, from: Enclave, rec: &Record, out: &mut Lines) -> Result<(), AllocError>
-        ensures lines { OnOk result (out.new ≡ out.old ++ lines.Got from self.old.me ∷ steps.record_lines self.old from rec.now) }
-        ensures after { OnOk result (self.new ≡ own_lines self.old (steps.record_lines self.old from rec.now)) }
+    pub fn take(&mut self, from: Enclave, rec: Record, out: &mut Lines) -> Result<(), AllocError>
+        ensures lines { OnOk result (out.new ≡ out.old ++ lines.Got from self.old.me ∷ steps.record_lines self.old from rec) }
+        ensures after { OnOk result (self.new ≡ own_lines self.old (steps.record_lines self.old from rec)) }
     {
         out.push(Line::Got { from, to: self.me })?;
         self.handle(from, rec, out)
@@ -34,23 +37,23 @@ impl<A: AddressSpace> State<A> {
         ensures given { OnOk result (feed.new ≡ record feed.old { records = [] }) }
     {
         while let Some(rec) = feed.next()? {
-            self.take(from, &rec, out)?;
+            self.take(from, rec, out)?;
         }
         Ok(())
     }
 
-    fn handle(&mut self, from: Enclave, rec: &Record, out: &mut Lines) -> Result<(), AllocError>
-        ensures lines { OnOk result (out.new ≡ out.old ++ steps.record_lines self.old from rec.now) }
-        ensures after { OnOk result (self.new ≡ own_lines self.old (steps.record_lines self.old from rec.now)) }
+    fn handle(&mut self, from: Enclave, rec: Record, out: &mut Lines) -> Result<(), AllocError>
+        ensures lines { OnOk result (out.new ≡ out.old ++ steps.record_lines self.old from rec) }
+        ensures after { OnOk result (self.new ≡ own_lines self.old (steps.record_lines self.old from rec)) }
     {
-        if self.is_stray(rec) {
+        if self.is_stray(&rec) {
             return self.drop_record(out);
         }
         match rec.body {
             Body::Query => self.on_query(from, out),
             Body::Here => self.on_here(from, out),
-            Body::Register => self.on_register(from, rec.origin, out),
-            Body::Admit => self.on_admit(rec.dest, out),
+            Body::Register => self.on_register(from, rec, out),
+            Body::Admit => self.on_admit(from, rec, out),
             _ => self.drop_record(out),
         }
     }
@@ -81,32 +84,37 @@ impl<A: AddressSpace> State<A> {
         out.push(Line::Dropped { enclave: self.me })
     }
 
+    // Answers a query where the way is known, and else remembers who asked.
     fn on_query(&mut self, from: Enclave, out: &mut Lines) -> Result<(), AllocError>
         ensures lines { OnOk result (out.new ≡ out.old ++ steps.query_lines self.old from) }
-        ensures same { self.new ≡ self.old }
+        ensures after { OnOk result (self.new ≡ own_lines self.old (steps.query_lines self.old from)) }
     {
-        if !self.knows_way() {
-            return self.drop_record(out);
+        if self.asked(from)? {
+            return out.push(Line::Sent {
+                from: self.me,
+                to: from,
+                rec: plain(self.me, Body::Here),
+            });
         }
-        out.push(Line::Sent {
-            from: self.me,
-            to: from,
-            rec: plain(self.me, Body::Here),
+        out.push(Line::Asked {
+            enclave: self.me,
+            by: from,
         })
     }
 
+    // Learns the way, tells it to those that asked, and registers over it.
     fn on_here(&mut self, from: Enclave, out: &mut Lines) -> Result<(), AllocError>
         ensures lines { OnOk result (out.new ≡ out.old ++ steps.here_lines self.old from) }
         ensures after { OnOk result (self.new ≡ own_lines self.old (steps.here_lines self.old from)) }
     {
-        if self.knows_way() {
+        if !self.told(from) {
             return self.drop_record(out);
         }
-        self.way = Some(from);
         out.push(Line::Way {
             enclave: self.me,
             over: from,
         })?;
+        self.tell_askers(out)?;
         out.push(Line::Sent {
             from: self.me,
             to: from,
@@ -114,23 +122,32 @@ impl<A: AddressSpace> State<A> {
         })
     }
 
-    fn on_register(
-        &mut self,
-        from: Enclave,
-        origin: Enclave,
-        out: &mut Lines,
-    ) -> Result<(), AllocError>
-        ensures lines { OnOk result (out.new ≡ out.old ++ steps.register_lines self.old from origin) }
-        ensures same { self.new ≡ self.old }
+    // Remembers the way back. The holder of the name server admits, and another enclave passes the record on.
+    fn on_register(&mut self, from: Enclave, rec: Record, out: &mut Lines) -> Result<(), AllocError>
+        ensures lines { OnOk result (out.new ≡ out.old ++ steps.register_lines self.old from rec) }
+        ensures after { OnOk result (self.new ≡ own_lines self.old (steps.register_lines self.old from rec)) }
     {
-        if !self.holder {
-            return self.drop_record(out);
-        }
+        rows::<Enclave>();
+        self.back(rec.origin, from)?;
         out.push(Line::Back {
             enclave: self.me,
-            of: origin,
+            of: rec.origin,
             over: from,
         })?;
+        if self.is_holder() {
+            return self.admit(rec.origin, from, out);
+        }
+        let over = self.way();
+        self.pass_on(from, over, rec, out)
+    }
+
+    // Makes the way back that was just remembered the route, and admits over it.
+    fn admit(&mut self, origin: Enclave, from: Enclave, out: &mut Lines) -> Result<(), AllocError>
+        requires { at self.old.backs origin.0 ≡ Some from }
+        ensures lines { OnOk result (out.new ≡ out.old ++ spec.admitting_lines self.old from origin) }
+        ensures after { OnOk result (self.new ≡ own_lines self.old (spec.admitting_lines self.old from origin)) }
+    {
+        self.learn(origin)?;
         out.push(Line::Route {
             enclave: self.me,
             of: origin,
@@ -148,23 +165,58 @@ impl<A: AddressSpace> State<A> {
         })
     }
 
-    fn on_admit(&mut self, dest: Option<Enclave>, out: &mut Lines) -> Result<(), AllocError>
-        ensures lines { OnOk result (out.new ≡ out.old ++ steps.admit_lines self.old dest) }
-        ensures after { OnOk result (self.new ≡ own_lines self.old (steps.admit_lines self.old dest)) }
+    // Passes a record on over a neighbour, where there is one and it isn't the one over which it came.
+    fn pass_on(
+        &mut self,
+        from: Enclave,
+        over: Option<Enclave>,
+        rec: Record,
+        out: &mut Lines,
+    ) -> Result<(), AllocError>
+        ensures lines { OnOk result (out.new ≡ out.old ++ steps.passed_lines self.old from over rec) }
+        ensures same { self.new ≡ self.old }
     {
-        if !self.is_for_me(dest) || self.admitted {
+        match over {
+            Some(to) if to.0 != from.0 => out.push(Line::Sent {
+                from: self.me,
+                to,
+                rec,
+            }),
+            _ => self.drop_record(out),
+        }
+    }
+
+    // Takes its own admit, and passes another on over the way back, which becomes the route.
+    fn on_admit(&mut self, from: Enclave, rec: Record, out: &mut Lines) -> Result<(), AllocError>
+        ensures lines { OnOk result (out.new ≡ out.old ++ steps.admit_to self.old from rec rec.dest) }
+        ensures after { OnOk result (self.new ≡ own_lines self.old (steps.admit_to self.old from rec rec.dest)) }
+    {
+        let Some(dest) = rec.dest else {
+            return self.drop_record(out);
+        };
+        if dest.0 == self.me.0 {
+            return self.become_ready(out);
+        }
+        let Some(over) = self.learn(dest)? else {
+            return self.drop_record(out);
+        };
+        out.push(Line::Route {
+            enclave: self.me,
+            of: dest,
+            over,
+        })?;
+        self.pass_on(from, Some(over), rec, out)
+    }
+
+    // The first admit for the enclave itself makes it ready.
+    fn become_ready(&mut self, out: &mut Lines) -> Result<(), AllocError>
+        ensures lines { OnOk result (out.new ≡ out.old ++ spec.ready_lines self.old) }
+        ensures after { OnOk result (self.new ≡ own_lines self.old (spec.ready_lines self.old)) }
+    {
+        if self.admitted {
             return self.drop_record(out);
         }
         self.admitted = true;
         out.push(Line::Admitted { enclave: self.me })
-    }
-
-    fn is_for_me(&self, dest: Option<Enclave>) -> bool
-        ensures { result ≡ steps.is_for self.now dest }
-    {
-        match dest {
-            Some(enclave) => enclave.0 == self.me.0,
-            None => false,
-        }
     }
 }

@@ -1,0 +1,124 @@
+-- What an enclave learns of ways, by the sides of its neighbours and by their numbers.
+use Rattle.std.proofs.Common.{◌≡◌, ℕ, Bool, true, false, ◌||◌, List, [], ◌∷◌, ◌++◌, Option, None, Some, refl, sym, ap, subst, ◌∙◌}
+use Rattle.std.specs.Prelude.{option_map, not, if◌then◌else◌, Result, Ok, Err, OnOk}
+use Rattle.xm_num.specs.declared.Enclave.{Enclave}
+use Rattle.xm_num.specs.declared.Neighbour.{Neighbour}
+use Rattle.xm_num.specs.Rows.{at, put, less, next_from, IsAscending}
+use Rattle.route_learn.specs.Routes as ways
+use Rattle.route_learn.specs.Routes.{RouteView, place_of}
+use Rattle.global_model.specs.declared.line.Line.TheVariants as lines
+use Rattle.global_model.specs.Facts.{place_among}
+use Rattle.global_model.specs.View.{View, own_line, own_lines}
+use Rattle.global_model.specs.Steps.{register_of, here_lines, knows_way, told_askers, drop_lines}
+use Rattle.enclave_node.specs.Sides.{enclave_of, side_of, rows_of, with_way, with_route}
+use Rattle.enclave_node.proofs.RowLemmas.{put_map, less_map, at_map, next_map, ascending_map}
+use Rattle.enclave_node.proofs.SideLemmas.{place_same, number_same, known_same, told_kept}
+
+-- a view with what is learned of ways
+abbrev pub seen : View → RouteView → View
+seen v r = record v { holder = r.holder; way = option_map (enclave_of v.parent) r.way; askers = rows_of v.parent r.askers; backs = rows_of v.parent r.back; routes = rows_of v.parent r.routes }
+
+-- ---- tables by the neighbours' numbers
+
+put_number : (p x : Enclave) (n : Neighbour) (rows : List (ℕ × Neighbour)) (k : ℕ) → n ≡ side_of p x → rows_of p (put rows k n) ≡ put (rows_of p rows) k x
+put_number p x n rows k side = put_map (enclave_of p) rows k n ∙ ap (λ e. put (rows_of p rows) k e) (ap (enclave_of p) side ∙ number_same p x)
+
+place_number : (p x : Enclave) (n : Neighbour) → n ≡ side_of p x → place_of n ≡ place_among p x
+place_number p x n side = ap place_of side ∙ place_same p x
+
+put_place : (p x : Enclave) (n : Neighbour) (rows : List (ℕ × Neighbour)) → n ≡ side_of p x → rows_of p (put rows (place_of n) n) ≡ put (rows_of p rows) (place_among p x) x
+put_place p x n rows side = put_number p x n rows (place_of n) side ∙ ap (λ k. put (rows_of p rows) k x) (place_number p x n side)
+
+less_place : (p x : Enclave) (n : Neighbour) (rows : List (ℕ × Neighbour)) → n ≡ side_of p x → rows_of p (less rows (place_of n)) ≡ less (rows_of p rows) (place_among p x)
+less_place p x n rows side = less_map (enclave_of p) rows (place_of n) ∙ ap (λ k. less (rows_of p rows) k) (place_number p x n side)
+
+knows_same : (v : View) (r : RouteView) → knows_way (seen v r) ≡ ways.knows_way r
+knows_same v r = ap (λ b. r.holder || b) (known_same v.parent r.way)
+
+-- ---- what each call leaves
+
+asked_view : (v : View) (r : RouteView) (n : Neighbour) (x : Enclave) → n ≡ side_of v.parent x
+    → seen v (ways.after_asked r n) ≡ (if knows_way (seen v r) then seen v r else own_line (seen v r) (lines.Asked v.me x))
+asked_view v r n x side = rw (knows_same v r) (by (ways.knows_way r))
+  where
+    by : (b : Bool) → seen v (if b then r else ways.with_asker r n) ≡ (if b then seen v r else own_line (seen v r) (lines.Asked v.me x))
+    by true = refl
+    by false = ap (λ rows. record (seen v r) { askers = rows }) (put_place v.parent x n r.askers side)
+
+told_view : (v : View) (r : RouteView) (n : Neighbour) (x : Enclave) → n ≡ side_of v.parent x
+    → seen v (ways.after_here r n) ≡ (if knows_way (seen v r) then seen v r else with_way (seen v r) x)
+told_view v r n x side = rw (knows_same v r) (by (ways.knows_way r))
+  where
+    number : enclave_of v.parent n ≡ x
+    number = ap (enclave_of v.parent) side ∙ number_same v.parent x
+
+    by : (b : Bool) → seen v (if b then r else ways.with_way r n) ≡ (if b then seen v r else with_way (seen v r) x)
+    by true = refl
+    by false = ap (λ e. record (seen v r) { way = Some e; askers = rows_of v.parent (less r.askers (place_of n)) }) number
+        ∙ ap (λ rows. record (seen v r) { way = Some x; askers = rows }) (less_place v.parent x n r.askers side)
+
+back_view : (v : View) (r : RouteView) (n : Neighbour) (of x : Enclave) → n ≡ side_of v.parent x
+    → seen v (ways.with_back r of n) ≡ own_line (seen v r) (lines.Back v.me of x)
+back_view v r n of x side = ap (λ rows. record (seen v r) { backs = rows }) (put_number v.parent x n r.back of.0 side)
+
+learned_view : (v : View) (r : RouteView) (of : Enclave) → seen v (ways.after_learn r of) ≡ with_route (seen v r) of (at (rows_of v.parent r.back) of.0)
+learned_view v r of = rw (at_map (enclave_of v.parent) r.back of.0) (by (at r.back of.0))
+  where
+    by : (found : Option Neighbour) → seen v (ways.with_route r of found) ≡ with_route (seen v r) of (option_map (enclave_of v.parent) found)
+    by None = refl
+    by (Some n) = ap (λ rows. record (seen v r) { routes = rows }) (put_map (enclave_of v.parent) r.routes of.0 n)
+
+-- ---- the same, where the view was given another form
+
+pub asked_seen : {T E : Type 0} (done : Result T E) (v now : View) (r new : RouteView) (n : Neighbour) (x : Enclave) → v ≡ now → v ≡ seen v r → n ≡ side_of v.parent x
+    → OnOk done (new ≡ ways.after_asked r n) → OnOk done (seen v new ≡ (if knows_way now then now else own_line now (lines.Asked now.me x)))
+asked_seen (Err e) v now r new n x is sees side after = tt
+asked_seen (Ok t) v now r new n x is sees side after = ap (seen v) after ∙ asked_view v r n x side
+    ∙ ap (λ w. if knows_way w then w else own_line w (lines.Asked w.me x)) (sym sees ∙ is)
+
+pub told_seen : (v now : View) (r new : RouteView) (n : Neighbour) (x : Enclave) → v ≡ now → v ≡ seen v r → n ≡ side_of v.parent x
+    → new ≡ ways.after_here r n → seen v new ≡ (if knows_way now then now else with_way now x)
+told_seen v now r new n x is sees side after = ap (seen v) after ∙ told_view v r n x side ∙ ap (λ w. if knows_way w then w else with_way w x) (sym sees ∙ is)
+
+pub back_seen : {T E : Type 0} (done : Result T E) (v now : View) (r new : RouteView) (n : Neighbour) (of x : Enclave) → v ≡ now → v ≡ seen v r → n ≡ side_of v.parent x
+    → OnOk done (new ≡ ways.with_back r of n) → OnOk done (seen v new ≡ own_line now (lines.Back now.me of x))
+back_seen (Err e) v now r new n of x is sees side after = tt
+back_seen (Ok t) v now r new n of x is sees side after = ap (seen v) after ∙ back_view v r n of x side ∙ ap (λ w. own_line w (lines.Back w.me of x)) (sym sees ∙ is)
+
+pub learned_seen : (v now : View) (r new : RouteView) (of : Enclave) → v ≡ now → v ≡ seen v r
+    → new ≡ ways.after_learn r of → seen v new ≡ with_route now of (at now.backs of.0)
+learned_seen v now r new of is sees after = ap (seen v) after ∙ learned_view v r of ∙ ap (λ w. with_route w of (at w.backs of.0)) (sym sees ∙ is)
+
+-- the way back to an enclave
+pub back_at : (v now : View) (r : RouteView) (of : Enclave) (found : Option Neighbour) → v ≡ now → v ≡ seen v r → found ≡ at r.back of.0
+    → option_map (enclave_of v.parent) found ≡ at now.backs of.0
+back_at v now r of found is sees looked =
+    ap (option_map (enclave_of v.parent)) looked ∙ sym (at_map (enclave_of v.parent) r.back of.0) ∙ ap (λ w. at w.backs of.0) (sym sees ∙ is)
+
+-- learned routes
+pub next_seen : (v now : View) (r : RouteView) (low : ℕ) (found : Option ℕ) → v ≡ now → v ≡ seen v r → found ≡ next_from r.routes low → found ≡ next_from now.routes low
+next_seen v now r low found is sees looked = looked ∙ sym (next_map (enclave_of v.parent) r.routes low) ∙ ap (λ w. next_from w.routes low) (sym sees ∙ is)
+
+pub route_at : (v now : View) (r : RouteView) (k : ℕ) (n : Neighbour) (x : Enclave) → v ≡ now → v ≡ seen v r → at r.routes k ≡ Some n → x ≡ enclave_of v.parent n
+    → at now.routes k ≡ Some x
+route_at v now r k n x is sees looked number =
+    ap (λ w. at w.routes k) (sym is ∙ sees) ∙ at_map (enclave_of v.parent) r.routes k ∙ ap (option_map (enclave_of v.parent)) looked ∙ ap Some (sym number)
+
+pub routes_ascend : (v now : View) (r : RouteView) → v ≡ now → v ≡ seen v r → IsAscending r.routes → IsAscending now.routes
+routes_ascend v now r is sees ascends = subst (λ (w : View). IsAscending w.routes) (sym sees ∙ is) (ascending_map (enclave_of v.parent) r.routes ascends)
+
+-- ---- the first word of the way
+
+pub here_seen : {T E : Type 0} (done : Result T E) (v told left : View) (from : Enclave) (first : Bool) → first ≡ true → first ≡ not (knows_way v)
+    → told ≡ (if knows_way v then v else with_way v from) → left ≡ record told { askers = [] } → OnOk done (left ≡ own_lines v (here_lines v from))
+here_seen (Err e) v told left from first was is after last = tt
+here_seen (Ok t) v told left from first was is after last = by (knows_way v) (sym is ∙ was) after
+  where
+    step : told ≡ with_way v from → left ≡ own_lines (record v { way = Some from; askers = [] }) (told_askers v (less v.askers (place_among v.parent from)) ++ lines.Sent v.me from (register_of v.me) ∷ [])
+    step new = last ∙ ap (λ (w : View). record w { askers = [] }) new
+        ∙ sym (told_kept (record v { way = Some from; askers = [] }) v (less v.askers (place_among v.parent from)) (lines.Sent v.me from (register_of v.me) ∷ []))
+
+    by : (b : Bool) → not b ≡ true → told ≡ (if b then v else with_way v from) → left ≡ own_lines v (if b then drop_lines v
+        else lines.Way v.me from ∷ told_askers v (less v.askers (place_among v.parent from)) ++ lines.Sent v.me from (register_of v.me) ∷ [])
+    by true known new = cc
+    by false known new = step new

@@ -1,0 +1,148 @@
+// What an enclave learns of ways, by the numbers of its neighbours.
+ghost use Rattle.std.specs.Prelude.{◌≡◌, [], ◌∷◌, ◌++◌, false, not, if◌then◌else◌, drop, slice_get, option_map, Some, IfSome, IfOk, OnOk};
+ghost use Rattle.xm_num.specs.Rows.{at, next_from, IsAscending};
+ghost use Rattle.global_model.specs.declared.line.Line.TheVariants as lines;
+ghost use Rattle.global_model.specs.View.{own_line, own_lines};
+ghost use Rattle.global_model.specs.Steps as steps;
+ghost use Rattle.enclave_node.specs.Sides as spec;
+
+use super::{State, plain};
+use crate::sides::{enclave_of, side_of};
+use global_model::{Line, Lines};
+use page_table::AddressSpace;
+use route_learn::Way;
+use std::alloc::AllocError;
+use xemem_wire::Body;
+use xm_num::Enclave;
+
+impl<A: AddressSpace> State<A> {
+    // Whether the way to the name server is known. Where it isn't, the neighbour that asks for it is remembered.
+    pub fn asked(&mut self, by: Enclave) -> Result<bool, AllocError>
+        ensures known { IfOk result (λ known. known ≡ steps.knows_way self.old) }
+        ensures after { OnOk result (self.new ≡ (if steps.knows_way self.old then self.old else own_line self.old (lines.Asked self.old.me by))) }
+    {
+        self.routes.asked(side_of(self.parent, by))
+    }
+
+    // The neighbour tells the way. Answers whether it wasn't known.
+    pub fn told(&mut self, from: Enclave) -> bool
+        ensures first { result ≡ not (steps.knows_way self.old) }
+        ensures after { self.new ≡ (if steps.knows_way self.old then self.old else spec.with_way self.old from) }
+    {
+        self.routes.here(side_of(self.parent, from))
+    }
+
+    // Takes the first of those that asked.
+    pub fn next_asker(&mut self) -> Option<Enclave>
+        ensures first { result ≡ option_map (λ row. row.1) (slice_get self.old.askers 0) }
+        ensures left { self.new ≡ record self.old { askers = drop 1 self.old.askers } }
+    {
+        let asker = self.routes.next_asker()?;
+        Some(enclave_of(self.parent, asker))
+    }
+
+    // Tells the way to those that asked for it, and forgets them.
+    pub fn tell_askers(&mut self, out: &mut Lines) -> Result<(), AllocError>
+        ensures lines { OnOk result (out.new ≡ out.old ++ steps.told_askers self.old self.old.askers) }
+        ensures after { OnOk result (self.new ≡ record self.old { askers = [] }) }
+    {
+        while let Some(asker) = self.next_asker() {
+            out.push(Line::Sent {
+                from: self.me,
+                to: asker,
+                rec: plain(self.me, Body::Here),
+            })?;
+        }
+        Ok(())
+    }
+
+    // Whether the enclave holds the name server.
+    pub fn is_holder(&self) -> bool
+        ensures { result ≡ self.now.holder }
+    {
+        match self.routes.server() {
+            Way::Own => true,
+            _ => false,
+        }
+    }
+
+    // The neighbour over which the way to the name server goes, at an enclave that doesn't hold it.
+    pub fn way(&self) -> Option<Enclave>
+        ensures { self.now.holder ≡ false → result ≡ self.now.way }
+    {
+        match self.routes.server() {
+            Way::Over(over) => Some(enclave_of(self.parent, over)),
+            _ => None,
+        }
+    }
+
+    // Remembers over which neighbour an enclave can be answered.
+    pub fn back(&mut self, of: Enclave, over: Enclave) -> Result<(), AllocError>
+        ensures { OnOk result (self.new ≡ own_line self.old (lines.Back self.old.me of over)) }
+    {
+        self.routes.back(of, side_of(self.parent, over))
+    }
+
+    // Makes the way back to an enclave its route, and gives it, where there is one.
+    pub fn learn(&mut self, of: Enclave) -> Result<Option<Enclave>, AllocError>
+        ensures over { IfOk result (λ over. over ≡ at self.old.backs of.0) }
+        ensures after { OnOk result (self.new ≡ spec.with_route self.old of (at self.old.backs of.0)) }
+    {
+        let Some(over) = self.routes.learn(of)? else {
+            return Ok(None);
+        };
+        Ok(Some(enclave_of(self.parent, over)))
+    }
+
+    // Tells the way to the name server.
+    fn show_way(&self, out: &mut Lines) -> Result<(), AllocError>
+        ensures { OnOk result (out.new ≡ out.old ++ steps.way_line self.now ∷ []) }
+    {
+        let enclave = self.me;
+        out.push(match self.routes.server() {
+            Way::Own => Line::AtWayOwn { enclave },
+            Way::Over(over) => Line::AtWay {
+                enclave,
+                over: enclave_of(self.parent, over),
+            },
+            Way::Unknown => Line::AtWayNone { enclave },
+        })
+    }
+
+    // The least enclave from that number on that has a learned route, and the neighbour over which it lies.
+    fn next_route(&self, from: u16) -> Option<(Enclave, Enclave)>
+        ensures next { option_map (λ route. route.0.0) result ≡ next_from self.now.routes from }
+        ensures over { IfSome result (λ route. at self.now.routes route.0.0 ≡ Some route.1) }
+        ensures ascending { IsAscending self.now.routes }
+    {
+        let (of, over) = self.routes.next_route(from)?;
+        Some((of, enclave_of(self.parent, over)))
+    }
+
+    // Tells the learned routes, ascending. One to an enclave of the last number of 16 bits counts as want of memory.
+    fn show_learned(&self, out: &mut Lines) -> Result<(), AllocError>
+        ensures { OnOk result (out.new ≡ out.old ++ spec.learned_lines self.now.me self.now.routes) }
+    {
+        let mut number = 0;
+        while let Some((of, over)) = self.next_route(number) {
+            if of.0 == u16::MAX {
+                return Err(AllocError);
+            }
+            out.push(Line::AtRoute {
+                enclave: self.me,
+                of,
+                over,
+            })?;
+            number = of.0 + 1;
+        }
+        Ok(())
+    }
+
+    /// Tells the way to the name server and the learned routes.
+    pub fn show_routes(&self, out: &mut Lines) -> Result<(), AllocError>
+        ensures { OnOk result (out.new ≡ out.old ++ steps.route_lines self.now) }
+    {
+        self.show_way(out)?;
+        self.show_learned(out)
+    }
+}
