@@ -10,7 +10,7 @@ use Rattle.node_world.specs.declared.pair.Pair.{Pair}
 use Rattle.node_world.specs.Links.{feed_of}
 use Rattle.node_world.specs.Machine.{MachineView, node_at, pair_at, with_carried, carried}
 use Rattle.node_world.specs.Shown.{IsNodeOf, IsPairOf, IsShown}
-use Rattle.node_world.proofs.Channels.{link_of_channel, channel_of, feed_is}
+use Rattle.node_world.proofs.Flows.{link_of_channel, channel_of, feed_is}
 use Rattle.node_world.proofs.Carriage.{IsLinked, AreLinked, ArePlain, AreWithin, feed_by, carried-parent, carried-length, linked_lines, fed_lines, counted_lines}
 
 -- the decoder of the node for the channel from enclave a to enclave b has what was sent and taken
@@ -26,6 +26,7 @@ pub record IsFedPair (channels : ℕ → ℕ → ChannelFact) (nodes : List Node
 -- facts H after these.
 pub record IsActed (G H : Facts) (m : MachineView) : Type 0 where
   pub pool : m.pool ≡ G.pool
+  pub server : m.server ≡ G.server
   pub starts : m.starts ≡ G.starts
   pub born : length m.nodes ≡ G.born
   pub pairs : length m.pairs ≡ G.born - 1
@@ -45,6 +46,7 @@ shown_of G ls m plain flowing h =
     let born = count.born in
     record {
       pool = h.pool ∙ sym count.pool;
+      server = h.server ∙ sym count.server;
       starts = h.starts ∙ sym count.starts;
       born = h.born ∙ sym count.born;
       pairs = size ∙ h.pairs ∙ ap (λ n. n - 1) (sym count.born);

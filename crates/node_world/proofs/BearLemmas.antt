@@ -1,5 +1,5 @@
 -- What a birth writes and leaves, where the child was put behind the others before its parent took it.
-use Rattle.std.proofs.Common.{◌≡◌, ◌<◌, ℕ, List, [], ◌∷◌, ◌++◌, length, ap, ◌∙◌, arith, append_assoc, length-append}
+use Rattle.std.proofs.Common.{◌≡◌, ◌<◌, ℕ, List, [], ◌∷◌, ◌++◌, ◌||◌, length, ap, ◌∙◌, arith, append_assoc, length-append}
 use Rattle.std.specs.Prelude.{Bool, slice_set, slice_index_or}
 use Rattle.std.proofs.lemmas.List.{set-append_left, get_or_read}
 use Rattle.std.proofs.Math.ListN.{get_or-append}
@@ -37,10 +37,10 @@ module _ (m : MachineView) (child : Enclave) (kind : Kind) (parent : Enclave) (b
   -- the nodes and the channels then
   pub birth_is : (born after : NodeView) (pair : Pair) → parent.0 < length m.nodes → born ≡ new_node child kind parent blocks ns node.view.heard → after ≡ wrote (adopted node child kind) (adopt_lines node.view child)
       → pair ≡ record { parent = parent; up = fresh; down = fresh }
-      → record m { nodes = slice_set (m.nodes ++ born ∷ []) parent.0 after; pairs = m.pairs ++ pair ∷ [] } ≡ after_birth m child kind parent blocks ns
+      → record m { server = m.server || ns; nodes = slice_set (m.nodes ++ born ∷ []) parent.0 after; pairs = m.pairs ++ pair ∷ [] } ≡ after_birth m child kind parent blocks ns
   birth_is born after pair within one two three =
-      ap (λ (ns : List NodeView). record m { nodes = ns; pairs = m.pairs ++ pair ∷ [] }) (set-append_left m.nodes (born ∷ []) parent.0 after within)
-      ∙ ap (λ (n : NodeView). record m { nodes = slice_set m.nodes parent.0 after ++ n ∷ []; pairs = m.pairs ++ pair ∷ [] }) one
-      ∙ ap (λ (n : NodeView). record m { nodes = slice_set m.nodes parent.0 n ++ new_node child kind parent blocks ns node.view.heard ∷ []; pairs = m.pairs ++ pair ∷ [] }) two
-      ∙ ap (λ (p : Pair). record m { nodes = slice_set m.nodes parent.0 (wrote (adopted node child kind) (adopt_lines node.view child)) ++ new_node child kind parent blocks ns node.view.heard ∷ []; pairs = m.pairs ++ p ∷ [] }) three
-      ∙ ap (λ (n : NodeView). record m { nodes = slice_set m.nodes parent.0 (wrote (adopted n child kind) (adopt_lines n.view child)) ++ new_node child kind parent blocks ns n.view.heard ∷ []; pairs = m.pairs ++ record { parent = parent; up = fresh; down = fresh } ∷ [] }) is
+      ap (λ (nodes : List NodeView). record m { server = m.server || ns; nodes = nodes; pairs = m.pairs ++ pair ∷ [] }) (set-append_left m.nodes (born ∷ []) parent.0 after within)
+      ∙ ap (λ (n : NodeView). record m { server = m.server || ns; nodes = slice_set m.nodes parent.0 after ++ n ∷ []; pairs = m.pairs ++ pair ∷ [] }) one
+      ∙ ap (λ (n : NodeView). record m { server = m.server || ns; nodes = slice_set m.nodes parent.0 n ++ new_node child kind parent blocks ns node.view.heard ∷ []; pairs = m.pairs ++ pair ∷ [] }) two
+      ∙ ap (λ (p : Pair). record m { server = m.server || ns; nodes = slice_set m.nodes parent.0 (wrote (adopted node child kind) (adopt_lines node.view child)) ++ new_node child kind parent blocks ns node.view.heard ∷ []; pairs = m.pairs ++ p ∷ [] }) three
+      ∙ ap (λ (n : NodeView). record m { server = m.server || ns; nodes = slice_set m.nodes parent.0 (wrote (adopted n child kind) (adopt_lines n.view child)) ++ new_node child kind parent blocks ns n.view.heard ∷ []; pairs = m.pairs ++ record { parent = parent; up = fresh; down = fresh } ∷ [] }) is

@@ -1,5 +1,5 @@
 -- A pool is made, and the host is born, as by the facts.
-use Rattle.std.proofs.Common.{◌≡◌, ◌+◌, ℕ, zero, suc, List, [], ◌∷◌, Bool, true, false, cond, ltb, None, refl, sym, ap, ◌∙◌, subst, arith}
+use Rattle.std.proofs.Common.{◌≡◌, ◌+◌, ℕ, zero, suc, List, [], ◌∷◌, Bool, true, false, ◌||◌, cond, ltb, None, refl, sym, ap, ◌∙◌, subst, arith}
 use Rattle.xm_num.specs.declared.Kind.TheVariants as kinds
 use Rattle.xm_num.specs.declared.Cause.TheVariants as causes
 use Rattle.xm_num.specs.Rows.{at}
@@ -30,6 +30,7 @@ tied_pool G H m blocks step h none =
     let pairs = h.pairs in
     let shown : IsShown (after_line G (lines.Do (commands.Pool blocks))) (record m { pool = blocks }) = record {
       pool = refl;
+      server = h.server;
       starts = h.starts;
       born = h.born;
       pairs = h.pairs;
@@ -53,12 +54,13 @@ host_seen : (pool blocks : ℕ) (ns : Bool) → seen_lines (unborn_view pool hos
 host_seen pool blocks true = refl
 host_seen pool blocks false = refl
 
-host_acted : (G H : Facts) (m : MachineView) (blocks : ℕ) (ns : Bool) → IsStep G H (commands.Host blocks ns) → IsShown G m → G.born ≡ 0 → command_lines G (commands.Host blocks ns) ≡ host_lines (first_blocks blocks) ns → H.born ≡ G.born + 1
-    → IsActed (after_line G (lines.Born host kinds.Host host ns (first_blocks blocks))) H (record m { nodes = new_host m.pool blocks ns ∷ [] })
-host_acted G H m blocks ns step h none is born =
+host_acted : (G H : Facts) (m : MachineView) (blocks : ℕ) (ns : Bool) → IsStep G H (commands.Host blocks ns) → IsShown G m → G.born ≡ 0 → G.server ≡ false → command_lines G (commands.Host blocks ns) ≡ host_lines (first_blocks blocks) ns → H.born ≡ G.born + 1
+    → IsActed (after_line G (lines.Born host kinds.Host host ns (first_blocks blocks))) H (record m { server = ns; nodes = new_host m.pool blocks ns ∷ [] })
+host_acted G H m blocks ns step h none first is born =
     let pairs = h.pairs in
     record {
       pool = h.pool;
+      server = ap (λ b. b || ns) (sym first);
       starts = h.starts;
       born = omega (arith, none);
       pairs = omega (arith, none, pairs);
@@ -75,15 +77,15 @@ host_acted G H m blocks ns step h none is born =
         ∙ host_seen m.pool blocks ns
 
     node : (e : ℕ) → e ≡ 0 → IsNodeOf H e (node_at (new_host m.pool blocks ns ∷ []) e)
-    node e first = rw first (record { view = sym view; going = refl })
+    node e is_first = rw is_first (record { view = sym view; going = refl })
 
     stranger : (e c : ℕ) → at (node_at (new_host m.pool blocks ns ∷ []) e).feeds c ≡ None
     stranger zero c = at_nil c
     stranger (suc e) c = at_nil c
 
-pub tied_host : (G H : Facts) (m : MachineView) (blocks : ℕ) (ns : Bool) → IsStep G H (commands.Host blocks ns) → IsShown G m → G.born ≡ 0
+pub tied_host : (G H : Facts) (m : MachineView) (blocks : ℕ) (ns : Bool) → IsStep G H (commands.Host blocks ns) → IsShown G m → G.born ≡ 0 → G.server ≡ false
     → command_lines G (commands.Host blocks ns) ≡ cond (ltb G.pool blocks) (refusal causes.NoBlocks) (host_lines (first_blocks blocks) ns) → IsTied G H (commands.Host blocks ns) m
-tied_host G H m blocks ns step h none rule = by (ltb G.pool blocks) refl
+tied_host G H m blocks ns step h none first rule = by (ltb G.pool blocks) refl
   where
     c : Command
     c = commands.Host blocks ns
@@ -102,11 +104,11 @@ tied_host G H m blocks ns step h none rule = by (ltb G.pool blocks) refl
     by false is =
         let made : command_lines G c ≡ host_lines (first_blocks blocks) ns = rule ∙ rw is refl in
         let enough = few false is in
-        let w : MachineView = record m { nodes = new_host m.pool blocks ns ∷ [] } in
+        let w : MachineView = record m { server = ns; nodes = new_host m.pool blocks ns ∷ [] } in
         let machine : acted m c ≡ w = rw enough refl in
         let K = after_line G (lines.Born host kinds.Host host ns (first_blocks blocks)) in
         let facts : H ≡ after_lines K (host_rest ns) = step.after ∙ ap (after_lines G) made in
         let born : H.born ≡ G.born + 1 = ap (λ F. F.born) facts ∙ (counted_lines (host_rest ns) K (plain_rest ns)).born in
-        let shown = shown_by K H (host_rest ns) w facts (plain_rest ns) step.flowing (host_acted G H m blocks ns step h none made born) in
+        let shown = shown_by K H (host_rest ns) w facts (plain_rest ns) step.flowing (host_acted G H m blocks ns step h none first made born) in
         let after : after_command m c ≡ with_carried w (host_rest ns) = ap (λ n. with_carried n (lines_by m c)) machine ∙ ap (with_carried w) (ls ∙ made) in
         (ls, subst (IsShown H) (sym after) shown)

@@ -1,8 +1,8 @@
--- A child of the host is born as by the facts.
-use Rattle.std.proofs.Common.{◌≡◌, ◌≢◌, ◌+◌, ◌<◌, ◌≤◌, ℕ, List, [], ◌∷◌, ◌++◌, length, take, Bool, true, false, cond, eqb, ltb, leb, not, ◌&&◌, ◌||◌, None, Some, refl, sym, ap, ◌∙◌, subst, inl, inr, arith, length-append}
-use Rattle.std.specs.Prelude.{◌⊎◌, if◌then◌else◌, slice_set}
-use Rattle.std.proofs.lemmas.Bool.{ltb-true, le-ltb, eq-eqb, ne_eqb, cases_lt}
-use Rattle.std.proofs.lemmas.List.{length-set, get_or-set_same, get_or_past}
+-- A child is born as by the facts.
+use Rattle.std.proofs.Common.{◌≡◌, ◌≢◌, ◌+◌, ◌<◌, ◌≤◌, ℕ, zero, suc, List, [], ◌∷◌, ◌++◌, length, take, Bool, true, false, cond, eqb, ltb, leb, not, ◌&&◌, ◌||◌, Option, None, Some, refl, sym, ap, ◌∙◌, subst, inl, inr, arith, length-append}
+use Rattle.std.specs.Prelude.{◌⊎◌, if◌then◌else◌, slice_set, is_some}
+use Rattle.std.proofs.lemmas.Bool.{ltb-true, le-ltb, eq-eqb, ne_eqb, cases_lt, and_parts, false_from_ne_true}
+use Rattle.std.proofs.lemmas.List.{length-set, get_or_past}
 use Rattle.std.specs.Cmp.{unsigned_tied}
 use Rattle.std.specs.Ordering.{is_eq, nat_cmp}
 use Rattle.xm_num.specs.declared.Enclave.{Enclave}
@@ -13,14 +13,15 @@ use Rattle.xm_num.specs.declared.Cause.TheVariants as causes
 use Rattle.xm_num.specs.Rows.{at}
 use Rattle.xm_num.proofs.RowLemmas.{at_put}
 use Rattle.byte_link.specs.Channel.{fresh}
-use Rattle.xemem_wire.specs.Decoding.{nothing_taken}
+use Rattle.xemem_wire.specs.Decoding.{Decoding, nothing_taken}
 use Rattle.global_model.specs.declared.command.Command.{Command}
 use Rattle.global_model.specs.declared.command.Command.TheVariants as commands
 use Rattle.global_model.specs.declared.line.Line.{Line}
 use Rattle.global_model.specs.declared.line.Line.TheVariants as lines
-use Rattle.global_model.specs.Facts.{Facts, no_channel, has_parent, after_line, after_lines}
-use Rattle.global_model.specs.Channels.{is_neighbour}
-use Rattle.global_model.specs.View.{View, view_of, fact_of, own_line, own_lines, is_at, seen_lines, with_child, with_record, as_born}
+use Rattle.global_model.specs.Facts.{Facts, EnclaveFact, no_channel, has_parent, after_line, after_lines, fact_of}
+use Rattle.global_model.specs.Channels.{is_child_of}
+use Rattle.global_model.specs.Flow.{IsFlowing}
+use Rattle.global_model.specs.View.{View, view_of, own_line, own_lines, is_at, seen_lines, with_child, with_record, as_born}
 use Rattle.global_model.specs.Steps.{host, refusal, query_of, told_lines, child_lines, birth_lines, knows_way, adopt_lines, free_from}
 use Rattle.global_model.specs.Known.{unborn_view}
 use Rattle.global_model.specs.Due.{command_lines}
@@ -28,8 +29,8 @@ use Rattle.enclave_node.specs.Nodes.{NodeView, unborn_node, wrote, new_node, len
 use Rattle.node_world.specs.declared.pair.Pair.{Pair}
 use Rattle.node_world.specs.Machine.{MachineView, no_pair, node_at, pair_at, at_node, lines_by, acted, next_enclave, free_of, is_short, booted_lines, booted_nodes, with_carried, after_command}
 use Rattle.node_world.specs.Shown.{IsNodeOf, IsShown, enclave}
-use Rattle.node_world.proofs.Lists.{cond_case, set_case, push_case}
-use Rattle.node_world.proofs.Channels.{IsLinkOf, fresh_link}
+use Rattle.node_world.proofs.Lists.{cond_case, set_case, set_field, push_case}
+use Rattle.node_world.proofs.Flows.{IsLinkOf, fresh_link}
 use Rattle.node_world.proofs.Carriage.{IsLinked, AreLinked, ArePlain, plain_append, feed_by, counted_lines}
 use Rattle.node_world.proofs.Acted.{IsActed, HasFeed, IsFedPair, shown_by, linked_of, within_of, fed_of}
 use Rattle.node_world.proofs.Stills.{IsStep, IsTied, AreStill, tied_still, at_is}
@@ -46,17 +47,17 @@ about_told : (child : Enclave) (heard : List Enclave) → AreAbout child.0 (told
 about_told child [] = tt
 about_told child (dead ∷ heard) = (refl, about_told child heard)
 
-about_child : (child : Enclave) (ns : Bool) → AreAbout child.0 (child_lines child host ns)
-about_child child true = (refl, tt)
-about_child child false = (tt, tt)
+about_child : (child parent : Enclave) (ns : Bool) → AreAbout child.0 (child_lines child parent ns)
+about_child child parent true = (refl, tt)
+about_child child parent false = (tt, tt)
 
 plain_told : (child : Enclave) (heard : List Enclave) → ArePlain (told_lines child heard)
 plain_told child [] = tt
 plain_told child (dead ∷ heard) = (tt, plain_told child heard)
 
-plain_child : (child : Enclave) (ns : Bool) → ArePlain (child_lines child host ns)
-plain_child child true = (tt, tt)
-plain_child child false = (tt, tt)
+plain_child : (child parent : Enclave) (ns : Bool) → ArePlain (child_lines child parent ns)
+plain_child child parent true = (tt, tt)
+plain_child child parent false = (tt, tt)
 
 own_append : (v : View) (ls ms : List Line) → own_lines v (ls ++ ms) ≡ own_lines (own_lines v ls) ms
 own_append v [] ms = refl
@@ -71,37 +72,96 @@ own_adopt v w child = by (knows_way v)
     by false = refl
 
 -- what a child that isn't the host has of its birth
-self_born : (child : Enclave) (kind : Kind) (blocks : List Block) (ns : Bool) → child.0 ≢ 0 → own_line (unborn_view 0 child) (lines.Born child kind host ns blocks) ≡ as_born kind host ns blocks (unborn_view 0 child)
-self_born child kind blocks ns far = let mine = eq-eqb child.0 child.0 refl in let apart = ne_eqb child.0 0 far in rw (mine, apart) refl
+self_born : (child : Enclave) (kind : Kind) (parent : Enclave) (blocks : List Block) (ns : Bool) → child.0 ≢ 0 → own_line (unborn_view 0 child) (lines.Born child kind parent ns blocks) ≡ as_born kind parent ns blocks (unborn_view 0 child)
+self_born child kind parent blocks ns far = let mine = eq-eqb child.0 child.0 refl in let apart = ne_eqb child.0 0 far in rw (mine, apart) refl
+
+-- what another enclave has of it: the parent a child, the host a record
+abbrev after_birth : Enclave → Kind → Enclave → List Block → Bool → Bool → View → View
+after_birth child kind parent blocks mine first v =
+    let one = if mine then with_child child kind v else v in
+    if first then with_record child parent blocks one else one
+
+birth_me : (child : Enclave) (kind : Kind) (parent : Enclave) (blocks : List Block) (mine first : Bool) (v : View) → (after_birth child kind parent blocks mine first v).me ≡ v.me
+birth_me child kind parent blocks true true v = refl
+birth_me child kind parent blocks true false v = refl
+birth_me child kind parent blocks false true v = refl
+birth_me child kind parent blocks false false v = refl
+
+other_born : (child : Enclave) (kind : Kind) (parent : Enclave) (blocks : List Block) (ns : Bool) (v : View) → v.me.0 ≢ child.0
+    → cond (is_at v.me (lines.Born child kind parent ns blocks)) (own_line v (lines.Born child kind parent ns blocks)) v ≡ after_birth child kind parent blocks (eqb parent.0 v.me.0) (eqb v.me.0 0) v
+other_born child kind parent blocks ns v far = let apart = ne_eqb child.0 v.me.0 (λ same. far (sym same)) in rw apart (by (eqb parent.0 v.me.0) (eqb v.me.0 0))
+  where
+    by : (mine first : Bool)
+        → cond (mine || first) (cond first (with_record child parent blocks (cond mine (with_child child kind v) v)) (cond mine (with_child child kind v) v)) v
+        ≡ after_birth child kind parent blocks mine first v
+    by true true = refl
+    by true false = refl
+    by false true = refl
+    by false false = refl
 
 -- ---- rows of one decoder
 
-pub at_one : {V : Type 0} (v : V) → at ((0, v) ∷ []) 0 ≡ Some v
+pub at_one : {V : Type 0} (k : ℕ) (v : V) → at ((k, v) ∷ []) k ≡ Some v
 unfolding at
-at_one v = refl
+at_one k v = let test : is_eq (nat_cmp k k) ≡ true = unsigned_tied k k ∙ eq-eqb k k refl in ap (λ b. cond b (Some v) None) test
 
-at_other : {V : Type 0} (v : V) (k : ℕ) → k ≢ 0 → at ((0, v) ∷ []) k ≡ None
+at_other : {V : Type 0} (j : ℕ) (v : V) (k : ℕ) → k ≢ j → at ((j, v) ∷ []) k ≡ None
 unfolding at
-at_other v k far = let test : is_eq (nat_cmp k 0) ≡ false = unsigned_tied k 0 ∙ ne_eqb k 0 far in ap (λ b. cond b (Some v) None) test
+at_other j v k far = let test : is_eq (nat_cmp k j) ≡ false = unsigned_tied k j ∙ ne_eqb k j far in ap (λ b. cond b (Some v) None) test
 
--- ---- a birth under the host
+-- ---- who is no neighbour
 
-module _ (G H : Facts) (m : MachineView) (kind : Kind) (blocks : ℕ) (ns : Bool) (step : IsStep G H (commands.Boot kind host blocks ns)) (h : IsShown G m) (lives : 0 < G.born) where
+no_parent : (p : ℕ) (fact : Option EnclaveFact) → is_some fact ≡ false → has_parent p fact ≡ false
+no_parent p None none = refl
+no_parent p (Some fact) none = cc
+
+none_and : (b : Bool) → (b && false) ≡ false
+none_and true = refl
+none_and false = refl
+
+nonzero : (k : ℕ) → not (eqb k 0) ≡ true → k ≢ 0
+nonzero zero is = let no : false ≡ true = is in cc
+nonzero (suc k) is = λ none. absurd (omega (arith, none))
+
+module _ (G : Facts) (flowing : IsFlowing G) (e p : ℕ) (later : G.born ≤ e) (lives : p < G.born) where
+  unborn_child : is_child_of G e p ≡ false
+  unborn_child =
+      let none = no_parent p (G.enclave e) ((flowing.tree.enclaves e).known ∙ le-ltb e G.born later) in
+      ap (λ b. not (eqb e 0) && b) none ∙ none_and (not (eqb e 0))
+
+  born_child : is_child_of G p e ≡ false
+  born_child = false_from_ne_true (is_child_of G p e) (λ is.
+      let both = and_parts (not (eqb p 0)) (has_parent e (G.enclave p)) is in
+      let some = nonzero p both.0 in
+      let above = (flowing.tree.enclaves p).above e both.1 (omega (arith, some)) in
+      omega (arith, above, later, lives))
+
+  -- nothing was sent between an enclave and one that wasn't born
+  silent : (G.channel e p ≡ no_channel) × (G.channel p e ≡ no_channel)
+  silent =
+      (flowing.apart e p (rw (unborn_child, born_child) refl), flowing.apart p e (rw (unborn_child, born_child) refl))
+
+-- ---- a birth
+
+module _ (G H : Facts) (m : MachineView) (kind : Kind) (parent : Enclave) (blocks : ℕ) (ns : Bool) (step : IsStep G H (commands.Boot kind parent blocks ns)) (h : IsShown G m) (lives : parent.0 < G.born) where
   abbrev child : Enclave
   child = next_enclave m
 
   abbrev node : NodeView
-  node = node_at m.nodes 0
+  node = node_at m.nodes parent.0
+
+  abbrev first : NodeView
+  first = node_at m.nodes 0
 
   abbrev lending : List Block
   lending = take blocks (free_of m)
 
   abbrev birth : Line
-  birth = lines.Born child kind host ns lending
+  birth = lines.Born child kind parent ns lending
 
   -- the lines after it
   abbrev own : List Line
-  own = told_lines child node.view.heard ++ child_lines child host ns
+  own = told_lines child node.view.heard ++ child_lines child parent ns
 
   abbrev ls : List Line
   ls = own ++ adopt_lines node.view child
@@ -110,120 +170,134 @@ module _ (G H : Facts) (m : MachineView) (kind : Kind) (blocks : ℕ) (ns : Bool
   K = after_line G birth
 
   about : AreAbout child.0 ls
-  about = about_append child.0 own (adopt_lines node.view child) (about_append child.0 (told_lines child node.view.heard) (child_lines child host ns) (about_told child node.view.heard) (about_child child ns))
+  about = about_append child.0 own (adopt_lines node.view child) (about_append child.0 (told_lines child node.view.heard) (child_lines child parent ns) (about_told child node.view.heard) (about_child child parent ns))
       (cond_case (knows_way node.view) [] (lines.Sent node.view.me child (query_of node.view.me) ∷ []) (AreAbout child.0) tt (tt, tt))
 
   plain : ArePlain ls
-  plain = plain_append own (adopt_lines node.view child) (plain_append (told_lines child node.view.heard) (child_lines child host ns) (plain_told child node.view.heard) (plain_child child ns))
+  plain = plain_append own (adopt_lines node.view child) (plain_append (told_lines child node.view.heard) (child_lines child parent ns) (plain_told child node.view.heard) (plain_child child parent ns))
       (cond_case (knows_way node.view) [] (lines.Sent node.view.me child (query_of node.view.me) ∷ []) ArePlain tt (tt, tt))
 
-  -- the host and the child then
-  abbrev parent_node : NodeView
-  parent_node = wrote (adopted (lent node child host lending) child kind) (adopt_lines node.view child)
+  -- the host, the parent and the child then
+  abbrev host_node : NodeView
+  host_node = lent first child parent lending
+
+  abbrev lent_nodes : List NodeView
+  lent_nodes = slice_set m.nodes 0 host_node
+
+  abbrev taking : NodeView → NodeView
+  taking base = wrote (adopted base child kind) (adopt_lines node.view child)
+
+  abbrev base : NodeView
+  base = node_at lent_nodes parent.0
 
   abbrev child_node : NodeView
-  child_node = new_node child kind host lending ns node.view.heard
+  child_node = new_node child kind parent lending ns node.view.heard
 
   abbrev nodes : List NodeView
-  nodes = slice_set (slice_set m.nodes 0 (lent node child host lending)) 0 parent_node ++ child_node ∷ []
+  nodes = booted_nodes m kind parent blocks ns
+
+  abbrev new_pair : Pair
+  new_pair = record { parent = parent; up = fresh; down = fresh }
 
   abbrev w : MachineView
-  w = record m { nodes = nodes; pairs = m.pairs ++ record { parent = host; up = fresh; down = fresh } ∷ [] }
+  w = record m { server = m.server || ns; nodes = nodes; pairs = m.pairs ++ new_pair ∷ [] }
+
+  inside : parent.0 < length m.nodes
+  inside = let born = h.born in omega (arith, born, lives)
 
   some : 0 < length m.nodes
-  some = let born = h.born in omega (arith, born, lives)
-
-  nodes_are : booted_nodes m kind host blocks ns ≡ nodes
-  nodes_are = ap (λ (n : NodeView). slice_set (slice_set m.nodes 0 (lent node child host lending)) 0 (wrote (adopted n child kind) (adopt_lines node.view child)) ++ child_node ∷ [])
-      (get_or-set_same m.nodes 0 (lent node child host lending) (unborn_node 0 host []) some)
+  some = let within = inside in omega (arith, within)
 
   size : length nodes ≡ length m.nodes + 1
   size =
-      let one = length-append (slice_set (slice_set m.nodes 0 (lent node child host lending)) 0 parent_node) (child_node ∷ []) in
-      let two = length-set (slice_set m.nodes 0 (lent node child host lending)) 0 parent_node in
-      let three = length-set m.nodes 0 (lent node child host lending) in
+      let one = length-append (slice_set lent_nodes parent.0 (taking base)) (child_node ∷ []) in
+      let two = length-set lent_nodes parent.0 (taking base) in
+      let three = length-set m.nodes 0 host_node in
       omega (arith, one, two, three)
 
-  -- what holds of the host, of the other nodes and of the child
-  place : (P : NodeView → Type 0) (e : ℕ) → e < length nodes → (e ≡ 0 → P parent_node) → (e ≢ 0 → e < length m.nodes → P (node_at m.nodes e)) → (e ≡ length m.nodes → P child_node) → P (node_at nodes e)
-  place P e within first others last =
-      let two = length-set (slice_set m.nodes 0 (lent node child host lending)) 0 parent_node in
-      let three = length-set m.nodes 0 (lent node child host lending) in
-      push_case (slice_set (slice_set m.nodes 0 (lent node child host lending)) 0 parent_node) e child_node (unborn_node 0 host []) P within
-      (λ lt. set_case (slice_set m.nodes 0 (lent node child host lending)) 0 e parent_node (unborn_node 0 host []) P (omega (arith, three, some)) first
-      (λ apart. set_case m.nodes 0 e (lent node child host lending) (unborn_node 0 host []) P some (λ same. absurd (apart same)) (λ far. others far (omega (arith, two, three, lt)))))
+  -- what holds of the parent, of a host that isn't the parent, of the other nodes and of the child
+  place : (P : NodeView → Type 0) (e : ℕ) → e < length nodes → (e ≡ parent.0 → P (taking base)) → (e ≢ parent.0 → e ≡ 0 → P host_node) → (e ≢ parent.0 → e ≢ 0 → e < length m.nodes → P (node_at m.nodes e))
+      → (e ≡ length m.nodes → P child_node) → P (node_at nodes e)
+  place P e within mine hosts others last =
+      let two = length-set lent_nodes parent.0 (taking base) in
+      let three = length-set m.nodes 0 host_node in
+      push_case (slice_set lent_nodes parent.0 (taking base)) e child_node (unborn_node 0 host []) P within
+      (λ lt. set_case lent_nodes parent.0 e (taking base) (unborn_node 0 host []) P (let here = inside in omega (arith, three, here)) mine
+      (λ apart. set_case m.nodes 0 e host_node (unborn_node 0 host []) P some (hosts apart) (λ far. others apart far (omega (arith, two, three, lt)))))
       (λ is. last (is ∙ two ∙ three))
 
-  module _ (is : command_lines G (commands.Boot kind host blocks ns) ≡ booted_lines m kind host blocks ns) (born : H.born ≡ G.born + 1) where
+  module _ (is : command_lines G (commands.Boot kind parent blocks ns) ≡ booted_lines m kind parent blocks ns) (born : H.born ≡ G.born + 1) where
     seen : (e : ℕ) → e < G.born + 1 → view_of H (enclave e) ≡ seen_lines (view_of G (enclave e)) (birth ∷ ls)
     seen e within = step.views e (omega (arith, born, within)) ∙ ap (seen_lines (view_of G (enclave e))) is
 
-    host_node : IsNodeOf H 0 parent_node
-    host_node =
+    -- what an enclave sees that was born before
+    seen_then : (e : ℕ) → e < length m.nodes → view_of H (enclave e) ≡ after_birth child kind parent lending (eqb parent.0 e) (eqb e 0) (view_of G (enclave e))
+    seen_then e within =
         let count = h.born in
-        let v = view_of G host in
-        let old = h.nodes 0 lives in
-        let apart : eqb child.0 0 ≡ false = ne_eqb child.0 0 (λ same. omega (arith, same, count, lives)) in
-        let one : cond (is_at v.me birth) (own_line v birth) v ≡ with_record child host lending (with_child child kind v) = rw apart refl in
-        let view : view_of H host ≡ with_record child host lending (with_child child kind v) = seen 0 (omega (arith, lives)) ∙ ap (λ v. seen_lines v ls) one ∙ seen_other ls (with_record child host lending (with_child child kind v)) child.0 (λ same. omega (arith, same, count, lives)) about in
+        let v = view_of G (enclave e) in
+        let u = after_birth child kind parent lending (eqb parent.0 e) (eqb e 0) v in
+        let me : u.me.0 ≡ e = ap (λ (e : Enclave). e.0) (birth_me child kind parent lending (eqb parent.0 e) (eqb e 0) v) in
+        seen e (omega (arith, count, within)) ∙ ap (λ v. seen_lines v ls) (other_born child kind parent lending ns v (λ same. omega (arith, same, within)))
+        ∙ seen_other ls u child.0 (λ same. omega (arith, same, me, within)) about
+
+    parent_then : IsNodeOf H parent.0 (taking base)
+    parent_then =
+        let old = h.nodes parent.0 lives in
+        let mine = eq-eqb parent.0 parent.0 refl in
+        set_case m.nodes 0 parent.0 host_node (unborn_node 0 host []) (λ base. IsNodeOf H parent.0 (taking base)) some
+        (λ is_first.
+        let test = eq-eqb parent.0 0 is_first in
+        let view : view_of H parent ≡ with_record child parent lending (with_child child kind (view_of G parent)) = seen_then parent.0 inside ∙ rw (mine, test) refl in
+        let same : first.view ≡ view_of G parent = ap (λ e. (node_at m.nodes e).view) (sym is_first) ∙ old.view in
         record {
-          view = own_adopt node.view (with_child child kind (with_record child host lending node.view)) child ∙ ap (λ v. with_record child host lending (with_child child kind v)) old.view ∙ sym view;
-          going = old.going;
-        }
+          view = own_adopt node.view (with_child child kind (with_record child parent lending first.view)) child ∙ ap (λ v. with_record child parent lending (with_child child kind v)) same ∙ sym view;
+          going = ap (λ e. (node_at m.nodes e).failed) (sym is_first) ∙ old.going;
+        })
+        (λ far.
+        let test = ne_eqb parent.0 0 far in
+        let view : view_of H parent ≡ with_child child kind (view_of G parent) = seen_then parent.0 inside ∙ rw (mine, test) refl in
+        record { view = own_adopt node.view (with_child child kind node.view) child ∙ ap (with_child child kind) old.view ∙ sym view; going = old.going })
 
-    new_child : IsNodeOf H (length m.nodes) child_node
-    new_child =
-        let count = h.born in
-        let e = length m.nodes in
-        let apart : eqb e 0 ≡ false = ne_eqb e 0 (λ same. omega (arith, same, count, lives)) in
-        let mine : eqb e e ≡ true = eq-eqb e e refl in
-        let u = as_born kind host ns lending (unborn_view 0 child) in
-        let before : view_of G child ≡ unborn_view 0 child = step.unborn child (omega (arith, count)) ∙ rw apart refl in
-        let first : own_line (unborn_view 0 child) birth ≡ u = self_born child kind lending ns (λ same. omega (arith, same, count, lives)) in
-        let here : is_at child birth ≡ true = rw mine refl in
-        let one : cond (is_at child birth) (own_line (unborn_view 0 child) birth) (unborn_view 0 child) ≡ u = ap (λ b. cond b (own_line (unborn_view 0 child) birth) (unborn_view 0 child)) here ∙ first in
-        let view : view_of H child ≡ own_lines u own =
-        seen e (omega (arith, count)) ∙ ap (λ v. seen_lines v (birth ∷ ls)) before ∙ ap (λ v. seen_lines v ls) one ∙ seen_own ls u about ∙ own_append u own (adopt_lines node.view child) ∙ own_adopt node.view (own_lines u own) child in
-        record { view = ap (λ v. own_lines v own) first ∙ sym view; going = refl }
+    host_then : 0 ≢ parent.0 → IsNodeOf H 0 host_node
+    host_then far =
+        let count = h.born in let within = some in
+        let old = h.nodes 0 (omega (arith, count, within)) in
+        let test = ne_eqb parent.0 0 (λ same. far (sym same)) in
+        let view : view_of H host ≡ with_record child parent lending (view_of G host) = seen_then 0 some ∙ rw test refl in
+        record { view = ap (with_record child parent lending) old.view ∙ sym view; going = old.going }
 
-    other_node : (e : ℕ) → e ≢ 0 → e < length m.nodes → IsNodeOf H e (node_at m.nodes e)
-    other_node e far within =
+    other_then : (e : ℕ) → e ≢ parent.0 → e ≢ 0 → e < length m.nodes → IsNodeOf H e (node_at m.nodes e)
+    other_then e apart far within =
         let count = h.born in
         let old = h.nodes e (omega (arith, count, within)) in
-        let v = view_of G (enclave e) in
-        let not_child : eqb child.0 e ≡ false = ne_eqb child.0 e (λ same. omega (arith, same, within)) in
-        let not_host : eqb 0 e ≡ false = ne_eqb 0 e (λ same. far (sym same)) in
-        let not_first : eqb e 0 ≡ false = ne_eqb e 0 far in
-        let there : is_at v.me birth ≡ false = rw (not_child, not_host, not_first) refl in
-        let one : cond (is_at v.me birth) (own_line v birth) v ≡ v = ap (λ b. cond b (own_line v birth) v) there in
-        record { view = old.view ∙ sym (seen e (omega (arith, count, within)) ∙ ap (λ v. seen_lines v ls) one ∙ seen_other ls v child.0 (λ same. omega (arith, same, within)) about); going = old.going }
+        let not_parent = ne_eqb parent.0 e (λ same. apart (sym same)) in
+        let not_first = ne_eqb e 0 far in
+        let view : view_of H (enclave e) ≡ view_of G (enclave e) = seen_then e within ∙ rw (not_parent, not_first) refl in
+        record { view = old.view ∙ sym view; going = old.going }
+
+    child_then : IsNodeOf H (length m.nodes) child_node
+    child_then =
+        let count = h.born in let within = some in
+        let e = length m.nodes in
+        let apart : eqb e 0 ≡ false = ne_eqb e 0 (λ same. omega (arith, same, within)) in
+        let mine : eqb e e ≡ true = eq-eqb e e refl in
+        let u = as_born kind parent ns lending (unborn_view 0 child) in
+        let before : view_of G child ≡ unborn_view 0 child = step.unborn child (omega (arith, count)) ∙ rw apart refl in
+        let start : own_line (unborn_view 0 child) birth ≡ u = self_born child kind parent lending ns (λ same. omega (arith, same, within)) in
+        let here : is_at child birth ≡ true = rw mine refl in
+        let one : cond (is_at child birth) (own_line (unborn_view 0 child) birth) (unborn_view 0 child) ≡ u = ap (λ b. cond b (own_line (unborn_view 0 child) birth) (unborn_view 0 child)) here ∙ start in
+        let view : view_of H child ≡ own_lines u own =
+        seen e (omega (arith, count)) ∙ ap (λ v. seen_lines v (birth ∷ ls)) before ∙ ap (λ v. seen_lines v ls) one ∙ seen_own ls u about ∙ own_append u own (adopt_lines node.view child) ∙ own_adopt node.view (own_lines u own) child in
+        record { view = ap (λ v. own_lines v own) start ∙ sym view; going = refl }
 
     node_then : (e : ℕ) → e < G.born + 1 → IsNodeOf H e (node_at nodes e)
     node_then e within =
         let count = h.born in
-        place (IsNodeOf H e) e (omega (arith, size, count, within)) (λ first. subst (λ k. IsNodeOf H k parent_node) (sym first) host_node) (other_node e) (λ last. subst (λ k. IsNodeOf H k child_node) (sym last) new_child)
+        place (IsNodeOf H e) e (let long = size in omega (arith, long, count, within)) (λ mine. subst (λ k. IsNodeOf H k (taking base)) (sym mine) parent_then)
+        (λ apart is_first. subst (λ k. IsNodeOf H k host_node) (sym is_first) (host_then (λ same. apart (is_first ∙ same)))) (other_then e)
+        (λ last. subst (λ k. IsNodeOf H k child_node) (sym last) child_then)
 
   -- ---- channels
-
-  -- nothing was sent to or from an enclave before its birth
-  silent : (e : ℕ) → G.born ≤ e → (G.channel e 0 ≡ no_channel) × (G.channel 0 e ≡ no_channel)
-  silent e later =
-      let gone : ltb e G.born ≡ false = le-ltb e G.born later in
-      let none : has_parent 0 (G.enclave e) ≡ false = (step.before.star.enclaves e).parent 0 ∙ ap (λ b. b && eqb 0 0) gone in
-      let one : is_neighbour G e 0 ≡ false = rw none (left (not (eqb e 0))) in
-      let two : is_neighbour G 0 e ≡ false = rw none (right (not (eqb e 0))) in
-      (step.before.apart e 0 one, step.before.apart 0 e two)
-    where
-      left : (b : Bool) → ((b && false) || false) ≡ false
-      left true = refl
-      left false = refl
-
-      right : (b : Bool) → (b && false) ≡ false
-      right true = refl
-      right false = refl
-
-  abbrev new_pair : Pair
-  new_pair = record { parent = host; up = fresh; down = fresh }
 
   old_linked : (i : ℕ) → i < length m.pairs → IsLinked K.enclave K.channel i (pair_at m.pairs i)
   old_linked i within =
@@ -237,10 +311,10 @@ module _ (G H : Facts) (m : MachineView) (kind : Kind) (blocks : ℕ) (ns : Bool
   new_linked i last =
       let count = h.born in let pairs = h.pairs in
       let is : eqb (i + 1) child.0 ≡ true = eq-eqb (i + 1) child.0 (omega (arith, count, pairs, last, lives)) in
-      let quiet = silent (i + 1) (omega (arith, pairs, last)) in
+      let quiet = silent G step.before (i + 1) parent.0 (omega (arith, pairs, last)) lives in
       record {
         parent = rw is refl;
-        above = omega arith;
+        above = omega (arith, count, pairs, last, lives);
         up = subst (λ f. IsLinkOf f fresh) (sym quiet.0) fresh_link;
         down = subst (λ f. IsLinkOf f fresh) (sym quiet.1) fresh_link;
       }
@@ -250,13 +324,18 @@ module _ (G H : Facts) (m : MachineView) (kind : Kind) (blocks : ℕ) (ns : Bool
 
   -- ---- decoders
 
-  -- the host's decoders for the other channels are as before
-  host_feed : (a : ℕ) → a ≢ child.0 → at parent_node.feeds a ≡ at node.feeds a
-  host_feed a far = at_put node.feeds child.0 a nothing_taken ∙ ap (λ b. cond b (Some nothing_taken) (at node.feeds a)) (ne_eqb child.0 a (λ same. far (sym same)))
+  -- the parent's decoders for the other channels are as before
+  base_feed : base.feeds ≡ node.feeds
+  base_feed = set_field (λ (n : NodeView). n.feeds) m.nodes 0 parent.0 host_node (unborn_node 0 host []) refl
+
+  parent_feed : (a : ℕ) → a ≢ child.0 → at (taking base).feeds a ≡ at node.feeds a
+  parent_feed a far =
+      at_put base.feeds child.0 a nothing_taken ∙ ap (λ b. cond b (Some nothing_taken) (at base.feeds a)) (ne_eqb child.0 a (λ same. far (sym same))) ∙ ap (λ (rows : List (ℕ × Decoding)). at rows a) base_feed
 
   old_feed : (a b : ℕ) → a ≢ child.0 → b < length m.nodes → HasFeed G.channel m.nodes a b → HasFeed K.channel nodes a b
-  old_feed a b far within old = place (λ n. at n.feeds a ≡ Some (feed_by (K.channel a b))) b (omega (arith, size, within))
-      (λ first. host_feed a far ∙ ap (λ e. at (node_at m.nodes e).feeds a) (sym first) ∙ old) (λ apart lt. old) (λ last. absurd (omega (arith, last, within)))
+  old_feed a b far within old = place (λ n. at n.feeds a ≡ Some (feed_by (K.channel a b))) b (let long = size in omega (arith, long, within))
+      (λ mine. parent_feed a far ∙ ap (λ e. at (node_at m.nodes e).feeds a) (sym mine) ∙ old) (λ apart is_first. ap (λ e. at (node_at m.nodes e).feeds a) (sym is_first) ∙ old)
+      (λ apart not_first lt. old) (λ last. absurd (omega (arith, last, within)))
 
   old_pair : (i : ℕ) → i < length m.pairs → IsFedPair K.channel nodes i (pair_at m.pairs i)
   old_pair i within =
@@ -271,15 +350,16 @@ module _ (G H : Facts) (m : MachineView) (kind : Kind) (blocks : ℕ) (ns : Bool
 
   fresh_pair : (i : ℕ) → i ≡ length m.pairs → IsFedPair K.channel nodes i new_pair
   fresh_pair i last =
-      let count = h.born in let pairs = h.pairs in
+      let count = h.born in let pairs = h.pairs in let within = inside in let long = size in
       let next : i + 1 ≡ length m.nodes = omega (arith, count, pairs, last, lives) in
-      let quiet = silent (i + 1) (omega (arith, pairs, last)) in
+      let quiet = silent G step.before (i + 1) parent.0 (omega (arith, pairs, last)) lives in
       let mine : eqb child.0 (i + 1) ≡ true = eq-eqb child.0 (i + 1) (sym next) in
-      let up : at parent_node.feeds (i + 1) ≡ Some nothing_taken = at_put node.feeds child.0 (i + 1) nothing_taken ∙ ap (λ b. cond b (Some nothing_taken) (at node.feeds (i + 1))) mine in
+      let up : at (taking base).feeds (i + 1) ≡ Some nothing_taken = at_put base.feeds child.0 (i + 1) nothing_taken ∙ ap (λ b. cond b (Some nothing_taken) (at base.feeds (i + 1))) mine in
       record {
-        up = place (λ n. at n.feeds (i + 1) ≡ Some (feed_by (K.channel (i + 1) 0))) 0 (omega (arith, size)) (λ first. up ∙ ap (λ f. Some (feed_by f)) (sym quiet.0)) (λ apart lt. absurd (apart refl)) (λ none. absurd (omega (arith, none, some)));
-        down = place (λ n. at n.feeds 0 ≡ Some (feed_by (K.channel 0 (i + 1)))) (i + 1) (omega (arith, size, next)) (λ none. absurd (omega (arith, none))) (λ apart lt. absurd (omega (arith, lt, next)))
-            (λ is. at_one nothing_taken ∙ ap (λ f. Some (feed_by f)) (sym quiet.1));
+        up = place (λ n. at n.feeds (i + 1) ≡ Some (feed_by (K.channel (i + 1) parent.0))) parent.0 (omega (arith, long, within)) (λ same. up ∙ ap (λ f. Some (feed_by f)) (sym quiet.0)) (λ apart is_first. absurd (apart refl))
+            (λ apart far lt. absurd (apart refl)) (λ none. absurd (omega (arith, none, within)));
+        down = place (λ n. at n.feeds parent.0 ≡ Some (feed_by (K.channel parent.0 (i + 1)))) (i + 1) (omega (arith, long, next)) (λ none. absurd (omega (arith, none, next, within)))
+            (λ apart none. absurd (omega (arith, none))) (λ apart far lt. absurd (omega (arith, lt, next))) (λ is. at_one parent.0 nothing_taken ∙ ap (λ f. Some (feed_by f)) (sym quiet.1));
       }
 
   fed_then : (i : ℕ) → i < length w.pairs → IsFedPair K.channel nodes i (pair_at w.pairs i)
@@ -288,21 +368,23 @@ module _ (G H : Facts) (m : MachineView) (kind : Kind) (blocks : ℕ) (ns : Bool
   stranger_then : (e c : ℕ) → K.born ≤ c → at (node_at nodes e).feeds c ≡ None
   stranger_then e c far = by (cases_lt e (length nodes))
     where
-      born : length m.nodes ≡ G.born
-      born = h.born
+      count : length m.nodes ≡ G.born
+      count = h.born
 
       by : (e < length nodes) ⊎ (length nodes ≤ e) → at (node_at nodes e).feeds c ≡ None
       by (inl within) = place (λ n. at n.feeds c ≡ None) e within
-          (λ first. host_feed c (λ same. omega (arith, same, far, born)) ∙ h.strangers 0 c (omega (arith, far)))
-          (λ apart lt. h.strangers e c (omega (arith, far)))
-          (λ last. at_other nothing_taken c (λ none. omega (arith, none, far)))
+          (λ mine. parent_feed c (λ same. omega (arith, same, far, count)) ∙ h.strangers parent.0 c (omega (arith, far)))
+          (λ apart is_first. h.strangers 0 c (omega (arith, far)))
+          (λ apart not_first lt. h.strangers e c (omega (arith, far)))
+          (λ last. at_other parent.0 nothing_taken c (λ none. omega (arith, none, far, lives)))
       by (inr past) = ap (λ (n : NodeView). at n.feeds c) (get_or_past nodes e (unborn_node 0 host []) past) ∙ at_nil c
 
-  booted_acted : command_lines G (commands.Boot kind host blocks ns) ≡ booted_lines m kind host blocks ns → H.born ≡ G.born + 1 → IsActed K H w
+  booted_acted : command_lines G (commands.Boot kind parent blocks ns) ≡ booted_lines m kind parent blocks ns → H.born ≡ G.born + 1 → IsActed K H w
   booted_acted is born =
       let count = length-append m.pairs (new_pair ∷ []) in let pairs = h.pairs in
       record {
         pool = h.pool;
+        server = ap (λ b. b || ns) h.server;
         starts = h.starts;
         born = size ∙ ap (λ n. n + 1) h.born;
         pairs = omega (arith, count, pairs, lives);
@@ -314,45 +396,53 @@ module _ (G H : Facts) (m : MachineView) (kind : Kind) (blocks : ℕ) (ns : Bool
       }
 
   -- so the boot is tied, where the machine makes this of it
-  tied_born : lines_by m (commands.Boot kind host blocks ns) ≡ command_lines G (commands.Boot kind host blocks ns) → lines_by m (commands.Boot kind host blocks ns) ≡ booted_lines m kind host blocks ns
-      → acted m (commands.Boot kind host blocks ns) ≡ record m { nodes = booted_nodes m kind host blocks ns; pairs = m.pairs ++ new_pair ∷ [] } → IsTied G H (commands.Boot kind host blocks ns) m
+  tied_born : lines_by m (commands.Boot kind parent blocks ns) ≡ command_lines G (commands.Boot kind parent blocks ns) → lines_by m (commands.Boot kind parent blocks ns) ≡ booted_lines m kind parent blocks ns
+      → acted m (commands.Boot kind parent blocks ns) ≡ w → IsTied G H (commands.Boot kind parent blocks ns) m
   tied_born tells made machine =
-      let is : command_lines G (commands.Boot kind host blocks ns) ≡ birth ∷ ls = sym tells ∙ made in
+      let is : command_lines G (commands.Boot kind parent blocks ns) ≡ birth ∷ ls = sym tells ∙ made in
       let facts : H ≡ after_lines K ls = step.after ∙ ap (after_lines G) is in
       let born : H.born ≡ G.born + 1 = ap (λ F. F.born) facts ∙ (counted_lines ls K plain).born in
       let shown = shown_by K H ls w facts plain step.flowing (booted_acted is born) in
-      let all : acted m (commands.Boot kind host blocks ns) ≡ w = machine ∙ ap (λ (nodes : List NodeView). record m { nodes = nodes; pairs = m.pairs ++ new_pair ∷ [] }) nodes_are in
-      let end : after_command m (commands.Boot kind host blocks ns) ≡ with_carried w ls = ap (λ n. with_carried n (lines_by m (commands.Boot kind host blocks ns))) all ∙ ap (with_carried w) made in
+      let end : after_command m (commands.Boot kind parent blocks ns) ≡ with_carried w ls = ap (λ n. with_carried n (lines_by m (commands.Boot kind parent blocks ns))) machine ∙ ap (with_carried w) made in
       (tells, subst (IsShown H) (sym end) shown)
 
--- ---- any boot under the host
+-- ---- any boot
 
-pub tied_boot : (G H : Facts) (m : MachineView) (kind : Kind) (blocks : ℕ) (ns : Bool) → IsStep G H (commands.Boot kind host blocks ns) → IsShown G m → IsTied G H (commands.Boot kind host blocks ns) m
-tied_boot G H m kind blocks ns step h = by (ltb 0 G.born) (leb 256 (length m.nodes)) (is_short m blocks) refl refl refl
+pub tied_boot : (G H : Facts) (m : MachineView) (kind : Kind) (parent : Enclave) (blocks : ℕ) (ns : Bool) → IsStep G H (commands.Boot kind parent blocks ns) → IsShown G m → IsTied G H (commands.Boot kind parent blocks ns) m
+tied_boot G H m kind parent blocks ns step h = by (ltb parent.0 G.born) (leb 256 (length m.nodes)) (ns && m.server) (is_short m blocks) refl refl refl refl
   where
     c : Command
-    c = commands.Boot kind host blocks ns
+    c = commands.Boot kind parent blocks ns
 
-    -- what the host writes by its view, where so many enclaves were born
-    written : ℕ → View → List Line
-    written n v =
+    -- what is written by the views of the host and of the parent, where so many enclaves were born
+    written : ℕ → Bool → View → View → List Line
+    written n server first v =
         if leb 256 n then refusal causes.TooMany
-        else (if ltb (length (free_from 0 v.host.states)) blocks then refusal causes.NoBlocks
-        else birth_lines (enclave n) kind host (take blocks (free_from 0 v.host.states)) ns v.heard ++ adopt_lines v (enclave n))
+        else (if ns && server then refusal causes.NameServerTaken
+        else (if ltb (length (free_from 0 first.host.states)) blocks then refusal causes.NoBlocks
+        else birth_lines (enclave n) kind parent (take blocks (free_from 0 first.host.states)) ns v.heard ++ adopt_lines v (enclave n)))
+
+    -- the host's view, where the parent was born
+    by_host : (b : Bool) → ltb parent.0 G.born ≡ b → cond b (written G.born G.server (node_at m.nodes 0).view (view_of G parent)) (refusal causes.NoEnclave) ≡ cond b (written G.born G.server (view_of G host) (view_of G parent)) (refusal causes.NoEnclave)
+    by_host true is = let lives = ltb-true parent.0 G.born is in ap (λ v. written G.born G.server v (view_of G parent)) (h.nodes 0 (omega (arith, lives))).view
+    by_host false is = refl
 
     ls : lines_by m c ≡ command_lines G c
-    ls = ap (λ n. at_node m host (written n (node_at m.nodes 0).view)) h.born ∙ at_is G m h host (written G.born) ∙ sym (step.answered.boot kind host blocks ns)
+    ls = ap (λ n. at_node m parent (written n m.server (node_at m.nodes 0).view (node_at m.nodes parent.0).view)) h.born
+        ∙ ap (λ server. at_node m parent (written G.born server (node_at m.nodes 0).view (node_at m.nodes parent.0).view)) h.server
+        ∙ at_is G m h parent (written G.born G.server (node_at m.nodes 0).view) ∙ by_host (ltb parent.0 G.born) refl ∙ sym (step.answered.boot kind parent blocks ns)
 
     still : (cause : Cause) → lines_by m c ≡ refusal cause → acted m c ≡ m → IsTied G H c m
     still cause is same = tied_still G H c m step h refl same ls (subst AreStill (sym (sym ls ∙ is)) (tt, tt))
 
-    by : (a b d : Bool) → ltb 0 G.born ≡ a → leb 256 (length m.nodes) ≡ b → is_short m blocks ≡ d → IsTied G H c m
-    by false b d one two three = let first : ltb 0 (length m.nodes) ≡ false = ap (ltb 0) h.born ∙ one in still causes.NoEnclave (rw first refl) (rw first refl)
-    by true true d one two three = let first : ltb 0 (length m.nodes) ≡ true = ap (ltb 0) h.born ∙ one in still causes.TooMany (rw (first, two) refl) (rw (first, two) refl)
-    by true false true one two three = let first : ltb 0 (length m.nodes) ≡ true = ap (ltb 0) h.born ∙ one in still causes.NoBlocks (rw (first, two, three) refl) (rw (first, two, three) refl)
-    by true false false one two three =
-        let first : ltb 0 (length m.nodes) ≡ true = ap (ltb 0) h.born ∙ one in
-        let lives = ltb-true 0 G.born one in
-        let made : lines_by m c ≡ booted_lines m kind host blocks ns = rw (first, two, three) refl in
-        let machine : acted m c ≡ record m { nodes = booted_nodes m kind host blocks ns; pairs = m.pairs ++ record { parent = host; up = fresh; down = fresh } ∷ [] } = rw (first, two, three) refl in
-        tied_born G H m kind blocks ns step h lives ls made machine
+    born : (b : Bool) → ltb parent.0 G.born ≡ b → ltb parent.0 (length m.nodes) ≡ b
+    born b is = ap (ltb parent.0) h.born ∙ is
+
+    by : (a b s d : Bool) → ltb parent.0 G.born ≡ a → leb 256 (length m.nodes) ≡ b → (ns && m.server) ≡ s → is_short m blocks ≡ d → IsTied G H c m
+    by false b s d one two three four = let lives = born false one in still causes.NoEnclave (rw lives refl) (rw lives refl)
+    by true true s d one two three four = let lives = born true one in still causes.TooMany (rw (lives, two) refl) (rw (lives, two) refl)
+    by true false true d one two three four = let lives = born true one in still causes.NameServerTaken (rw (lives, two, three) refl) (rw (lives, two, three) refl)
+    by true false false true one two three four = let lives = born true one in still causes.NoBlocks (rw (lives, two, three, four) refl) (rw (lives, two, three, four) refl)
+    by true false false false one two three four =
+        let lives = born true one in
+        tied_born G H m kind parent blocks ns step h (ltb-true parent.0 G.born one) ls (rw (lives, two, three, four) refl) (rw (lives, two, three, four) refl)

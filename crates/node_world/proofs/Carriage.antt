@@ -9,14 +9,13 @@ use Rattle.xemem_wire.specs.Spelling.{spelling_of, spellings_of}
 use Rattle.xemem_wire.specs.Decoding.{Decoding}
 use Rattle.global_model.specs.declared.line.Line.{Line}
 use Rattle.global_model.specs.declared.line.Line.TheVariants as lines
-use Rattle.global_model.specs.Facts.{Facts, EnclaveFact, ChannelFact, at_number, at_pair, as_admitted, with_sent, with_got, after_line, after_lines}
-use Rattle.global_model.specs.View.{fact_of}
+use Rattle.global_model.specs.Facts.{Facts, EnclaveFact, ChannelFact, at_number, at_pair, as_admitted, with_sent, with_got, after_line, after_lines, fact_of}
 use Rattle.node_world.specs.declared.pair.Pair.{Pair}
 use Rattle.node_world.specs.declared.pair.Hop.{Hop}
 use Rattle.node_world.specs.declared.pair.Hop.TheVariants as hops
 use Rattle.node_world.specs.Machine.{no_pair, pair_at, hop_of, link_of, with_link, carried}
 use Rattle.node_world.proofs.Lists.{set_case, set_field}
-use Rattle.node_world.proofs.Channels.{IsLinkOf, link_sent, feed_from, feed_sent}
+use Rattle.node_world.proofs.Flows.{IsLinkOf, link_sent, feed_from, feed_sent}
 use Rattle.node_world.proofs.Fronts.{spellings-length}
 use Rattle.node_world.proofs.Hops.{AreAbove, IsPairAt, up_is, down_is, is_up, is_down}
 
@@ -131,7 +130,7 @@ module _ (enclaves : ℕ → Option EnclaveFact) (channels : ℕ → ℕ → Cha
       }
     where
       got : (b : Bool) (f : ChannelFact) (link : Channel) → IsLinkOf f link → IsLinkOf (cond b (with_got f) f) link
-      got true f link k = record { within = k.within; waiting = k.waiting; open_end = k.open_end }
+      got true f link k = record { within = k.within; waiting = k.waiting; pieces = k.pieces; open_end = k.open_end }
       got false f link k = k
 
   admitted_linked : (e : ℕ) → AreLinked (at_number e (as_admitted (enclaves e)) enclaves) channels pairs
@@ -265,10 +264,11 @@ pub record AreCounted (G H : Facts) : Type 0 where
   pub pool : H.pool ≡ G.pool
   pub born : H.born ≡ G.born
   pub starts : H.starts ≡ G.starts
+  pub server : H.server ≡ G.server
 
 pub counted_lines : (ls : List Line) (G : Facts) → ArePlain ls → AreCounted G (after_lines G ls)
-counted_lines [] G plain = record { pool = refl; born = refl; starts = refl }
+counted_lines [] G plain = record { pool = refl; born = refl; starts = refl; server = refl }
 counted_lines (lines.Do command ∷ ls) G plain = absurd plain.0
 counted_lines (lines.Born child kind parent ns blocks ∷ ls) G plain = absurd plain.0
 counted_lines (lines.Proc e p uid gid ∷ ls) G plain = absurd plain.0
-counted_lines (line ∷ ls) G plain = let more = counted_lines ls (after_line G line) plain.1 in record { pool = more.pool; born = more.born; starts = more.starts }
+counted_lines (line ∷ ls) G plain = let more = counted_lines ls (after_line G line) plain.1 in record { pool = more.pool; born = more.born; starts = more.starts; server = more.server }

@@ -1,6 +1,7 @@
--- Each command raises what each node appended by the words of its lines that are by that node.
-use Rattle.std.proofs.Common.{◌≡◌, ◌+◌, ◌<◌, ◌≤◌, ℕ, zero, suc, List, [], ◌∷◌, ◌++◌, length, take, Bool, true, false, cond, eqb, ltb, leb, not, Some, refl, sym, ap, ◌∙◌, subst, inl, inr, arith, length-append}
+-- Each command and each delivery of a settle raises what each node appended by the words of its lines that are by that node.
+use Rattle.std.proofs.Common.{◌≡◌, ◌+◌, ◌<◌, ◌≤◌, ℕ, zero, suc, List, [], ◌∷◌, ◌++◌, length, take, Bool, true, false, cond, eqb, ltb, leb, not, ◌&&◌, ◌||◌, map, Option, None, Some, refl, sym, ap, ◌∙◌, subst, inl, inr, arith, length-append}
 use Rattle.std.specs.Prelude.{◌⊎◌, slice_set}
+use Rattle.std.specs.Option.{option_map_or}
 use Rattle.std.proofs.lemmas.Bool.{eqb-true, eqb-false, ltb-true, ne_eqb, cases_lt}
 use Rattle.std.proofs.lemmas.List.{length-set, get_or_past, get_or-set_same, get_or-set_other}
 use Rattle.std.proofs.Math.ListN.{get_or-append}
@@ -17,22 +18,22 @@ use Rattle.global_model.specs.declared.command.Command.{Command}
 use Rattle.global_model.specs.declared.command.Command.TheVariants as commands
 use Rattle.global_model.specs.declared.line.Line.{Line}
 use Rattle.global_model.specs.declared.line.Line.TheVariants as lines
-use Rattle.global_model.specs.Spelling.{words_in}
+use Rattle.global_model.specs.Spelling.{line_words, words_in}
 use Rattle.global_model.specs.History.{onto}
+use Rattle.global_model.specs.Lawful.{command_at}
 use Rattle.global_model.specs.View.{View}
-use Rattle.global_model.specs.Steps.{host, refusal, host_lines, first_blocks, start_lines, alloc_lines, touch_answer, state_lines, birth_lines, adopt_lines}
+use Rattle.global_model.specs.Steps.{host, refusal, host_lines, first_blocks, start_lines, alloc_lines, touch_answer, route_lines, state_lines, birth_lines, adopt_lines}
 use Rattle.global_model.proofs.Pasts.{onto-append}
 use Rattle.enclave_node.specs.Nodes.{NodeView, unborn_node, raised, wrote, new_host, new_node, lent, adopted, fed, fed_lines, after_feed}
 use Rattle.node_world.specs.declared.pair.Hop.{Hop}
 use Rattle.node_world.specs.declared.pair.Hop.TheVariants as hops
-use Rattle.node_world.specs.Appended.{refuses, words_by}
-use Rattle.node_world.specs.Machine.{MachineView, node_at, with_node, hop_in, link_of, with_link, taken_by, is_idle, next_enclave, free_of, is_full, is_short, booted_lines, booted_nodes, touch_by, deliver_by, after_deliver, shown_by, lines_by, acted}
+use Rattle.node_world.specs.Appended.{refuses, is_by, words_by}
+use Rattle.node_world.specs.Machine.{MachineView, node_at, with_node, hop_in, link_of, with_link, taken_by, is_idle, next_enclave, free_of, is_full, is_short, booted_lines, booted_nodes, touch_by, over_lines, over_machine, deliver_by, after_deliver, routes_by, shown_by, lines_by, acted, after_command}
 use Rattle.node_world.specs.Ready.{IsReady, Stands}
 use Rattle.node_world.specs.World.{most_words}
 use Rattle.node_world.proofs.Lists.{cond_case, set_field}
 use Rattle.node_world.proofs.Stills.{AreStill, still_answer, still_states, still_bytes}
-use Rattle.node_world.proofs.Deliveries.{over_lines, over_machine}
-use Rattle.node_world.proofs.Appends.{AreBy, nobody, only, Adds, share, adds_append, adds_by, few_by, by_still, by_birth, by_host, by_adopt, by_records, by_alloc}
+use Rattle.node_world.proofs.Appends.{IsBy, AreBy, nobody, only, Adds, share, adds_append, adds_by, few_by, by_still, by_birth, by_host, by_adopt, by_records, by_alloc}
 
 abbrev count_at : List NodeView → ℕ → ℕ
 count_at nodes e = (node_at nodes e).appended
@@ -123,7 +124,7 @@ counts_host m blocks ns none = by (ltb m.pool blocks)
     ls = host_lines (first_blocks blocks) ns
 
     w : MachineView
-    w = record m { nodes = new_host m.pool blocks ns ∷ [] }
+    w = record m { server = ns; nodes = new_host m.pool blocks ns ∷ [] }
 
     gone : (e : ℕ) → count_at m.nodes e ≡ 0
     gone e = ap (λ n. n.appended) (get_or_past m.nodes e (unborn_node 0 host []) (omega (arith, none)))
@@ -188,17 +189,19 @@ module _ (m : MachineView) (kind : Kind) (parent : Enclave) (blocks : ℕ) (ns :
   }
 
   counts_boot : Counts boot (lines_by m boot) m.nodes (acted m boot).nodes
-  counts_boot = by (ltb parent.0 (length m.nodes)) (is_full m) (is_short m blocks) refl
+  counts_boot = by (ltb parent.0 (length m.nodes)) (is_full m) (ns && m.server) (is_short m blocks) refl
     where
       w : MachineView
-      w = record m { nodes = booted_nodes m kind parent blocks ns; pairs = m.pairs ++ record { parent = parent; up = fresh; down = fresh } ∷ [] }
+      w = record m { server = m.server || ns; nodes = booted_nodes m kind parent blocks ns; pairs = m.pairs ++ record { parent = parent; up = fresh; down = fresh } ∷ [] }
 
-      by : (a b d : Bool) → ltb parent.0 (length m.nodes) ≡ a
-          → Counts boot (cond a (cond b (refusal causes.TooMany) (cond d (refusal causes.NoBlocks) (booted_lines m kind parent blocks ns))) (refusal causes.NoEnclave)) m.nodes (cond (not a) m (cond b m (cond d m w))).nodes
-      by false b d is = counts_none boot (refusal causes.NoEnclave) m.nodes (λ e. refl, tt)
-      by true true d is = counts_none boot (refusal causes.TooMany) m.nodes (λ e. refl, tt)
-      by true false true is = counts_none boot (refusal causes.NoBlocks) m.nodes (λ e. refl, tt)
-      by true false false is = booted (ltb-true parent.0 (length m.nodes) is)
+      by : (a b t d : Bool) → ltb parent.0 (length m.nodes) ≡ a
+          → Counts boot (cond a (cond b (refusal causes.TooMany) (cond t (refusal causes.NameServerTaken) (cond d (refusal causes.NoBlocks) (booted_lines m kind parent blocks ns)))) (refusal causes.NoEnclave)) m.nodes
+          (cond (not a) m (cond b m (cond t m (cond d m w)))).nodes
+      by false b t d is = counts_none boot (refusal causes.NoEnclave) m.nodes (λ e. refl, tt)
+      by true true t d is = counts_none boot (refusal causes.TooMany) m.nodes (λ e. refl, tt)
+      by true false true d is = counts_none boot (refusal causes.NameServerTaken) m.nodes (λ e. refl, tt)
+      by true false false true is = counts_none boot (refusal causes.NoBlocks) m.nodes (λ e. refl, tt)
+      by true false false false is = booted (ltb-true parent.0 (length m.nodes) is)
 
 -- ---- calls of processes
 
@@ -242,15 +245,13 @@ counts_alloc m e p page count me = by (ltb e.0 (length m.nodes)) refl
 
 -- ---- deliveries
 
-module _ (m : MachineView) (x y : Enclave) (count : ℕ) (me : y.0 < length m.nodes → (node_at m.nodes y.0).view.me ≡ y) where
-  abbrev delivery : Command
-  delivery = commands.Deliver x y count
-
+-- The command at hand is the delivery's own, or a settle.
+module _ (hand : Command) (quiet : (e : ℕ) (cause : Cause) → refuses e (Some hand) cause ≡ false) (m : MachineView) (x y : Enclave) (count : ℕ) (me : y.0 < length m.nodes → (node_at m.nodes y.0).view.me ≡ y) where
   -- nothing goes to an enclave that isn't born
   unborn_hop : ltb y.0 (length m.nodes) ≡ false → hop_in m x y ≡ hops.NoEnclave
   unborn_hop is = rw is refl
 
-  counts_over : y.0 < length m.nodes → (hop : Hop) → Counts delivery (over_lines m x y count hop) m.nodes (over_machine m x y count hop).nodes
+  counts_over : y.0 < length m.nodes → (hop : Hop) → Counts hand (over_lines m x y count hop) m.nodes (over_machine m x y count hop).nodes
   counts_over within hop = by (is_idle (link_of m.pairs hop))
     where
       n : ℕ
@@ -271,26 +272,26 @@ module _ (m : MachineView) (x y : Enclave) (count : ℕ) (me : y.0 < length m.no
       took : List Line
       took = lines.Took x y n ∷ []
 
-      busy : Counts delivery (took ++ ls) m.nodes w.nodes
+      busy : Counts hand (took ++ ls) m.nodes w.nodes
       busy = record {
         gain = λ e. share nobody took e + share (only y) ls e;
-        adds = adds_append delivery took ls (share nobody took) (share (only y) ls) (adds_by delivery nobody took (λ e. refl, tt))
-            (adds_by delivery (only y) ls (subst (λ e. AreBy delivery (only e) ls) (me within) (by_records delivery node.view x (fed node x piece).records)));
+        adds = adds_append hand took ls (share nobody took) (share (only y) ls) (adds_by hand nobody took (λ e. refl, tt))
+            (adds_by hand (only y) ls (subst (λ e. AreBy hand (only e) ls) (me within) (by_records hand node.view x (fed node x piece).records)));
         raises = λ e few. raises_one m.nodes y (after_feed node x piece) (words_in ls) within refl e (omega (arith, few)) ∙ omega arith;
       }
 
-      by : (b : Bool) → Counts delivery (cond b (lines.Idle x y ∷ []) (lines.Took x y n ∷ ls)) m.nodes (cond b m w).nodes
-      by true = counts_none delivery (lines.Idle x y ∷ []) m.nodes (λ e. refl, tt)
+      by : (b : Bool) → Counts hand (cond b (lines.Idle x y ∷ []) (lines.Took x y n ∷ ls)) m.nodes (cond b m w).nodes
+      by true = counts_none hand (lines.Idle x y ∷ []) m.nodes (λ e. refl, tt)
       by false = busy
 
-  counts_deliver : Counts delivery (lines_by m delivery) m.nodes (acted m delivery).nodes
+  counts_deliver : Counts hand (deliver_by m x y count (hop_in m x y)) m.nodes (after_deliver m x y count (hop_in m x y)).nodes
   counts_deliver = by (ltb y.0 (length m.nodes)) refl
     where
       at : (hop : Hop) → Type 0
-      at hop = Counts delivery (deliver_by m x y count hop) m.nodes (after_deliver m x y count hop).nodes
+      at hop = Counts hand (deliver_by m x y count hop) m.nodes (after_deliver m x y count hop).nodes
 
-      refused : (cause : Cause) → Counts delivery (refusal cause) m.nodes m.nodes
-      refused cause = counts_none delivery (refusal cause) m.nodes (λ e. refl, tt)
+      refused : (cause : Cause) → Counts hand (refusal cause) m.nodes m.nodes
+      refused cause = counts_none hand (refusal cause) m.nodes (λ e. quiet e cause, tt)
 
       over : y.0 < length m.nodes → (hop : Hop) → at hop
       over within hops.NoEnclave = refused causes.NoEnclave
@@ -320,6 +321,22 @@ counts_show_link m x y = counts_still (commands.ShowLink x y) (λ e cause. refl)
     by (hops.Up i) = still_bytes x y _ 0 _
     by (hops.Down i) = still_bytes x y _ 0 _
 
+by_routes : (c : Command) (v : View) → AreBy c nobody (route_lines v)
+by_routes c v = (way v.holder v.way, rows v.routes)
+  where
+    way : (holder : Bool) (over : Option Enclave) → IsBy c nobody (cond holder (lines.AtWayOwn v.me) (option_map_or (λ over. lines.AtWay v.me over) over (lines.AtWayNone v.me)))
+    way true over = λ e. refl
+    way false None = λ e. refl
+    way false (Some over) = λ e. refl
+
+    rows : (routes : List (ℕ × Enclave)) → AreBy c nobody (map (λ row. lines.AtRoute v.me (record { 0 = row.0 }) row.1) routes)
+    rows [] = tt
+    rows (row ∷ routes) = (λ e. refl, rows routes)
+
+counts_show_routes : (m : MachineView) (e : Enclave) → Counts (commands.ShowRoutes e) (lines_by m (commands.ShowRoutes e)) m.nodes m.nodes
+counts_show_routes m e = counts_none (commands.ShowRoutes e) (lines_by m (commands.ShowRoutes e)) m.nodes
+    (cond_case (ltb e.0 (length m.nodes)) (routes_by m e) (refusal causes.NoEnclave) (AreBy (commands.ShowRoutes e) nobody) (by_routes (commands.ShowRoutes e) (node_at m.nodes e.0).view) (λ k. refl, tt))
+
 counts_show_pool : (m : MachineView) → Counts commands.ShowPool (lines_by m commands.ShowPool) m.nodes m.nodes
 counts_show_pool m = counts_still commands.ShowPool (λ e cause. refl) (lines_by m commands.ShowPool) m.nodes
     (cond_case (ltb 0 (length m.nodes)) (state_lines 0 (node_at m.nodes 0).view.host.states) (refusal causes.NoEnclave) AreStill (still_states 0 (node_at m.nodes 0).view.host.states) (tt, tt))
@@ -333,17 +350,49 @@ counted m (commands.Boot kind parent blocks ns) ready stands = counts_boot m kin
 counted m (commands.Proc e uid gid) ready stands = counts_start m e uid gid (λ within. (ready.nodes e.0 within).me)
 counted m (commands.Alloc e p page count) ready stands = counts_alloc m e p page count (λ within. (ready.nodes e.0 within).me)
 counted m (commands.Touch e p addr want) ready stands = counts_touch m e p addr want
-counted m (commands.Deliver x y count) ready stands = counts_deliver m x y count (λ within. (ready.nodes y.0 within).me)
+counted m (commands.Deliver x y count) ready stands = counts_deliver (commands.Deliver x y count) (λ e cause. refl) m x y count (λ within. (ready.nodes y.0 within).me)
+counted m (commands.Settle most) ready stands = absurd stands
+counted m (commands.ShowRoutes e) ready stands = counts_show_routes m e
 counted m (commands.ShowLink x y) ready stands = counts_show_link m x y
 counted m commands.ShowPool ready stands = counts_show_pool m
+counted m c ready stands = counts_none c [] m.nodes tt
 
--- so what the nodes appended stays the words of their lines, as long as the journal is short
-pub counted_after : (m : MachineView) (c : Command) (journal : List Line) → IsReady m → Stands m c → ((e : ℕ) → count_at m.nodes e ≡ words_by e (onto journal [])) → words_in (journal ++ lines.Do c ∷ lines_by m c) ≤ most_words
-    → (e : ℕ) → count_at (acted m c).nodes e ≡ words_by e (onto (journal ++ lines.Do c ∷ lines_by m c) [])
-counted_after m c journal ready stands old short e =
-    let k = counted m c ready stands in
-    let all = ap (words_by e) (onto-append journal (lines.Do c ∷ lines_by m c) []) in
-    let words = k.adds.words (lines.Do c ∷ onto journal []) refl e in
-    let few = few_by e (journal ++ lines.Do c ∷ lines_by m c) [] in
-    let sum : count_at m.nodes e + k.gain e ≡ words_by e (onto (journal ++ lines.Do c ∷ lines_by m c) []) = omega (arith, old e, all, words) in
+-- ---- a journal
+
+-- what each node appended are its own words of the journal
+abbrev pub AreCounted : MachineView → List Line → Type 0
+AreCounted m journal = (e : ℕ) → count_at m.nodes e ≡ words_by e (onto journal [])
+
+-- a line by no node
+pub counted_line : (m : MachineView) (journal : List Line) (line : Line) → ((e : ℕ) (past : List Line) → is_by e past line ≡ false) → AreCounted m journal → AreCounted m (journal ++ line ∷ [])
+counted_line m journal line quiet counted e =
+    counted e ∙ sym (ap (words_by e) (onto-append journal (line ∷ []) []) ∙ ap (λ b. cond b (length (line_words line)) 0 + words_by e (onto journal [])) (quiet e (onto journal [])) ∙ omega arith)
+
+-- the lines of a command raise the counts, as long as the journal is short
+counted_more : (hand : Command) (m : MachineView) (ls journal : List Line) (after : List NodeView) → Counts hand ls m.nodes after → command_at (onto journal []) ≡ Some hand → AreCounted m journal → words_in (journal ++ ls) ≤ most_words
+    → (e : ℕ) → count_at after e ≡ words_by e (onto (journal ++ ls) [])
+counted_more hand m ls journal after k at old short e =
+    let all = ap (words_by e) (onto-append journal ls []) in
+    let words = k.adds.words (onto journal []) at e in
+    let few = few_by e (journal ++ ls) [] in
+    let sum : count_at m.nodes e + k.gain e ≡ words_by e (onto (journal ++ ls) []) = omega (arith, old e, all, words) in
     k.raises e (omega (arith, sum, few, short)) ∙ sum
+
+-- those of a command at hand
+pub counted_after : (m : MachineView) (c : Command) (journal : List Line) → IsReady m → Stands m c → command_at (onto journal []) ≡ Some c → AreCounted m journal → words_in (journal ++ lines_by m c) ≤ most_words
+    → AreCounted (after_command m c) (journal ++ lines_by m c)
+counted_after m c journal ready stands at old short = counted_more c m (lines_by m c) journal (acted m c).nodes (counted m c ready stands) at old short
+
+-- those of a delivery, while a settle is at hand, which stays so
+module _ (m : MachineView) (x y : Enclave) (count most : ℕ) (journal : List Line) (ready : IsReady m) (at : command_at (onto journal []) ≡ Some (commands.Settle most)) where
+  abbrev ls : List Line
+  ls = lines_by m (commands.Deliver x y count)
+
+  made : Counts (commands.Settle most) ls m.nodes (acted m (commands.Deliver x y count)).nodes
+  made = counts_deliver (commands.Settle most) (λ e cause. refl) m x y count (λ within. (ready.nodes y.0 within).me)
+
+  pub counted_delivery : AreCounted m journal → words_in (journal ++ ls) ≤ most_words → AreCounted (after_command m (commands.Deliver x y count)) (journal ++ ls)
+  counted_delivery old short = counted_more (commands.Settle most) m ls journal (acted m (commands.Deliver x y count)).nodes made at old short
+
+  pub hand_delivery : command_at (onto (journal ++ ls) []) ≡ Some (commands.Settle most)
+  hand_delivery = ap command_at (onto-append journal ls []) ∙ made.adds.hand (onto journal []) at

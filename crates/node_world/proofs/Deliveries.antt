@@ -1,12 +1,11 @@
 -- What is delivered by the facts is what the machine delivers.
-use Rattle.std.proofs.Common.{min, ◌≡◌, ◌≢◌, ◌+◌, ◌-◌, ◌<◌, ◌≤◌, ℕ, List, [], ◌∷◌, length, take, drop, Bool, true, false, cond, eqb, not, ◌&&◌, Option, None, Some, refl, sym, ap, ◌∙◌, subst, arith}
-use Rattle.std.specs.Prelude.{if◌then◌else◌}
+use Rattle.std.proofs.Common.{min, ◌≡◌, ◌≢◌, ◌+◌, ◌-◌, ◌<◌, ◌≤◌, ℕ, List, [], ◌∷◌, ◌++◌, length, take, drop, Bool, true, false, cond, eqb, Option, None, Some, refl, sym, ap, ◌∙◌, subst, arith}
 use Rattle.std.specs.Option.{option_map_or}
 use Rattle.std.proofs.lemmas.Bool.{eqb-true, eqb-false, ne_eqb, lt-ltb}
 use Rattle.std.proofs.lemmas.List.{length-set}
 use Rattle.xm_num.specs.declared.Enclave.{Enclave}
 use Rattle.xm_num.specs.declared.Cause.TheVariants as causes
-use Rattle.xm_num.specs.Rows.{at}
+use Rattle.xm_num.specs.Rows.{at, less}
 use Rattle.xm_num.proofs.RowLemmas.{at_put}
 use Rattle.byte_link.specs.Channel.{Channel, taken, waiting_bytes}
 use Rattle.xemem_wire.specs.declared.format.Record.{Record}
@@ -18,20 +17,20 @@ use Rattle.global_model.specs.declared.command.Command.{Command}
 use Rattle.global_model.specs.declared.command.Command.TheVariants as commands
 use Rattle.global_model.specs.declared.line.Line.{Line}
 use Rattle.global_model.specs.declared.line.Line.TheVariants as lines
-use Rattle.global_model.specs.Facts.{Facts, ChannelFact, with_taken, after_line, after_lines}
+use Rattle.global_model.specs.Facts.{Facts, ChannelFact, place_among, with_taken, after_line, after_lines}
 use Rattle.global_model.specs.Channels.{whole_records, arriving}
 use Rattle.global_model.specs.View.{View, view_of, own_lines, seen_lines}
-use Rattle.global_model.specs.Steps.{host, refusal, knows_way, here_of, register_of, admit_of, is_for, is_stray, drop_lines, body_lines, record_lines, lines_of_records}
+use Rattle.global_model.specs.Steps.{host, refusal, knows_way, here_of, register_of, admit_of, told_askers, passed_lines, admit_over, admit_to, is_stray, drop_lines, body_lines, record_lines, lines_of_records}
 use Rattle.global_model.specs.Refusals.{link_conditions, first_cause}
 use Rattle.global_model.specs.Due.{command_lines, got_lines, took_lines, deliver_lines}
 use Rattle.enclave_node.specs.Nodes.{NodeView, unborn_node, feed_at, fed, fed_lines, after_feed}
 use Rattle.node_world.specs.declared.pair.Hop.{Hop}
 use Rattle.node_world.specs.declared.pair.Hop.TheVariants as hops
-use Rattle.node_world.specs.Machine.{MachineView, node_at, pair_at, with_node, hop_in, link_of, with_link, taken_by, is_idle, deliver_by, after_deliver, lines_by, acted, with_carried, after_command}
+use Rattle.node_world.specs.Machine.{MachineView, node_at, pair_at, with_node, hop_in, link_of, with_link, taken_by, is_idle, over_lines, over_machine, deliver_by, after_deliver, lines_by, acted, with_carried, after_command}
 use Rattle.node_world.specs.Shown.{IsNodeOf, IsShown, enclave}
 use Rattle.node_world.specs.Laws.{WireLaws, ViewLaws}
 use Rattle.node_world.proofs.Lists.{cond_case, same_either, set_case}
-use Rattle.node_world.proofs.Channels.{waiting-length, link_taken, got_is, IsFed, feed_from, feed_fed}
+use Rattle.node_world.proofs.Flows.{waiting-length, link_taken, got_is, IsFed, feed_from, feed_fed}
 use Rattle.node_world.proofs.Carriage.{AreWithin, ArePlain, plain_append, feed_by, pair_here, pair_other, pair_case, over, with_link-parent, with_link-length, counted_lines}
 use Rattle.node_world.proofs.Acted.{IsActed, HasFeed, IsFedPair, shown_by, linked_of, fed_of}
 use Rattle.node_world.proofs.Stills.{IsStep, IsTied, AreStill, tied_still}
@@ -39,11 +38,33 @@ use Rattle.node_world.proofs.Neighbours.{IsOver, cause_of, refused_is, over_up, 
 
 -- ---- the lines of records are plain
 
+plain_told : (v : View) (askers : List (ℕ × Enclave)) → ArePlain (told_askers v askers)
+plain_told v [] = tt
+plain_told v (row ∷ askers) = (tt, plain_told v askers)
+
+plain_passed : (v : View) (from : Enclave) (over : Option Enclave) (r : Record) → ArePlain (passed_lines v from over r)
+plain_passed v from None r = (tt, tt)
+plain_passed v from (Some over) r = cond_case (eqb over.0 from.0) (drop_lines v) (lines.Sent v.me over r ∷ []) ArePlain (tt, tt) (tt, tt)
+
+plain_over : (v : View) (from d : Enclave) (r : Record) (over : Option Enclave) → ArePlain (admit_over v from d r over)
+plain_over v from d r None = (tt, tt)
+plain_over v from d r (Some over) = (tt, plain_passed v from (Some over) r)
+
+plain_admit : (v : View) (from : Enclave) (r : Record) (dest : Option Enclave) → ArePlain (admit_to v from r dest)
+plain_admit v from r None = (tt, tt)
+plain_admit v from r (Some d) =
+    cond_case (eqb d.0 v.me.0) (cond v.admitted (drop_lines v) (lines.Admitted v.me ∷ [])) (admit_over v from d r (at v.backs d.0)) ArePlain
+    (cond_case v.admitted (drop_lines v) (lines.Admitted v.me ∷ []) ArePlain (tt, tt) (tt, tt)) (plain_over v from d r (at v.backs d.0))
+
 plain_body : (v : View) (from : Enclave) (r : Record) (body : Body) → ArePlain (body_lines v from r body)
-plain_body v from r bodies.Query = cond_case (knows_way v) (lines.Sent v.me from (here_of v.me) ∷ []) (drop_lines v) ArePlain (tt, tt) (tt, tt)
-plain_body v from r bodies.Here = cond_case (knows_way v) (drop_lines v) (lines.Way v.me from ∷ lines.Sent v.me from (register_of v.me) ∷ []) ArePlain (tt, tt) (tt, (tt, tt))
-plain_body v from r bodies.Register = cond_case v.holder (lines.Back v.me r.origin from ∷ lines.Route v.me r.origin from ∷ lines.Sent v.me from (admit_of v.me r.origin) ∷ []) (drop_lines v) ArePlain (tt, (tt, (tt, tt))) (tt, tt)
-plain_body v from r bodies.Admit = cond_case (is_for v r.dest && not v.admitted) (lines.Admitted v.me ∷ []) (drop_lines v) ArePlain (tt, tt) (tt, tt)
+plain_body v from r bodies.Query = cond_case (knows_way v) (lines.Sent v.me from (here_of v.me) ∷ []) (lines.Asked v.me from ∷ []) ArePlain (tt, tt) (tt, tt)
+plain_body v from r bodies.Here =
+    let told = told_askers v (less v.askers (place_among v.parent from)) in
+    let register = lines.Sent v.me from (register_of v.me) ∷ [] in
+    cond_case (knows_way v) (drop_lines v) (lines.Way v.me from ∷ told ++ register) ArePlain (tt, tt) (tt, plain_append told register (plain_told v (less v.askers (place_among v.parent from))) (tt, tt))
+plain_body v from r bodies.Register =
+    (tt, cond_case v.holder (lines.Route v.me r.origin from ∷ lines.Sent v.me from (admit_of v.me r.origin) ∷ []) (passed_lines v from v.way r) ArePlain (tt, (tt, tt)) (plain_passed v from v.way r))
+plain_body v from r bodies.Admit = plain_admit v from r r.dest
 plain_body v from r _ = (tt, tt)
 
 plain_records : (v : View) (from : Enclave) (rs : List Record) → ArePlain (lines_of_records v from rs)
@@ -60,15 +81,9 @@ piece_of m count hop = take (taken_by (link_of m.pairs hop) count) (waiting_byte
 abbrev busy_lines : MachineView → Enclave → Enclave → ℕ → Hop → List Line
 busy_lines m x y count hop = fed_lines (node_at m.nodes y.0) x (piece_of m count hop)
 
-abbrev pub over_lines : MachineView → Enclave → Enclave → ℕ → Hop → List Line
-over_lines m x y count hop = if is_idle (link_of m.pairs hop) then lines.Idle x y ∷ [] else lines.Took x y (taken_by (link_of m.pairs hop) count) ∷ busy_lines m x y count hop
-
 abbrev busy_machine : MachineView → Enclave → Enclave → ℕ → Hop → MachineView
 busy_machine m x y count hop =
     record (with_node m y.0 (after_feed (node_at m.nodes y.0) x (piece_of m count hop))) { pairs = with_link m.pairs hop (taken (link_of m.pairs hop) (taken_by (link_of m.pairs hop) count)) }
-
-abbrev pub over_machine : MachineView → Enclave → Enclave → ℕ → Hop → MachineView
-over_machine m x y count hop = if is_idle (link_of m.pairs hop) then m else busy_machine m x y count hop
 
 module _ (wire : WireLaws) (views : ViewLaws) (G H : Facts) (m : MachineView) (x y : Enclave) (count : ℕ) (step : IsStep G H (commands.Deliver x y count)) (h : IsShown G m) (hop : Hop) (k : IsOver G m x y hop) where
   abbrev link : Channel
@@ -106,7 +121,7 @@ module _ (wire : WireLaws) (views : ViewLaws) (G H : Facts) (m : MachineView) (x
   lines_are =
       let taken_is : T.channel x.0 y.0 ≡ with_taken n f = pair_here x.0 y.0 (with_taken n) G.channel x.0 y.0 refl refl in
       let come : arriving (T.channel x.0 y.0) ≡ d.records = ap arriving taken_is ∙ ap (λ got. drop got (whole_records (f.taken + n) f.sent)) (got_is f (step.before.flows x.0 y.0) (step.before.arrived x.0 y.0)) ∙ sym is_fed.came in
-      let living = (step.before.star.enclaves y.0).living ∙ lt-ltb y.0 G.born k.yours in
+      let living = (step.before.tree.enclaves y.0).living ∙ lt-ltb y.0 G.born k.yours in
       let view : view_of G y ≡ node.view = sym (h.nodes y.0 k.yours).view in
       let got : got_lines T x y (arriving (T.channel x.0 y.0)) ≡ busy_lines m x y count hop = ap (got_lines T x y) come ∙ views.records T x y d.records living ∙ ap (λ v. lines_of_records v x d.records) view in
       ap (λ bytes. cond (eqb (length bytes) 0) (lines.Idle x y ∷ []) (took_lines G x y (min count (length bytes)))) (sym k.link.waiting)
@@ -171,6 +186,7 @@ module _ (wire : WireLaws) (views : ViewLaws) (G H : Facts) (m : MachineView) (x
       let count = h.pairs ∙ ap (λ k. k - 1) (sym h.born) in
       record {
         pool = h.pool;
+        server = h.server;
         starts = h.starts;
         born = length-set m.nodes y.0 after ∙ h.born;
         pairs = with_link-length m.pairs hop (taken link n) ∙ h.pairs;

@@ -1,12 +1,12 @@
 -- What the world lends: nodes that are seen as views, and links whose bytes wait by the facts.
 use Rattle.std.proofs.Common.{◌≡◌, ◌<◌, ℕ, List, length, Bool, true, false, eqb, ltb, not, ◌&&◌, ◌||◌, [], Option, None, Some, Bor, refl, sym, ap, ◌∙◌, subst, arith}
 use Rattle.std.specs.Prelude.{option_copied, IfSome, slice_get, is_some, ◌↔◌}
-use Rattle.std.proofs.lemmas.Bool.{and_parts, ltb-true, ltb-false, lt-ltb, eqb-true}
+use Rattle.std.proofs.lemmas.Bool.{and_parts, ltb-true, ltb-false, lt-ltb, eqb-false}
 use Rattle.std.proofs.lemmas.Option.{slice_get-get_or, slice_get_within, slice_get_past, get_or_from_slice_get}
 use Rattle.xm_num.specs.declared.Enclave.{Enclave}
 use Rattle.byte_link.specs.Channel.{Channel, waiting_bytes}
 use Rattle.global_model.specs.declared.line.Line.{Line}
-use Rattle.global_model.specs.Facts.{Facts, facts_after, is_living_enclave, has_parent}
+use Rattle.global_model.specs.Facts.{Facts, EnclaveFact, facts_after, is_living_enclave, has_parent}
 use Rattle.global_model.specs.Channels.{is_child_of, is_neighbour, waiting_bytes as waiting_in}
 use Rattle.global_model.specs.Flow.{IsFlowing}
 use Rattle.global_model.specs.Refusals.{link_conditions, first_cause}
@@ -19,7 +19,7 @@ use Rattle.node_world.specs.Laws.{Laws}
 use Rattle.node_world.specs.Machine.{MachineView, node_at, pair_at, hop_in, link_by, link_between}
 use Rattle.node_world.specs.Shown.{IsNodeOf, Feeds, IsFedBy, IsShown}
 use Rattle.node_world.specs.World.{IsHistoryOf}
-use Rattle.node_world.proofs.Channels.{feed_is}
+use Rattle.node_world.proofs.Flows.{feed_is}
 use Rattle.node_world.proofs.Neighbours.{cause_of, refused_is, over_up, over_down}
 use Rattle.global_model.specs.History.{do_commands, onto}
 
@@ -46,10 +46,17 @@ flowing_in laws m journal h = subst (λ j. IsFlowing (facts_after j)) (sym h.tol
 child_born : (G : Facts) → IsFlowing G → (c p : ℕ) → is_child_of G c p ≡ true → (c < G.born) × (p < G.born)
 child_born G flowing c p is =
     let tests = and_parts (not (eqb c 0)) (has_parent p (G.enclave c)) is in
-    let both = and_parts (ltb c G.born) (eqb 0 p) (sym ((flowing.star.enclaves c).parent p) ∙ tests.1) in
-    let within = ltb-true c G.born both.0 in
-    let zero = eqb-true 0 p both.1 in
-    (within, omega (arith, within, zero))
+    let within = ltb-true c G.born (sym (flowing.tree.enclaves c).known ∙ is_known (G.enclave c) tests.1) in
+    let above = (flowing.tree.enclaves c).above p tests.1 (let apart = eqb-false c 0 (not-true (eqb c 0) tests.0) in omega (arith, apart)) in
+    (within, omega (arith, within, above))
+  where
+    is_known : (fact : Option EnclaveFact) → has_parent p fact ≡ true → is_some fact ≡ true
+    is_known None is = cc
+    is_known (Some fact) is = refl
+
+    not-true : (b : Bool) → not b ≡ true → b ≡ false
+    not-true true is = cc
+    not-true false is = refl
 
 pub near_born : (G : Facts) → IsFlowing G → (x y : ℕ) → is_neighbour G x y ≡ true → (x < G.born) × (y < G.born)
 near_born G flowing x y is = by (is_child_of G x y) refl is
@@ -62,8 +69,8 @@ near_born G flowing x y is = by (is_child_of G x y) refl is
 near_fine : (G : Facts) → IsFlowing G → (x y : Enclave) → is_neighbour G x.0 y.0 ≡ true → first_cause (link_conditions G x y) ≡ None
 near_fine G flowing x y near =
     let born = near_born G flowing x.0 y.0 near in
-    let living = (flowing.star.enclaves y.0).living ∙ lt-ltb y.0 G.born born.1 in
-    let known = (flowing.star.enclaves x.0).known ∙ lt-ltb x.0 G.born born.0 in
+    let living = (flowing.tree.enclaves y.0).living ∙ lt-ltb y.0 G.born born.1 in
+    let known = (flowing.tree.enclaves x.0).known ∙ lt-ltb x.0 G.born born.0 in
     rw (living, known, near) refl
 
 far_refused : (G : Facts) (x y : Enclave) → is_neighbour G x.0 y.0 ≡ false → is_some (first_cause (link_conditions G x y)) ≡ true
@@ -136,7 +143,7 @@ lent_feeds G m flowing h e node is x near = subst (Feeds G x e) (node_found m.no
 
 -- no node is lent exactly where the enclave doesn't live
 pub no_node : (G : Facts) (m : MachineView) → IsFlowing G → IsShown G m → (e : ℕ) → (slice_get m.nodes e ≡ None) ↔ (is_living_enclave (G.enclave e) ≡ false)
-no_node G m flowing h e = (λ none. (flowing.star.enclaves e).living ∙ gone none, λ dead. past (sym (flowing.star.enclaves e).living ∙ dead))
+no_node G m flowing h e = (λ none. (flowing.tree.enclaves e).living ∙ gone none, λ dead. past (sym (flowing.tree.enclaves e).living ∙ dead))
   where
     gone : slice_get m.nodes e ≡ None → ltb e G.born ≡ false
     gone none = by (ltb e G.born) refl

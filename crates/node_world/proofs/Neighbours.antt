@@ -8,10 +8,9 @@ use Rattle.xm_num.specs.declared.Cause.{Cause}
 use Rattle.xm_num.specs.declared.Cause.TheVariants as causes
 use Rattle.global_model.specs.declared.command.Command.TheVariants as commands
 use Rattle.global_model.specs.declared.line.Line.{Line}
-use Rattle.global_model.specs.Facts.{Facts, EnclaveFact, has_parent}
+use Rattle.global_model.specs.Facts.{Facts, EnclaveFact, has_parent, fact_of}
 use Rattle.global_model.specs.Channels.{is_child_of, is_neighbour}
 use Rattle.global_model.specs.Flow.{IsFlowing}
-use Rattle.global_model.specs.View.{fact_of}
 use Rattle.global_model.specs.Refusals.{when, link_conditions, first_cause}
 use Rattle.global_model.specs.Steps.{refusal}
 use Rattle.global_model.specs.Due.{command_lines, bytes_lines, show_lines}
@@ -20,7 +19,7 @@ use Rattle.node_world.specs.declared.pair.Hop.{Hop}
 use Rattle.node_world.specs.declared.pair.Hop.TheVariants as hops
 use Rattle.node_world.specs.Machine.{MachineView, no_pair, pair_at, is_parent, hop_in, link_of, lines_by, shown_by}
 use Rattle.node_world.specs.Shown.{IsShown}
-use Rattle.node_world.proofs.Channels.{IsLinkOf}
+use Rattle.node_world.proofs.Flows.{IsLinkOf}
 use Rattle.node_world.proofs.Hops.{up_is, down_is}
 use Rattle.node_world.proofs.Acted.{HasFeed, linked_of, fed_of}
 use Rattle.node_world.proofs.Stills.{IsStep, IsTied, AreStill, tied_still, still_bytes}
@@ -51,7 +50,7 @@ module _ (G : Facts) (m : MachineView) (flowing : IsFlowing G) (h : IsShown G m)
   child_same c p within = by (leb 1 c) refl
     where
       known : (i : ℕ) → i + 1 ≡ c → i < length m.pairs → (o : Option EnclaveFact) → G.enclave c ≡ o → eqb (pair_at m.pairs i).parent.0 p ≡ has_parent p o
-      known i is lt None found = let no : false ≡ true = ap is_some (sym found) ∙ (flowing.star.enclaves c).known ∙ lt-ltb c G.born within in cc
+      known i is lt None found = let no : false ≡ true = ap is_some (sym found) ∙ (flowing.tree.enclaves c).known ∙ lt-ltb c G.born within in cc
       known i is lt (Some fact) found = ap (λ (e : Enclave). eqb e.0 p) ((h.links i lt).parent ∙ ap (λ k. (fact_of (G.enclave k)).parent) is ∙ ap (λ o. (fact_of o).parent) found)
 
       by : (b : Bool) → leb 1 c ≡ b → is_parent m.pairs c p ≡ is_child_of G c p
@@ -68,8 +67,8 @@ module _ (G : Facts) (m : MachineView) (flowing : IsFlowing G) (h : IsShown G m)
   pub refused_is : (x y : Enclave) → first_cause (link_conditions G x y) ≡ cause_of (hop_in m x y)
   refused_is x y =
       let count = h.born in
-      let living = (flowing.star.enclaves y.0).living in
-      let known = (flowing.star.enclaves x.0).known in
+      let living = (flowing.tree.enclaves y.0).living in
+      let known = (flowing.tree.enclaves x.0).known in
       rw (living, known, count) (by (ltb y.0 G.born && ltb x.0 G.born) refl)
     where
       conditions : Bool → Option Cause

@@ -93,6 +93,7 @@ module _ (G H : Facts) (c : Command) (m : MachineView) (step : IsStep G H c) (h 
       → IsActed (record G { starts = starts; started = started; process = process }) H (record m { nodes = slice_set m.nodes e.0 (wrote (node_at m.nodes e.0) ls); starts = count })
   own_acted ls is about born count starts started process same = record {
     pool = h.pool;
+    server = h.server;
     starts = same;
     born = length-set m.nodes e.0 (wrote (node_at m.nodes e.0) ls) ∙ h.born;
     pairs = h.pairs;

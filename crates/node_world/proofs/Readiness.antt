@@ -11,10 +11,10 @@ use Rattle.std.proofs.lemmas.List.FromFn.{length-range_with_len}
 use Rattle.xm_num.specs.declared.Enclave.{Enclave}
 use Rattle.xm_num.specs.Rows.{at}
 use Rattle.xemem_wire.specs.Decoding.{Decoding, nothing_taken}
-use Rattle.global_model.specs.Facts.{Facts}
+use Rattle.global_model.specs.Facts.{Facts, fact_of}
 use Rattle.global_model.specs.Channels.{is_child_of}
 use Rattle.global_model.specs.Flow.{IsFlowing}
-use Rattle.global_model.specs.View.{View, child_row, fact_of}
+use Rattle.global_model.specs.View.{View, child_row}
 use Rattle.global_model.specs.Steps.{host}
 use Rattle.enclave_node.specs.Nodes.{NodeView, unborn_node, feed_at}
 use Rattle.byte_link.specs.Channel.{Channel}
@@ -22,7 +22,7 @@ use Rattle.node_world.specs.Links as links
 use Rattle.node_world.specs.Machine.{MachineView, node_at, pair_at}
 use Rattle.node_world.specs.Shown.{IsShown, enclave}
 use Rattle.node_world.specs.Ready.{IsPairReady, IsReady}
-use Rattle.node_world.proofs.Channels.{flowing_of}
+use Rattle.node_world.proofs.Flows.{flowing_of}
 use Rattle.node_world.proofs.Births.{at_nil}
 
 -- the rows of children below a number have none at it
@@ -68,7 +68,7 @@ module _ (G : Facts) (m : MachineView) (flowing : IsFlowing G) (h : IsShown G m)
 
   pub ready_of : IsReady m
   ready_of =
-      let born = h.born in let most = flowing.star.most in
+      let born = h.born in let most = flowing.tree.most in
       let parents : length (map (λ e. (fact_of (G.enclave e)).parent) (range_with_len 0 G.born)) ≡ G.born = length-map (range_with_len 0 G.born) _ ∙ length-range_with_len 0 G.born in
       record {
         most = omega (arith, born, most);

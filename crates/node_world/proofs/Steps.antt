@@ -10,19 +10,19 @@ use Rattle.global_model.specs.declared.command.Command.TheVariants as commands
 use Rattle.global_model.specs.declared.line.Line.{Line}
 use Rattle.global_model.specs.declared.line.Line.TheVariants as lines
 use Rattle.global_model.specs.Facts.{no_facts, facts_after}
-use Rattle.global_model.specs.Steps.{host, refusal, host_lines, first_blocks}
+use Rattle.global_model.specs.Steps.{refusal, host_lines, first_blocks}
 use Rattle.global_model.specs.Due.{command_lines, step_lines, journal_of}
 use Rattle.global_model.specs.History.{Follows}
 use Rattle.global_model.specs.Lawful.{CarriedAt}
 use Rattle.global_model.specs.Ranges.{IsWithin, IsInRange}
-use Rattle.global_model.specs.Scenario.{is_cokernel, may_stand, IsPlaced, IsPlacedAfter}
+use Rattle.global_model.specs.Place.{is_cokernel, may_stand, IsPlaced, IsPlacedAfter}
 use Rattle.node_world.specs.Links.{sent_in}
 use Rattle.node_world.specs.Machine.{MachineView, no_machine, lines_by, after_command}
-use Rattle.node_world.specs.Shown.{IsShown, enclave}
-use Rattle.node_world.specs.Ready.{IsReady, Stands, CanStep}
+use Rattle.node_world.specs.Shown.{IsShown}
+use Rattle.node_world.specs.Ready.{IsReady, IsNoSettle, Stands, CanStep}
 use Rattle.node_world.specs.Laws.{Laws}
-use Rattle.node_world.proofs.Channels.{more-valid}
-use Rattle.node_world.proofs.Stills.{IsStep, IsTied, placed_before, step_of, tied_touch, tied_show_pool}
+use Rattle.node_world.proofs.Flows.{more-valid}
+use Rattle.node_world.proofs.Stills.{placed_before, step_of, tied_touch, tied_show_routes, tied_show_pool}
 use Rattle.node_world.proofs.Owns.{tied_proc, tied_alloc}
 use Rattle.node_world.proofs.Neighbours.{tied_show_link}
 use Rattle.node_world.proofs.Deliveries.{tied_deliver}
@@ -34,6 +34,7 @@ use Rattle.node_world.proofs.Readiness.{ready_of}
 pub start : IsShown no_facts no_machine
 start = record {
   pool = refl;
+  server = refl;
   starts = refl;
   born = refl;
   pairs = refl;
@@ -66,39 +67,35 @@ pooled : (before : List Command) → length before ≡ 1 → IsPlaced before →
 pooled [] one placed = absurd (omega (arith, one))
 pooled (c ∷ d ∷ more) one placed = absurd (omega (arith, one))
 pooled (commands.Pool blocks ∷ []) one placed = record { pool = blocks; is = refl; range = placed.1 }
-pooled (commands.Host blocks ns ∷ []) one placed = let no : false ≡ true = placed.0 in cc
-pooled (commands.Boot kind parent blocks ns ∷ []) one placed = let no : false ≡ true = placed.0 in cc
-pooled (commands.Proc e uid gid ∷ []) one placed = let no : false ≡ true = placed.0 in cc
-pooled (commands.Alloc e p page count ∷ []) one placed = let no : false ≡ true = placed.0 in cc
-pooled (commands.Touch e p addr want ∷ []) one placed = let no : false ≡ true = placed.0 in cc
-pooled (commands.Deliver x y count ∷ []) one placed = let no : false ≡ true = placed.0 in cc
-pooled (commands.ShowLink x y ∷ []) one placed = let no : false ≡ true = placed.0 in cc
-pooled (commands.ShowPool ∷ []) one placed = let no : false ≡ true = placed.0 in cc
+pooled (_ ∷ []) one placed = let no : false ≡ true = placed.0 in cc
 
 -- ---- a step
 
+pub no_settle : (c : Command) → ((most : ℕ) → c ≡ commands.Settle most → ⊥) → IsNoSettle c
+no_settle (commands.Settle most) other = other most refl
+no_settle _ other = tt
+
 -- what the machine writes is what the rules give, and it shows the facts after it
-pub stepped : Laws → (commands : List Command) (c : Command) (m : MachineView) → IsPlaced (commands ++ c ∷ []) → IsShown (facts_after (journal_of commands)) m
+pub stepped : Laws → (commands : List Command) (c : Command) (m : MachineView) → IsNoSettle c → IsPlaced (commands ++ c ∷ []) → IsShown (facts_after (journal_of commands)) m
     → (lines_by m c ≡ command_lines (facts_after (journal_of commands)) c) × IsShown (facts_after (journal_of (commands ++ c ∷ []))) (after_command m c)
-stepped laws before (commands.Pool blocks) m placed h =
-    let count = eqb-true (0 + length before) 0 (last_stands 0 before (commands.Pool blocks) placed).0 in
+stepped laws before (commands.Pool blocks) m step placed h =
+    let count = eqb-true (0 + length before) 0 (and_parts _ _ (last_stands 0 before (commands.Pool blocks) placed).0).0 in
     tied_pool _ _ m blocks (step_of laws before (commands.Pool blocks) placed) h (none_born before (omega (arith, count)))
-stepped laws before (commands.Host blocks ns) m placed h =
+stepped laws before (commands.Host blocks ns) m step placed h =
     let count = eqb-true (0 + length before) 1 (and_parts _ _ (last_stands 0 before (commands.Host blocks ns) placed).0).0 in
     let p = pooled before (omega (arith, count)) (placed_before 0 before (commands.Host blocks ns ∷ []) placed) in
-    tied_host _ _ m blocks ns (step_of laws before (commands.Host blocks ns) placed) h (ap (λ cs. (facts_after (journal_of cs)).born) p.is)
+    tied_host _ _ m blocks ns (step_of laws before (commands.Host blocks ns) placed) h (ap (λ cs. (facts_after (journal_of cs)).born) p.is) (ap (λ cs. (facts_after (journal_of cs)).server) p.is)
     (subst (λ cs. command_lines (facts_after (journal_of cs)) (commands.Host blocks ns) ≡ cond (ltb (facts_after (journal_of cs)).pool blocks) (refusal causes.NoBlocks) (host_lines (first_blocks blocks) ns)) (sym p.is) (laws.views.host p.pool blocks ns))
-stepped laws before (commands.Boot kind parent blocks ns) m placed h =
-    let tests = (and_parts _ _ (and_parts _ _ (last_stands 0 before (commands.Boot kind parent blocks ns) placed).0).0).1 in
-    let under : host ≡ parent = ap enclave (sym (eqb-true parent.0 0 tests)) in
-    subst (λ e. IsStep (facts_after (journal_of before)) (facts_after (journal_of (before ++ commands.Boot kind e blocks ns ∷ []))) (commands.Boot kind e blocks ns) → IsTied (facts_after (journal_of before)) (facts_after (journal_of (before ++ commands.Boot kind e blocks ns ∷ []))) (commands.Boot kind e blocks ns) m) under
-    (λ step. tied_boot _ _ m kind blocks ns step h) (step_of laws before (commands.Boot kind parent blocks ns) placed)
-stepped laws before (commands.Proc e uid gid) m placed h = tied_proc _ _ m e uid gid (step_of laws before (commands.Proc e uid gid) placed) h
-stepped laws before (commands.Alloc e p page count) m placed h = tied_alloc _ _ m e p page count (step_of laws before (commands.Alloc e p page count) placed) h
-stepped laws before (commands.Touch e p addr want) m placed h = tied_touch _ _ m e p addr want (step_of laws before (commands.Touch e p addr want) placed) h
-stepped laws before (commands.Deliver x y count) m placed h = tied_deliver laws.wire laws.views _ _ m x y count (step_of laws before (commands.Deliver x y count) placed) h
-stepped laws before (commands.ShowLink x y) m placed h = tied_show_link _ _ m x y (step_of laws before (commands.ShowLink x y) placed) h
-stepped laws before commands.ShowPool m placed h = tied_show_pool _ _ m (step_of laws before commands.ShowPool placed) h
+stepped laws before (commands.Boot kind parent blocks ns) m step placed h = tied_boot _ _ m kind parent blocks ns (step_of laws before (commands.Boot kind parent blocks ns) placed) h
+stepped laws before (commands.Proc e uid gid) m step placed h = tied_proc _ _ m e uid gid (step_of laws before (commands.Proc e uid gid) placed) h
+stepped laws before (commands.Alloc e p page count) m step placed h = tied_alloc _ _ m e p page count (step_of laws before (commands.Alloc e p page count) placed) h
+stepped laws before (commands.Touch e p addr want) m step placed h = tied_touch _ _ m e p addr want (step_of laws before (commands.Touch e p addr want) placed) h
+stepped laws before (commands.Deliver x y count) m step placed h = tied_deliver laws.wire laws.views _ _ m x y count (step_of laws before (commands.Deliver x y count) placed) h
+stepped laws before (commands.Settle most) m step placed h = absurd step
+stepped laws before (commands.ShowRoutes e) m step placed h = tied_show_routes _ _ m e (step_of laws before (commands.ShowRoutes e) placed) h
+stepped laws before (commands.ShowLink x y) m step placed h = tied_show_link _ _ m x y (step_of laws before (commands.ShowLink x y) placed) h
+stepped laws before commands.ShowPool m step placed h = tied_show_pool _ _ m (step_of laws before commands.ShowPool placed) h
+stepped laws before c m step placed h = let no : false ≡ true = (and_parts _ _ (last_stands 0 before c placed).0).1 in cc
 
 -- so it may take the step
 pub ready : Laws → (commands : List Command) (m : MachineView) → IsPlaced commands → IsShown (facts_after (journal_of commands)) m → IsReady m
@@ -109,22 +106,24 @@ cokernel_is kinds.Host is = cc
 cokernel_is kinds.Cokernel is = refl
 cokernel_is kinds.Vm is = cc
 
-stands : (commands : List Command) (c : Command) (m : MachineView) → IsPlaced (commands ++ c ∷ []) → IsShown (facts_after (journal_of commands)) m → Stands m c
-stands before (commands.Pool blocks) m placed h =
-    let count = eqb-true (0 + length before) 0 (last_stands 0 before (commands.Pool blocks) placed).0 in
+stands : (commands : List Command) (c : Command) (m : MachineView) → IsNoSettle c → IsPlaced (commands ++ c ∷ []) → IsShown (facts_after (journal_of commands)) m → Stands m c
+stands before (commands.Pool blocks) m step placed h =
+    let count = eqb-true (0 + length before) 0 (and_parts _ _ (last_stands 0 before (commands.Pool blocks) placed).0).0 in
     h.born ∙ none_born before (omega (arith, count))
-stands before (commands.Host blocks ns) m placed h =
+stands before (commands.Host blocks ns) m step placed h =
     let count = eqb-true (0 + length before) 1 (and_parts _ _ (last_stands 0 before (commands.Host blocks ns) placed).0).0 in
     let p = pooled before (omega (arith, count)) (placed_before 0 before (commands.Host blocks ns ∷ []) placed) in
     let pool : p.pool ≡ m.pool = sym (h.pool ∙ ap (λ cs. (facts_after (journal_of cs)).pool) p.is) in
     let range = subst (IsWithin 1 4096) pool p.range in
     (h.born ∙ ap (λ cs. (facts_after (journal_of cs)).born) p.is, range.0, range.1)
-stands before (commands.Boot kind parent blocks ns) m placed h =
-    cokernel_is kind (and_parts _ _ (and_parts _ _ (and_parts _ _ (last_stands 0 before (commands.Boot kind parent blocks ns) placed).0).0).0).1
-stands before _ m placed h = tt
+stands before (commands.Boot kind parent blocks ns) m step placed h = cokernel_is kind (and_parts _ _ (last_stands 0 before (commands.Boot kind parent blocks ns) placed).0).1
+stands before (commands.Settle most) m step placed h = absurd step
+stands before _ m step placed h = tt
 
-pub can_step : Laws → (commands : List Command) (c : Command) (m : MachineView) → IsPlaced (commands ++ c ∷ []) → IsShown (facts_after (journal_of commands)) m → CanStep m c
-can_step laws before c m placed h = record { stands = stands before c m placed h; ranges = (last_stands 0 before c placed).1 }
+pub can_step : Laws → (commands : List Command) (c : Command) (m : MachineView) → IsNoSettle c → IsPlaced (commands ++ c ∷ []) → IsShown (facts_after (journal_of commands)) m → CanStep m c
+can_step laws before c m step placed h =
+    let last = last_stands 0 before c placed in
+    record { built = (and_parts _ _ last.0).1; stands = stands before c m step placed h; ranges = last.1 }
 
 -- ---- what is sent is valid
 
@@ -138,9 +137,9 @@ carried_valid past [] carried = tt
 carried_valid past (lines.Sent x y r ∷ ls) carried = (carried.0.2, carried_valid (lines.Sent x y r ∷ past) ls carried.1)
 carried_valid past (line ∷ ls) carried = carried_valid (line ∷ past) ls carried.1
 
-pub sent_valid : Laws → (commands : List Command) (c : Command) (m : MachineView) → IsPlaced (commands ++ c ∷ []) → IsShown (facts_after (journal_of commands)) m → AreValid (sent_in (lines_by m c))
-sent_valid laws before c m placed h =
+pub sent_valid : Laws → (commands : List Command) (c : Command) (m : MachineView) → IsNoSettle c → IsPlaced (commands ++ c ∷ []) → IsShown (facts_after (journal_of commands)) m → AreValid (sent_in (lines_by m c))
+sent_valid laws before c m step placed h =
     let G = facts_after (journal_of before) in
     let all = carried_valid [] (journal_of (before ++ c ∷ [])) (laws.carried (before ++ c ∷ []) placed) in
     let split : sent_in (journal_of (before ++ c ∷ [])) ≡ sent_in (journal_of before) ++ sent_in (step_lines G c) = ap sent_in (laws.journal before c) ∙ sent-append (journal_of before) (step_lines G c) in
-    subst (λ ls. AreValid (sent_in ls)) (sym (stepped laws before c m placed h).0) (more-valid (sent_in (journal_of before)) (sent_in (step_lines G c)) (subst AreValid split all))
+    subst (λ ls. AreValid (sent_in ls)) (sym (stepped laws before c m step placed h).0) (more-valid (sent_in (journal_of before)) (sent_in (step_lines G c)) (subst AreValid split all))

@@ -1,5 +1,6 @@
 -- A command by the facts is the one that the machine makes: those that change nothing.
-use Rattle.std.proofs.Common.{◌≡◌, ◌+◌, ◌<◌, ◌≤◌, ℕ, zero, suc, List, [], ◌∷◌, ◌++◌, length, drop, Bool, true, false, cond, ltb, Result, Ok, Err, refl, sym, ap, ◌∙◌, subst}
+use Rattle.std.proofs.Common.{◌≡◌, ◌+◌, ◌<◌, ◌≤◌, ℕ, zero, suc, List, [], ◌∷◌, ◌++◌, length, map, drop, Bool, true, false, cond, ltb, Option, None, Some, Result, Ok, Err, refl, sym, ap, ◌∙◌, subst}
+use Rattle.std.specs.Option.{option_map_or}
 use Rattle.std.proofs.lemmas.Bool.{ltb-true, lt-ltb}
 use Rattle.xm_num.specs.declared.Enclave.{Enclave}
 use Rattle.xm_num.specs.declared.Pid.{Pid}
@@ -15,10 +16,10 @@ use Rattle.global_model.specs.declared.line.Line.TheVariants as lines
 use Rattle.global_model.specs.Facts.{Facts, BlockFact, Absent, Free, Lent, Held, facts_after, after_line, after_lines}
 use Rattle.global_model.specs.Flow.{IsFlowing}
 use Rattle.global_model.specs.View.{View, view_of, seen_lines}
-use Rattle.global_model.specs.Steps.{host, refusal, answer_lines, touch_answer, state_line, state_lines}
+use Rattle.global_model.specs.Steps.{host, refusal, answer_lines, touch_answer, way_line, route_lines, state_line, state_lines}
 use Rattle.global_model.specs.Known.{IsAnswered, at_born, unborn_view}
 use Rattle.global_model.specs.Due.{command_lines, step_lines, journal_of, bytes_lines}
-use Rattle.global_model.specs.Scenario.{IsPlaced, IsPlacedAfter}
+use Rattle.global_model.specs.Place.{IsPlaced, IsPlacedAfter}
 use Rattle.node_world.specs.declared.pair.Pair.{Pair}
 use Rattle.node_world.specs.Machine.{MachineView, node_at, at_node, lines_by, acted, carried, with_carried, after_command}
 use Rattle.node_world.specs.Shown.{IsShown, enclave}
@@ -51,7 +52,7 @@ step_of laws commands c placed =
       before = laws.flowing commands first;
       flowing = flowing;
       answered = laws.views.answered commands first;
-      views = λ e within. laws.views.seen commands c placed (enclave e) ((flowing.star.enclaves e).living ∙ lt-ltb e H.born within);
+      views = λ e within. laws.views.seen commands c placed (enclave e) ((flowing.tree.enclaves e).living ∙ lt-ltb e H.born within);
       unborn = laws.views.unborn commands first;
     }
 
@@ -66,6 +67,10 @@ IsStill (lines.Refused cause) = Unit {0}
 IsStill (lines.Touched e p page frame) = Unit {0}
 IsStill (lines.Idle x y) = Unit {0}
 IsStill (lines.Bytes x y at bytes) = Unit {0}
+IsStill (lines.AtWayOwn e) = Unit {0}
+IsStill (lines.AtWayNone e) = Unit {0}
+IsStill (lines.AtWay e over) = Unit {0}
+IsStill (lines.AtRoute e of over) = Unit {0}
 IsStill (lines.BlockFree b) = Unit {0}
 IsStill (lines.BlockLent b e) = Unit {0}
 IsStill (lines.BlockHeld b e) = Unit {0}
@@ -81,6 +86,10 @@ still_facts (lines.Refused cause ∷ ls) G still = still_facts ls G still.1
 still_facts (lines.Touched e p page frame ∷ ls) G still = still_facts ls G still.1
 still_facts (lines.Idle x y ∷ ls) G still = still_facts ls G still.1
 still_facts (lines.Bytes x y at bytes ∷ ls) G still = still_facts ls G still.1
+still_facts (lines.AtWayOwn e ∷ ls) G still = still_facts ls G still.1
+still_facts (lines.AtWayNone e ∷ ls) G still = still_facts ls G still.1
+still_facts (lines.AtWay e over ∷ ls) G still = still_facts ls G still.1
+still_facts (lines.AtRoute e of over ∷ ls) G still = still_facts ls G still.1
 still_facts (lines.BlockFree b ∷ ls) G still = still_facts ls G still.1
 still_facts (lines.BlockLent b e ∷ ls) G still = still_facts ls G still.1
 still_facts (lines.BlockHeld b e ∷ ls) G still = still_facts ls G still.1
@@ -137,6 +146,24 @@ tied_show_pool G H m step h =
     let rule = step.answered.pool in
     tied_still G H commands.ShowPool m step h refl refl (at_is G m h host (λ v. state_lines 0 v.host.states) ∙ sym rule)
     (subst AreStill (sym rule) (cond_case (ltb 0 G.born) _ (refusal causes.NoEnclave) AreStill (still_states 0 (view_of G host).host.states) (tt, tt)))
+
+still_way : (v : View) → IsStill (way_line v)
+still_way v = by v.holder v.way
+  where
+    by : (holder : Bool) (way : Option Enclave) → IsStill (cond holder (lines.AtWayOwn v.me) (option_map_or (λ over. lines.AtWay v.me over) way (lines.AtWayNone v.me)))
+    by true way = tt
+    by false None = tt
+    by false (Some over) = tt
+
+still_rows : (e : Enclave) (rows : List (ℕ × Enclave)) → AreStill (map (λ row. lines.AtRoute e (record { 0 = row.0 }) row.1) rows)
+still_rows e [] = tt
+still_rows e (row ∷ rows) = (tt, still_rows e rows)
+
+pub tied_show_routes : (G H : Facts) (m : MachineView) (e : Enclave) → IsStep G H (commands.ShowRoutes e) → IsShown G m → IsTied G H (commands.ShowRoutes e) m
+tied_show_routes G H m e step h =
+    let rule = step.answered.routes e in
+    tied_still G H (commands.ShowRoutes e) m step h refl refl (at_is G m h e route_lines ∙ sym rule)
+    (subst AreStill (sym rule) (cond_case (ltb e.0 G.born) _ (refusal causes.NoEnclave) AreStill (still_way (view_of G e), still_rows e (view_of G e).routes) (tt, tt)))
 
 pub still_bytes : (x y : Enclave) (most at : ℕ) (bytes : List ℕ) → AreStill (bytes_lines x y most at bytes)
 still_bytes x y zero at bytes = tt

@@ -31,6 +31,7 @@ is_by e past (lines.Sent x y r) = x.0 == e
 is_by e past (lines.Got x y) = y.0 == e
 is_by e past (lines.End x y torn) = y.0 == e
 is_by e past (lines.Dropped of) = of.0 == e
+is_by e past (lines.Asked of by) = of.0 == e
 is_by e past (lines.Way of over) = of.0 == e
 is_by e past (lines.Back of d over) = of.0 == e
 is_by e past (lines.Route of d over) = of.0 == e

@@ -1,5 +1,5 @@
 -- The laws on which the world rests, as the functions of the crates below ensure them.
-use Rattle.std.specs.Prelude.{◌≡◌, ◌≢◌, ◌<◌, ◌≤◌, ◌++◌, ◌∷◌, [], ℕ, List, Bool, length, take, None, true, nat_lt, if◌then◌else◌}
+use Rattle.std.specs.Prelude.{◌≡◌, ◌≢◌, ◌<◌, ◌≤◌, ◌++◌, ◌∷◌, [], ℕ, List, Bool, length, take, None, Some, true, nat_lt, if◌then◌else◌}
 use Rattle.std.specs.Option.{option_map}
 use Rattle.xm_num.specs.declared.Enclave.{Enclave}
 use Rattle.xm_num.specs.declared.Cause.TheVariants as causes
@@ -13,10 +13,11 @@ use Rattle.global_model.specs.Facts.{Facts, facts_after, after_lines, is_living_
 use Rattle.global_model.specs.View.{View, view_of, own_lines, seen_lines}
 use Rattle.global_model.specs.Steps.{refusal, host_lines, first_blocks, lines_of_records}
 use Rattle.global_model.specs.Known.{IsAnswered, unborn_view}
-use Rattle.global_model.specs.Due.{got_lines, command_lines, journal_of, step_lines}
+use Rattle.global_model.specs.Due.{got_lines, deliver_lines, next_rest, first_waiting, command_lines, journal_of, step_lines}
 use Rattle.global_model.specs.Flow.{IsFlowing}
 use Rattle.global_model.specs.History.{do_commands, IsCarried, IsLegal, IsTold, IsWhole}
-use Rattle.global_model.specs.Scenario.{IsPlaced}
+use Rattle.global_model.specs.Place.{IsPlaced}
+use Rattle.global_model.specs.Rest.{EndsSettle}
 
 -- what a decoder makes of spellings
 pub record WireLaws : Type 0 where
@@ -36,6 +37,16 @@ pub record ViewLaws : Type 0 where
   pub seen : (commands : List Command) (one : Command) → IsPlaced (commands ++ one ∷ []) → (e : Enclave) → is_living_enclave ((facts_after (journal_of (commands ++ one ∷ []))).enclave e.0) ≡ true
       → view_of (facts_after (journal_of (commands ++ one ∷ []))) e ≡ seen_lines (view_of (facts_after (journal_of commands)) e) (step_lines (facts_after (journal_of commands)) one)
 
+-- a settle is made of deliveries
+pub record SettleLaws : Type 0 where
+  pub placed : (before : List Command) (x y : Enclave) → IsPlaced before → first_waiting (facts_after (journal_of before)) ≡ Some (x, y)
+      → IsPlaced (before ++ commands.Deliver x y (next_rest (facts_after (journal_of before)) x y) ∷ [])
+  pub lines : (before : List Command) (x y : Enclave) → IsPlaced before → first_waiting (facts_after (journal_of before)) ≡ Some (x, y)
+      → command_lines (facts_after (journal_of before)) (commands.Deliver x y (next_rest (facts_after (journal_of before)) x y))
+      ≡ deliver_lines (facts_after (journal_of before)) x y (next_rest (facts_after (journal_of before)) x y)
+  pub ends : (before : List Command) (most : ℕ) → IsPlaced before
+      → EndsSettle most (command_lines (facts_after (journal_of before)) (commands.Settle most)) (facts_after (journal_of (before ++ commands.Settle most ∷ [])))
+
 -- the journal of commands
 pub record Laws : Type 0 where
   pub told : (commands : List Command) → IsTold (journal_of commands)
@@ -48,3 +59,4 @@ pub record Laws : Type 0 where
   pub facts : (journal lines : List Line) → facts_after (journal ++ lines) ≡ after_lines (facts_after journal) lines
   pub wire : WireLaws
   pub views : ViewLaws
+  pub settles : SettleLaws

@@ -1,5 +1,6 @@
 pub mod Appended
 pub mod Links
+pub mod Index
 pub mod Machine
 pub mod Ready
 pub mod Shown

@@ -1,8 +1,9 @@
 -- What went over a channel, as its link and the decoder at its end show it.
-use Rattle.std.specs.Prelude.{◌≡◌, ◌+◌, ℕ, List, [], ◌∷◌, ◌++◌, false, None, length, take, drop}
+use Rattle.std.specs.Prelude.{◌≡◌, ◌+◌, ℕ, List, [], ◌∷◌, ◌++◌, false, None, length, map, take, drop}
 use Rattle.byte_link.specs.Channel.{Channel, waiting_bytes}
+use Rattle.byte_link.specs.Passage.{left_of}
 use Rattle.xemem_wire.specs.declared.format.Record.{Record}
-use Rattle.xemem_wire.specs.Spelling.{spellings_of, AreValid}
+use Rattle.xemem_wire.specs.Spelling.{spelling_of, spellings_of, AreValid}
 use Rattle.xemem_wire.specs.Decoding.{Decoding}
 use Rattle.global_model.specs.declared.line.Line.{Line}
 use Rattle.global_model.specs.declared.line.Line.TheVariants as lines
@@ -26,7 +27,8 @@ got_bytes fact = length (spellings_of (take fact.got fact.sent))
 abbrev pub feed_of : ChannelFact → Decoding
 feed_of fact = record { records = []; rest = drop (got_bytes fact) (take fact.taken (spellings_of fact.sent)); before = got_bytes fact; bad = None }
 
--- what went over the channel are the records `done`, which were got, and `coming`, of which the decoder has the first bytes
+-- What went over the channel are the records `done`, which were got, and `coming`, of which the decoder has the first bytes.
+-- What waits in the link are its records less the bytes that were taken.
 pub record IsChannel (fact : ChannelFact) (link : Channel) (d : Decoding) : Type 0 where
   pub done : List Record
   pub coming : List Record
@@ -39,6 +41,7 @@ pub record IsChannel (fact : ChannelFact) (link : Channel) (d : Decoding) : Type
   pub fine : d.bad ≡ None
   pub given : d.records ≡ []
   pub open_end : link.ended ≡ false
+  pub pieces : link.pieces ≡ left_of (map spelling_of fact.sent) fact.taken
 
 -- the records that lines send
 abbrev pub sent_in : List Line → List Record

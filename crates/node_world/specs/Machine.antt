@@ -1,6 +1,6 @@
 -- The enclaves and the channels between them, as they are seen, and what a command makes of them.
-use Rattle.std.specs.Prelude.{◌≡◌, None, Some, ◌+◌, ◌-◌, ℕ, min, List, [], ◌∷◌, ◌++◌, length, take, Bool, false, not, ◌&&◌, ◌==◌, nat_le, nat_lt, if◌then◌else◌, Option, slice_get, slice_set, slice_index_or}
-use Rattle.std.specs.Option.{option_map_or}
+use Rattle.std.specs.Prelude.{◌≡◌, None, Some, ◌+◌, ◌-◌, ◌<◌, ℕ, min, List, [], ◌∷◌, ◌++◌, length, take, Bool, false, not, ◌&&◌, ◌||◌, ◌==◌, nat_le, nat_lt, if◌then◌else◌, Option, slice_get, slice_set, slice_index_or}
+use Rattle.std.specs.Option.{option_map, option_map_or}
 use Rattle.xm_num.specs.declared.Enclave.{Enclave}
 use Rattle.xm_num.specs.declared.Pid.{Pid}
 use Rattle.xm_num.specs.declared.Want.{Want}
@@ -9,30 +9,31 @@ use Rattle.xm_num.specs.declared.Vpn.{Vpn}
 use Rattle.xm_num.specs.declared.Block.{Block}
 use Rattle.xm_num.specs.declared.Kind.{Kind}
 use Rattle.xm_num.specs.declared.Cause.TheVariants as causes
-use Rattle.byte_link.specs.Channel.{Channel, fresh, sent, taken, waiting_bytes}
+use Rattle.byte_link.specs.Channel.{Channel, fresh, sent, taken, waiting_bytes, boundary_of}
 use Rattle.xemem_wire.specs.declared.format.Record.{Record}
 use Rattle.xemem_wire.specs.Spelling.{spelling_of}
 use Rattle.global_model.specs.declared.command.Command.{Command}
 use Rattle.global_model.specs.declared.command.Command.TheVariants as commands
 use Rattle.global_model.specs.declared.line.Line.{Line}
 use Rattle.global_model.specs.declared.line.Line.TheVariants as lines
-use Rattle.global_model.specs.Steps.{host, refusal, birth_lines, adopt_lines, host_lines, first_blocks, start_lines, alloc_lines, touch_answer, answer_lines, state_lines, free_from}
+use Rattle.global_model.specs.Steps.{host, refusal, birth_lines, adopt_lines, host_lines, first_blocks, start_lines, alloc_lines, touch_answer, answer_lines, route_lines, state_lines, free_from}
 use Rattle.global_model.specs.Due.{bytes_lines}
 use Rattle.enclave_node.specs.Nodes.{NodeView, unborn_node, wrote, new_host, new_node, lent, adopted, fed_lines, after_feed}
 use Rattle.node_world.specs.declared.pair.Pair.{Pair}
 use Rattle.node_world.specs.declared.pair.Hop.{Hop}
 use Rattle.node_world.specs.declared.pair.Hop.TheVariants as hops
 
--- how many blocks there are; how many processes were started; the nodes, of which the first is the host; and for each child its
--- parent and the two channels between them, the first for enclave 1
+-- how many blocks there are; whether an enclave was born with the name server; how many processes were started; the nodes, of
+-- which the first is the host; and for each child its parent and the two channels between them, the first for enclave 1
 pub record MachineView : Type 0 where
   pub pool : ℕ
+  pub server : Bool
   pub starts : ℕ
   pub nodes : List NodeView
   pub pairs : List Pair
 
 abbrev pub no_machine : MachineView
-no_machine = record { pool = 0; starts = 0; nodes = []; pairs = [] }
+no_machine = record { pool = 0; server = false; starts = 0; nodes = []; pairs = [] }
 
 abbrev pub node_at : List NodeView → ℕ → NodeView
 node_at nodes e = slice_index_or nodes e (unborn_node 0 host [])
@@ -69,6 +70,12 @@ link_of pairs hops.NoLink = fresh
 link_of pairs (hops.Up i) = (pair_at pairs i).up
 link_of pairs (hops.Down i) = (pair_at pairs i).down
 
+-- there is such a channel, where the hop names one
+abbrev pub IsIn : List Pair → Hop → Type 0
+IsIn pairs (hops.Up i) = i < length pairs
+IsIn pairs (hops.Down i) = i < length pairs
+IsIn pairs hop = Unit {0}
+
 -- the channel from x to y
 abbrev pub link_by : List Pair → Hop → Option Channel
 link_by pairs hops.NoEnclave = None
@@ -100,7 +107,7 @@ abbrev pub host_by : MachineView → ℕ → Bool → List Line
 host_by m blocks ns = if nat_lt m.pool blocks then refusal causes.NoBlocks else host_lines (first_blocks blocks) ns
 
 abbrev pub after_host : MachineView → ℕ → Bool → MachineView
-after_host m blocks ns = if nat_lt m.pool blocks then m else record m { nodes = new_host m.pool blocks ns ∷ [] }
+after_host m blocks ns = if nat_lt m.pool blocks then m else record m { server = ns; nodes = new_host m.pool blocks ns ∷ [] }
 
 abbrev pub at_node : MachineView → Enclave → List Line → List Line
 at_node m e journal = if nat_lt e.0 (length m.nodes) then journal else refusal causes.NoEnclave
@@ -126,8 +133,9 @@ booted_lines m kind parent blocks ns =
 abbrev pub boot_by : MachineView → Kind → Enclave → ℕ → Bool → List Line
 boot_by m kind parent blocks ns =
     if is_full m then refusal causes.TooMany
+    else (if ns && m.server then refusal causes.NameServerTaken
     else (if is_short m blocks then refusal causes.NoBlocks
-    else booted_lines m kind parent blocks ns)
+    else booted_lines m kind parent blocks ns))
 
 -- the child is new to the node
 pub record IsStranger (node : NodeView) (child : Enclave) : Type 0 where
@@ -144,6 +152,7 @@ abbrev pub after_birth : MachineView → Enclave → Kind → Enclave → List B
 after_birth m child kind parent blocks ns =
     let node = node_at m.nodes parent.0 in
     record m {
+      server = m.server || ns;
       nodes = slice_set m.nodes parent.0 (wrote (adopted node child kind) (adopt_lines node.view child)) ++ new_node child kind parent blocks ns node.view.heard ∷ [];
       pairs = m.pairs ++ record { parent = parent; up = fresh; down = fresh } ∷ [];
     }
@@ -161,8 +170,9 @@ abbrev pub after_boot : MachineView → Kind → Enclave → ℕ → Bool → Ma
 after_boot m kind parent blocks ns =
     if not (nat_lt parent.0 (length m.nodes)) then m
     else (if is_full m then m
+    else (if ns && m.server then m
     else (if is_short m blocks then m
-    else record m { nodes = booted_nodes m kind parent blocks ns; pairs = m.pairs ++ record { parent = parent; up = fresh; down = fresh } ∷ [] }))
+    else record m { server = m.server || ns; nodes = booted_nodes m kind parent blocks ns; pairs = m.pairs ++ record { parent = parent; up = fresh; down = fresh } ∷ [] })))
 
 -- ---- calls of processes
 
@@ -188,6 +198,9 @@ abbrev pub after_alloc : MachineView → Enclave → Pid → Vpn → ℕ → Mac
 after_alloc m e p page count =
     if nat_lt e.0 (length m.nodes) then with_node m e.0 (wrote (node_at m.nodes e.0) (alloc_by m e p page count)) else m
 
+abbrev pub routes_by : MachineView → Enclave → List Line
+routes_by m e = route_lines (node_at m.nodes e.0).view
+
 -- ---- deliveries
 
 -- how many bytes a delivery takes
@@ -197,44 +210,72 @@ taken_by link count = min count (length (waiting_bytes link))
 abbrev pub is_idle : Channel → Bool
 is_idle link = length (waiting_bytes link) == 0
 
--- the lines of a delivery over this link to the node, the link after it, and the node
-abbrev pub taken_lines : NodeView → Channel → Enclave → Enclave → ℕ → List Line
-taken_lines node link x y count =
-    if is_idle link then lines.Idle x y ∷ []
-    else lines.Took x y (taken_by link count) ∷ fed_lines node x (take (taken_by link count) (waiting_bytes link))
-
-abbrev pub after_take : Channel → ℕ → Channel
-after_take link count = if is_idle link then link else taken link (taken_by link count)
-
-abbrev pub after_taken : NodeView → Channel → Enclave → ℕ → NodeView
-after_taken node link x count = if is_idle link then node else after_feed node x (take (taken_by link count) (waiting_bytes link))
-
-abbrev pub deliver_by : MachineView → Enclave → Enclave → ℕ → Hop → List Line
-deliver_by m x y count hops.NoEnclave = refusal causes.NoEnclave
-deliver_by m x y count hops.NoLink = refusal causes.NoLink
-deliver_by m x y count hop =
+-- a delivery over a channel: its lines, and the machine after it
+abbrev pub over_lines : MachineView → Enclave → Enclave → ℕ → Hop → List Line
+over_lines m x y count hop =
     let link = link_of m.pairs hop in
     if is_idle link then lines.Idle x y ∷ []
     else lines.Took x y (taken_by link count) ∷ fed_lines (node_at m.nodes y.0) x (take (taken_by link count) (waiting_bytes link))
 
-abbrev pub after_deliver : MachineView → Enclave → Enclave → ℕ → Hop → MachineView
-after_deliver m x y count hops.NoEnclave = m
-after_deliver m x y count hops.NoLink = m
-after_deliver m x y count hop =
+abbrev pub over_machine : MachineView → Enclave → Enclave → ℕ → Hop → MachineView
+over_machine m x y count hop =
     let link = link_of m.pairs hop in
     if is_idle link then m
     else record (with_node m y.0 (after_feed (node_at m.nodes y.0) x (take (taken_by link count) (waiting_bytes link)))) {
       pairs = with_link m.pairs hop (taken link (taken_by link count));
     }
 
+abbrev pub deliver_by : MachineView → Enclave → Enclave → ℕ → Hop → List Line
+deliver_by m x y count hops.NoEnclave = refusal causes.NoEnclave
+deliver_by m x y count hops.NoLink = refusal causes.NoLink
+deliver_by m x y count hop = over_lines m x y count hop
+
+abbrev pub after_deliver : MachineView → Enclave → Enclave → ℕ → Hop → MachineView
+after_deliver m x y count hops.NoEnclave = m
+after_deliver m x y count hops.NoLink = m
+after_deliver m x y count hop = over_machine m x y count hop
+
 abbrev pub shown_by : MachineView → Enclave → Enclave → Hop → List Line
 shown_by m x y hops.NoEnclave = refusal causes.NoEnclave
 shown_by m x y hops.NoLink = refusal causes.NoLink
 shown_by m x y hop = let waiting = waiting_bytes (link_of m.pairs hop) in bytes_lines x y (length waiting) 0 waiting
 
+-- ---- settling
+
+-- the channels between a child and its parent in which something waits, up before down
+abbrev pub waiting_hops_of : ℕ → Pair → List Hop
+waiting_hops_of i pair = (if is_idle pair.up then [] else hops.Up i ∷ []) ++ (if is_idle pair.down then [] else hops.Down i ∷ [])
+
+-- the channels in which something waits, those of the child at that place first
+abbrev pub waiting_hops : ℕ → List Pair → List Hop
+waiting_hops i [] = []
+waiting_hops i (pair ∷ pairs) = waiting_hops_of i pair ++ waiting_hops (i + 1) pairs
+
+abbrev pub first_hop : List Pair → Option Hop
+first_hop pairs = slice_get (waiting_hops 0 pairs) 0
+
+abbrev pub sender_of : List Pair → Hop → Enclave
+sender_of pairs hops.NoEnclave = host
+sender_of pairs hops.NoLink = host
+sender_of pairs (hops.Up i) = record { 0 = i + 1 }
+sender_of pairs (hops.Down i) = (pair_at pairs i).parent
+
+abbrev pub receiver_of : List Pair → Hop → Enclave
+receiver_of pairs hops.NoEnclave = host
+receiver_of pairs hops.NoLink = host
+receiver_of pairs (hops.Up i) = (pair_at pairs i).parent
+receiver_of pairs (hops.Down i) = record { 0 = i + 1 }
+
+-- the next delivery of a settle: the rest of the first record in the first channel in which something waits
+abbrev pub delivery_over : List Pair → Hop → Command
+delivery_over pairs hop = commands.Deliver (sender_of pairs hop) (receiver_of pairs hop) (boundary_of (link_of pairs hop))
+
+abbrev pub next_delivery : MachineView → Option Command
+next_delivery m = option_map (delivery_over m.pairs) (first_hop m.pairs)
+
 -- ---- a step
 
--- what a command writes after its `do` line
+-- What a command writes after its `do` line. A settle isn't one step of the machine: each of its deliveries is.
 abbrev pub lines_by : MachineView → Command → List Line
 lines_by m (commands.Pool blocks) = []
 lines_by m (commands.Host blocks ns) = host_by m blocks ns
@@ -243,8 +284,10 @@ lines_by m (commands.Proc e uid gid) = at_node m e (start_by m e uid gid)
 lines_by m (commands.Alloc e p page count) = at_node m e (alloc_by m e p page count)
 lines_by m (commands.Touch e p addr want) = at_node m e (touch_by m e p addr want)
 lines_by m (commands.Deliver x y count) = deliver_by m x y count (hop_in m x y)
+lines_by m (commands.ShowRoutes e) = at_node m e (routes_by m e)
 lines_by m (commands.ShowLink x y) = shown_by m x y (hop_in m x y)
 lines_by m commands.ShowPool = pool_by m
+lines_by m command = []
 
 -- the machine before what the lines send is carried
 abbrev pub acted : MachineView → Command → MachineView
@@ -253,10 +296,8 @@ acted m (commands.Host blocks ns) = after_host m blocks ns
 acted m (commands.Boot kind parent blocks ns) = after_boot m kind parent blocks ns
 acted m (commands.Proc e uid gid) = after_start m e uid gid
 acted m (commands.Alloc e p page count) = after_alloc m e p page count
-acted m (commands.Touch e p addr want) = m
 acted m (commands.Deliver x y count) = after_deliver m x y count (hop_in m x y)
-acted m (commands.ShowLink x y) = m
-acted m commands.ShowPool = m
+acted m command = m
 
 abbrev pub with_carried : MachineView → List Line → MachineView
 with_carried m journal = record m { pairs = carried (length m.nodes) m.pairs journal }

@@ -1,10 +1,11 @@
 -- What the machine keeps between commands, and what a step asks of its command, so that each call of a node may be made.
-use Rattle.std.specs.Prelude.{◌≡◌, ◌+◌, ◌-◌, ◌≤◌, ◌<◌, ℕ, List, length, false, None, IsSome}
+use Rattle.std.specs.Prelude.{◌≡◌, ◌+◌, ◌-◌, ◌≤◌, ◌<◌, ℕ, List, length, true, false, None, IsSome}
 use Rattle.xm_num.specs.declared.Kind.TheVariants as kinds
 use Rattle.xm_num.specs.Rows.{at}
 use Rattle.global_model.specs.declared.command.Command.{Command}
 use Rattle.global_model.specs.declared.command.Command.TheVariants as commands
 use Rattle.global_model.specs.Ranges.{IsInRange}
+use Rattle.global_model.specs.Place.{is_built}
 use Rattle.enclave_node.specs.Nodes.{NodeView, feed_at}
 use Rattle.node_world.specs.declared.pair.Pair.{Pair}
 use Rattle.node_world.specs.Links.{IsFlowing}
@@ -37,13 +38,20 @@ pub record IsReady (m : MachineView) : Type 0 where
 abbrev pub AreOpen : List Pair → Type 0
 AreOpen pairs = (i : ℕ) → i < length pairs → ((pair_at pairs i).up.ended ≡ false) × ((pair_at pairs i).down.ended ≡ false)
 
+-- a settle is no step of the machine
+abbrev pub IsNoSettle : Command → Type 0
+IsNoSettle (commands.Settle most) = ⊥
+IsNoSettle command = Unit {0}
+
 -- what a step asks of its command beside the ranges of its numbers
 abbrev pub Stands : MachineView → Command → Type 0
 Stands m (commands.Pool blocks) = length m.nodes ≡ 0
 Stands m (commands.Host blocks ns) = (length m.nodes ≡ 0) × (1 ≤ m.pool) × (m.pool ≤ 4096)
 Stands m (commands.Boot kind parent blocks ns) = kind ≡ kinds.Cokernel
+Stands m (commands.Settle most) = ⊥
 Stands m command = Unit {0}
 
 pub record CanStep (m : MachineView) (command : Command) : Type 0 where
+  pub built : is_built command ≡ true
   pub stands : Stands m command
   pub ranges : IsInRange command

@@ -2,9 +2,9 @@
 use Rattle.std.specs.Prelude.{◌≡◌, ◌+◌, ◌-◌, ◌<◌, ◌≤◌, ℕ, length, true, false, None, Some}
 use Rattle.xm_num.specs.declared.Enclave.{Enclave}
 use Rattle.xm_num.specs.Rows.{at}
-use Rattle.global_model.specs.Facts.{Facts}
+use Rattle.global_model.specs.Facts.{Facts, fact_of}
 use Rattle.global_model.specs.Channels.{is_neighbour}
-use Rattle.global_model.specs.View.{view_of, fact_of}
+use Rattle.global_model.specs.View.{view_of}
 use Rattle.enclave_node.specs.Nodes.{NodeView}
 use Rattle.node_world.specs.declared.pair.Pair.{Pair}
 use Rattle.node_world.specs.Links.{IsChannel, feed_of}
@@ -34,6 +34,7 @@ pub record IsPairOf (G : Facts) (m : MachineView) (c : ℕ) (pair : Pair) : Type
 -- the nodes, the channels and what is counted show the facts
 pub record IsShown (G : Facts) (m : MachineView) : Type 0 where
   pub pool : m.pool ≡ G.pool
+  pub server : m.server ≡ G.server
   pub starts : m.starts ≡ G.starts
   pub born : length m.nodes ≡ G.born
   pub pairs : length m.pairs ≡ G.born - 1

@@ -1,22 +1,15 @@
 // What goes over a channel: records are sent, bytes are taken and shown.
-ghost use Rattle.std.specs.Prelude.{◌≡◌, ◌+◌, ◌≤◌, ◌<◌, ◌∷◌, ◌++◌, [], length, take, drop, false, IsTrue, IsSome, OnOk, IfOk};
+ghost use Rattle.std.specs.Prelude.{◌≡◌, ◌≤◌, ◌++◌, length, take, drop, false, IsTrue, OnOk, OnErr, IfOk};
 ghost use Rattle.byte_link.specs.Channel.{waiting_bytes, sent, taken};
 ghost use Rattle.xemem_wire.specs.Spelling.{is_valid, spelling_of};
-ghost use Rattle.xm_num.specs.Rows.{at};
 ghost use Rattle.global_model.specs.Steps.{refusal};
 ghost use Rattle.global_model.specs.Due.{bytes_lines};
-ghost use Rattle.enclave_node.specs.Nodes.{feed_at, number_of};
-ghost use Rattle.node_world.specs.Links.{IsFlowing};
-ghost use Rattle.node_world.specs.Machine as spec;
 
-use crate::laws::laws;
 use byte_link::Link;
-use enclave_node::{Node, NodeFault};
 use global_model::{ByteList, Line, Lines};
-use page_table::PageTable;
 use std::alloc::{AllocError, Global};
 use xemem_wire::{Record, encode};
-use xm_num::{Cause, Enclave, Neighbour};
+use xm_num::{Cause, Enclave};
 
 /// Writes a refusal.
 pub fn refuse(cause: Cause, out: &mut Lines) -> Result<(), AllocError>
@@ -30,7 +23,7 @@ pub fn send_over(alloc: Global, link: &mut Link, rec: &Record) -> Result<(), All
     requires valid { IsTrue (is_valid rec.now) }
     requires open_end { link.old.ended ≡ false }
     ensures sent { OnOk result (link.new ≡ sent link.old (spelling_of rec.now)) }
-    ensures open_end { link.new.ended ≡ false }
+    ensures err { OnErr result (link.new ≡ link.old) }
 {
     let mut bytes = Vec::new(alloc);
     encode(rec, &mut bytes)?;
@@ -40,49 +33,16 @@ pub fn send_over(alloc: Global, link: &mut Link, rec: &Record) -> Result<(), All
     link.send(&bytes)
 }
 
-// Takes the first `count` bytes out of a link, in which they wait.
-fn take_bytes(alloc: Global, link: &mut Link, count: u32) -> Result<Vec<u8>, AllocError>
+/// Takes the first `count` bytes out of a link, in which they wait.
+pub fn take_bytes(alloc: Global, link: &mut Link, count: u32) -> Result<Vec<u8>, AllocError>
     requires { count ≤ length (waiting_bytes link.old) }
     ensures bytes { IfOk result (λ bytes. bytes.items ≡ take count (waiting_bytes link.old)) }
     ensures rest { OnOk result (link.new ≡ taken link.old count) }
+    ensures err { OnErr result (link.new ≡ link.old) }
 {
     let mut bytes = vec![in alloc; 0; count as usize]?;
     link.take(&mut bytes);
     Ok(bytes)
-}
-
-/// Takes at most `count` waiting bytes of the channel from an enclave to its neighbour, whose node handles the records
-/// that are whole then. For want of memory neither is to be used again.
-pub fn take(
-    alloc: Global,
-    link: &mut Link,
-    node: &mut Node<PageTable>,
-    side: Neighbour,
-    from: Enclave,
-    to: Enclave,
-    count: u32,
-    out: &mut Lines,
-) -> Result<(), AllocError>
-    requires flows { IsFlowing link.old (feed_at node.old.feeds from) }
-    requires channel { IsSome (at node.old.feeds from.0) }
-    requires side { number_of node.old.view side ≡ from }
-    ensures lines { OnOk result (out.new ≡ out.old ++ spec.taken_lines node.old link.old from to count) }
-    ensures link { OnOk result (link.new ≡ spec.after_take link.old count) }
-    ensures node { OnOk result (node.new ≡ spec.after_taken node.old link.old from count) }
-{
-    laws();
-    let waiting = link.waiting();
-    if waiting == 0 {
-        return out.push(Line::Idle { from, to });
-    }
-    let count = count.min(waiting);
-    let piece = take_bytes(alloc, link, count)?;
-    out.push(Line::Took { from, to, count })?;
-    match node.feed(side, &piece, out) {
-        Ok(()) => Ok(()),
-        Err(NodeFault::Memory) => Err(AllocError),
-        Err(NodeFault::BadRecord { .. }) => unreachable!(),
-    }
 }
 
 // At most 32 waiting bytes of a link from byte `at` on.

@@ -2,8 +2,8 @@
 ghost use Rattle.node_world.specs.Laws.{Laws};
 
 use global_model::{
-    journals_are_carried, journals_are_legal, journals_grow, one_journal, view_step, views_answer,
-    views_follow,
+    journals_are_carried, journals_are_legal, journals_grow, one_journal, settles_deliver,
+    view_step, views_answer, views_follow,
 };
 use xemem_wire::laws::{cut_spelling, spellings_are_read};
 
@@ -18,6 +18,7 @@ pub fn laws()
     view_step();
     views_answer();
     views_follow();
+    settles_deliver();
     cut_spelling();
     spellings_are_read();
 }

@@ -4,6 +4,7 @@
 //! they name, carries bytes, and writes the journal.
 #![tactic(auto)]
 
+mod channels;
 mod count;
 mod delivery;
 mod laws;

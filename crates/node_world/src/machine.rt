@@ -1,18 +1,22 @@
 // The machine: its enclaves and the channels between them. It carries bytes and looks into no enclave.
-ghost use Rattle.std.specs.Prelude.{◌≡◌, ◌+◌, ◌-◌, ◌≤◌, ◌<◌, ◌∷◌, ◌++◌, [], length, false, option_copied, slice_get, IsTrue, OnOk, IfOk};
+ghost use Rattle.std.specs.Prelude.{◌≡◌, ◌+◌, ◌-◌, ◌≤◌, ◌<◌, ◌∷◌, ◌++◌, [], length, false, option_copied, slice_get, IsTrue, IsSome, OnOk, IfOk};
 ghost use Rattle.xm_num.specs.declared.Kind.TheVariants as kinds;
 ghost use Rattle.xemem_wire.specs.Spelling.{AreValid, is_valid};
 ghost use Rattle.global_model.specs.declared.line.Line.TheVariants as lines;
 ghost use Rattle.global_model.specs.Ranges.{IsInRange};
 ghost use Rattle.global_model.specs.declared.command.Command.TheVariants as commands;
-ghost use Rattle.node_world.specs.Links.{sent_in};
+ghost use Rattle.xm_num.specs.Rows.{at};
+ghost use Rattle.enclave_node.specs.Nodes.{feed_at, number_of};
+ghost use Rattle.node_world.specs.Links.{IsFlowing, sent_in};
 ghost use Rattle.node_world.specs.Machine as spec;
 ghost use Rattle.node_world.specs.Ready.{IsReady, CanStep, AreOpen};
 
-use crate::delivery::{refuse, send_over, show, take};
-use crate::pair::{Hop, Pair, hop_of, new_pair};
+use crate::channels::Channels;
+use crate::delivery::{refuse, show};
+use crate::laws::laws;
+use crate::pair::{Hop, new_pair};
 use byte_link::Link;
-use enclave_node::{Call, Node, Show};
+use enclave_node::{Call, Node, NodeFault, Show};
 use frame_pool::PoolFault;
 use global_model::{Command, Line, Lines};
 use page_table::PageTable;
@@ -30,9 +34,10 @@ const MOST_PROCESSES: u32 = 1024;
 pub struct Machine {
     alloc: Global,
     pool: u16,
+    server: bool,
     starts: u32,
     nodes: Vec<Node<PageTable>>,
-    pairs: Vec<Pair>,
+    channels: Channels,
 }
 
 impl Model for Machine {
@@ -40,7 +45,7 @@ impl Model for Machine {
 
     ghost Value = { MachineView };
 
-    ghost view = { λ m. record { pool = m.pool; starts = m.starts; nodes = m.nodes.items; pairs = m.pairs.items } };
+    ghost view = { λ m. record { pool = m.pool; server = m.server; starts = m.starts; nodes = m.nodes.items; pairs = m.channels } };
 }
 
 impl Machine {
@@ -51,25 +56,38 @@ impl Machine {
         Machine {
             alloc,
             pool: 0,
+            server: false,
             starts: 0,
             nodes: Vec::new(alloc),
-            pairs: Vec::new(alloc),
+            channels: Channels::new(alloc),
         }
     }
 
-    /// Carries out a command, and gives its lines. For want of memory the machine isn't to be used again.
+    /// Carries out a command, and gives the lines behind its `do` line. For want of memory the machine isn't to be used
+    /// again. A settle is no step of the machine: each of its deliveries is.
     pub fn step(&mut self, command: &Command) -> Result<Lines, AllocError>
         requires ready { IsReady self.old }
         requires can { CanStep self.old command.now }
         requires valid { AreValid (sent_in (spec.lines_by self.old command.now)) }
-        ensures lines { IfOk result (λ journal. journal ≡ lines.Do command.now ∷ spec.lines_by self.old command.now) }
+        ensures lines { IfOk result (λ journal. journal ≡ spec.lines_by self.old command.now) }
         ensures after { OnOk result (self.new ≡ spec.after_command self.old command.now) }
     {
         let mut fresh = Lines::new(self.alloc);
-        fresh.push(Line::Do { command: *command })?;
         self.act(command, &mut fresh)?;
         self.carry(fresh.as_slice())?;
         Ok(fresh)
+    }
+
+    /// The next delivery of a settle: the rest of the first record in the first channel in which something waits.
+    pub fn next_delivery(&self) -> Option<Command>
+        ensures { result ≡ spec.next_delivery self.now }
+    {
+        let hop = self.channels.first()?;
+        Some(Command::Deliver {
+            from: self.channels.sender(hop),
+            to: self.channels.receiver(hop),
+            count: self.channels.to_boundary(hop),
+        })
     }
 
     // Carries out a command, and appends the lines behind its `do` line.
@@ -103,9 +121,19 @@ impl Machine {
                 want,
             } => self.touch(enclave, pid, addr, want, out),
             Command::Deliver { from, to, count } => self.deliver(from, to, count, out),
+            Command::ShowRoutes { enclave } => self.show_routes(enclave, out),
             Command::ShowLink { from, to } => self.show_link(from, to, out),
             Command::ShowPool => self.show_pool(out),
+            _ => unreachable!(),
         }
+    }
+
+    // Which channel goes from one enclave to another.
+    fn hop(&self, from: Enclave, to: Enclave) -> Hop
+        ensures hop { result ≡ spec.hop_in self.now from to }
+        ensures within { spec.IsIn self.now.pairs result }
+    {
+        self.channels.hop(self.nodes.len(), from, to)
     }
 
     fn set_pool(&mut self, blocks: u16) -> Result<(), AllocError>
@@ -126,6 +154,7 @@ impl Machine {
         match Node::boot_host(self.alloc, self.pool, blocks, ns, out) {
             Ok(host) => {
                 self.nodes.push(host).unwrap();
+                self.server = ns;
                 Ok(())
             }
             Err(PoolFault::NoBlocks) => refuse(Cause::NoBlocks, out),
@@ -153,6 +182,9 @@ impl Machine {
         if self.nodes.len() >= MOST_ENCLAVES {
             return refuse(Cause::TooMany, out);
         }
+        if ns && self.server {
+            return refuse(Cause::NameServerTaken, out);
+        }
         let child = Enclave(self.nodes.len() as u16);
         match self.nodes[0].lend(child, parent, blocks) {
             Ok(lent) => self.bear(child, kind, parent, &lent, ns, out),
@@ -173,6 +205,7 @@ impl Machine {
     ) -> Result<(), AllocError>
         requires next { child.0 ≡ length self.old.nodes }
         requires fits { child.0 ≤ 255 }
+        requires pairs { length self.old.pairs < 256 }
         requires born { parent.0 < length self.old.nodes }
         requires kind { kind ≡ kinds.Cokernel }
         requires some { 1 ≤ length blocks.now }
@@ -196,7 +229,8 @@ impl Machine {
             out,
         )?;
         self.nodes.push(node).unwrap();
-        self.pairs.push(pair)?;
+        self.channels.add(pair)?;
+        self.server |= ns;
         self.nodes[at].adopt(child, kind, blocks.as_slice(), out)
     }
 
@@ -279,42 +313,70 @@ impl Machine {
         ensures lines { OnOk result (out.new ≡ out.old ++ spec.deliver_by self.old from to count (spec.hop_in self.old from to)) }
         ensures after { OnOk result (self.new ≡ spec.after_deliver self.old from to count (spec.hop_in self.old from to)) }
     {
-        let at = to.0 as usize;
-        match hop_of(&self.pairs, self.nodes.len(), from, to) {
+        match self.hop(from, to) {
             Hop::NoEnclave => refuse(Cause::NoEnclave, out),
             Hop::NoLink => refuse(Cause::NoLink, out),
-            Hop::Up(i) => take(
-                self.alloc,
-                &mut self.pairs[i].up,
-                &mut self.nodes[at],
-                Neighbour::Down(from),
-                from,
-                to,
-                count,
-                out,
-            ),
-            Hop::Down(i) => take(
-                self.alloc,
-                &mut self.pairs[i].down,
-                &mut self.nodes[at],
-                Neighbour::Up,
-                from,
-                to,
-                count,
-                out,
-            ),
+            Hop::Up(i) => self.take(Hop::Up(i), Neighbour::Down(from), from, to, count, out),
+            Hop::Down(i) => self.take(Hop::Down(i), Neighbour::Up, from, to, count, out),
+        }
+    }
+
+    // Takes at most `count` waiting bytes out of the channel from an enclave to its neighbour, whose node handles the
+    // records that are whole then.
+    fn take(
+        &mut self,
+        hop: Hop,
+        side: Neighbour,
+        from: Enclave,
+        to: Enclave,
+        count: u32,
+        out: &mut Lines,
+    ) -> Result<(), AllocError>
+        requires within { spec.IsIn self.old.pairs hop }
+        requires born { to.0 < length self.old.nodes }
+        requires flows { IsFlowing (spec.link_of self.old.pairs hop) (feed_at (spec.node_at self.old.nodes to.0).feeds from) }
+        requires open_end { IsSome (at (spec.node_at self.old.nodes to.0).feeds from.0) }
+        requires side { number_of (spec.node_at self.old.nodes to.0).view side ≡ from }
+        ensures lines { OnOk result (out.new ≡ out.old ++ spec.over_lines self.old from to count hop) }
+        ensures after { OnOk result (self.new ≡ spec.over_machine self.old from to count hop) }
+    {
+        laws();
+        let waiting = self.channels.waiting(hop);
+        if waiting == 0 {
+            return out.push(Line::Idle { from, to });
+        }
+        let count = count.min(waiting);
+        let piece = self.channels.take(self.alloc, hop, count)?;
+        out.push(Line::Took { from, to, count })?;
+        match self.nodes[to.0 as usize].feed(side, &piece, out) {
+            Ok(()) => Ok(()),
+            Err(NodeFault::Memory) => Err(AllocError),
+            Err(NodeFault::BadRecord { .. }) => unreachable!(),
         }
     }
 
     fn show_link(&self, from: Enclave, to: Enclave, out: &mut Lines) -> Result<(), AllocError>
         ensures { OnOk result (out.new ≡ out.old ++ spec.shown_by self.now from to (spec.hop_in self.now from to)) }
     {
-        match hop_of(&self.pairs, self.nodes.len(), from, to) {
+        let hop = self.hop(from, to);
+        match hop {
             Hop::NoEnclave => refuse(Cause::NoEnclave, out),
-            Hop::NoLink => refuse(Cause::NoLink, out),
-            Hop::Up(i) => show(self.alloc, &self.pairs[i].up, from, to, out),
-            Hop::Down(i) => show(self.alloc, &self.pairs[i].down, from, to, out),
+            _ => match self.channels.link(hop) {
+                Some(link) => show(self.alloc, link, from, to, out),
+                None => refuse(Cause::NoLink, out),
+            },
         }
+    }
+
+    fn show_routes(&self, enclave: Enclave, out: &mut Lines) -> Result<(), AllocError>
+        requires ready { IsReady self.now }
+        ensures { OnOk result (out.new ≡ out.old ++ spec.at_node self.now enclave (spec.routes_by self.now enclave)) }
+    {
+        let at = enclave.0 as usize;
+        if at >= self.nodes.len() {
+            return refuse(Cause::NoEnclave, out);
+        }
+        self.nodes[at].show(Show::Routes, out)
     }
 
     fn show_pool(&self, out: &mut Lines) -> Result<(), AllocError>
@@ -347,11 +409,8 @@ impl Machine {
         ensures sent { OnOk result (self.new ≡ record self.old { pairs = spec.carried_over self.old.pairs (spec.hop_in self.old from to) rec.now }) }
         ensures open_ends { AreOpen self.new.pairs }
     {
-        match hop_of(&self.pairs, self.nodes.len(), from, to) {
-            Hop::NoEnclave | Hop::NoLink => Ok(()),
-            Hop::Up(i) => send_over(self.alloc, &mut self.pairs[i].up, rec),
-            Hop::Down(i) => send_over(self.alloc, &mut self.pairs[i].down, rec),
-        }
+        let hop = self.hop(from, to);
+        self.channels.send(self.alloc, hop, rec)
     }
 
     /// The node of an enclave that was born.
@@ -365,11 +424,7 @@ impl Machine {
     pub fn link(&self, from: Enclave, to: Enclave) -> Option<&Link>
         ensures { option_copied result ≡ spec.link_between self.now from to }
     {
-        match hop_of(&self.pairs, self.nodes.len(), from, to) {
-            Hop::NoEnclave | Hop::NoLink => None,
-            Hop::Up(i) => Some(&self.pairs[i].up),
-            Hop::Down(i) => Some(&self.pairs[i].down),
-        }
+        self.channels.link(self.hop(from, to))
     }
 
     /// Ends every enclave.
@@ -377,9 +432,10 @@ impl Machine {
         let Machine {
             alloc: _,
             pool: _,
+            server: _,
             starts: _,
             mut nodes,
-            pairs: _,
+            channels: _,
         } = self;
         while let Some(node) = nodes.pop() {
             node.close();

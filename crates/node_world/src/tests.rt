@@ -1,9 +1,12 @@
-// Worlds by worked runs: births, memory, records on their way, what is refused, and the limit on words.
+// Worlds by worked runs: births, memory, records on their way, and what is refused.
 ghost use Rattle.std.specs.Prelude.{◌≡◌, ◌≤◌, ◌++◌, ◌∷◌, [], length, true, false};
-ghost use Rattle.global_model.specs.Scenario.{may_stand};
+ghost use Rattle.global_model.specs.Place.{may_stand};
 ghost use Rattle.global_model.specs.Ranges.{IsInRange};
 ghost use Rattle.global_model.specs.History.{do_commands};
 ghost use Rattle.node_world.specs.World.{no_world};
+
+mod limits;
+mod settling;
 
 use crate::laws::laws;
 use crate::{Progress, Which, World, WorldFault};
@@ -67,6 +70,32 @@ fn memory_words(alloc: Global, line: &Line) -> Result<String, AllocError> {
     }
 }
 
+// The words of a line about ways and settles.
+fn way_words(alloc: Global, line: &Line) -> Result<String, AllocError> {
+    match line {
+        Line::Asked { enclave, by } => format!(in alloc; "asked {} {}", enclave.0, by.0),
+        Line::Way { enclave, over } => format!(in alloc; "way {} {}", enclave.0, over.0),
+        Line::Back { enclave, of, over } => format!(in alloc;
+            "back {} {} {}",
+            enclave.0, of.0, over.0
+        ),
+        Line::Route { enclave, of, over } => format!(in alloc;
+            "route {} {} {}",
+            enclave.0, of.0, over.0
+        ),
+        Line::AtWay { enclave, over } => format!(in alloc; "at {} way {}", enclave.0, over.0),
+        Line::AtWayOwn { enclave } => format!(in alloc; "at {} way own", enclave.0),
+        Line::AtWayNone { enclave } => format!(in alloc; "at {} way none", enclave.0),
+        Line::AtRoute { enclave, of, over } => format!(in alloc;
+            "at {} route {} {}",
+            enclave.0, of.0, over.0
+        ),
+        Line::Settled { made } => format!(in alloc; "settled {made}"),
+        Line::Waiting { made } => format!(in alloc; "waiting {made}"),
+        _ => memory_words(alloc, line),
+    }
+}
+
 // The words of a line.
 fn words_of(alloc: Global, line: &Line) -> Result<String, AllocError> {
     match line {
@@ -81,22 +110,13 @@ fn words_of(alloc: Global, line: &Line) -> Result<String, AllocError> {
         Line::Took { from, to, count } => format!(in alloc; "took {} {} {count}", from.0, to.0),
         Line::Idle { from, to } => format!(in alloc; "idle {} {}", from.0, to.0),
         Line::Got { from, to } => format!(in alloc; "got {} {}", from.0, to.0),
-        Line::Way { enclave, over } => format!(in alloc; "way {} {}", enclave.0, over.0),
-        Line::Back { enclave, of, over } => format!(in alloc;
-            "back {} {} {}",
-            enclave.0, of.0, over.0
-        ),
-        Line::Route { enclave, of, over } => format!(in alloc;
-            "route {} {} {}",
-            enclave.0, of.0, over.0
-        ),
         Line::Bytes {
             from,
             to,
             at,
             bytes,
         } => format!(in alloc; "bytes {} {} {at} {:?}", from.0, to.0, bytes.as_slice()),
-        _ => memory_words(alloc, line),
+        _ => way_words(alloc, line),
     }
 }
 
@@ -114,6 +134,29 @@ fn boot(blocks: u16) -> Command
         parent: HOST,
         blocks,
         ns: false,
+    }
+}
+
+fn settle(most: u32) -> Command
+    ensures { result ≡ Command.Settle most }
+{
+    Command::Settle { most }
+}
+
+fn show_routes(enclave: Enclave) -> Command
+    ensures { result ≡ Command.ShowRoutes enclave }
+{
+    Command::ShowRoutes { enclave }
+}
+
+fn boot_under(parent: Enclave, ns: bool) -> Command
+    ensures { result ≡ Command.Boot Kind.Cokernel parent 1 ns }
+{
+    Command::Boot {
+        kind: Kind::Cokernel,
+        parent,
+        blocks: 1,
+        ns,
     }
 }
 
@@ -189,6 +232,20 @@ fn tells(
     );
 }
 
+// Carries out a command.
+fn carries(rt: &impl Abort, world: &mut World, command: &Command)
+    requires place { may_stand (length (do_commands world.old.journal)) command.now ≡ true }
+    requires range { IsInRange command.now }
+    ensures going { world.new.progress ≡ Progress.Going }
+    ensures commands { do_commands world.new.journal ≡ do_commands world.old.journal ++ command.now ∷ [] }
+{
+    laws();
+    match world.step(command) {
+        Ok(()) => (),
+        Err(_) => panic!(rt; "the command isn't carried out"),
+    }
+}
+
 // Carries out a command, and compares its lines behind the first.
 fn does(rt: &(impl Abort + AllocGlobal), world: &mut World, command: &Command, want: &[&str])
     requires place { may_stand (length (do_commands world.old.journal)) command.now ≡ true }
@@ -196,12 +253,8 @@ fn does(rt: &(impl Abort + AllocGlobal), world: &mut World, command: &Command, w
     ensures going { world.new.progress ≡ Progress.Going }
     ensures commands { do_commands world.new.journal ≡ do_commands world.old.journal ++ command.now ∷ [] }
 {
-    laws();
     let before = world.journal().len();
-    match world.step(command) {
-        Ok(()) => (),
-        Err(_) => panic!(rt; "the command isn't carried out"),
-    }
+    carries(rt, world, command);
     tells(rt, world, before, command, want);
 }
 
@@ -398,6 +451,8 @@ fn a_world_without_a_host(rt: HostRuntime) {
     does(&rt, &mut world, &Command::ShowPool, &["refused NoEnclave"]);
     does(&rt, &mut world, &start(HOST), &["refused NoEnclave"]);
     does(&rt, &mut world, &boot(1), &["refused NoEnclave"]);
+    does(&rt, &mut world, &show_routes(HOST), &["refused NoEnclave"]);
+    does(&rt, &mut world, &settle(10), &["settled 0"]);
     assert_eq!(rt; appended(&world, HOST), None);
     assert_eq!(rt; waiting(&world, HOST, HOST), None);
     world.close();
@@ -459,49 +514,6 @@ fn refusals_change_nothing(rt: HostRuntime) {
     );
     assert_eq!(rt; appended(&world, HOST), Some(8));
     assert_eq!(rt; waiting(&world, CHILD, HOST), Some(16));
-    assert_eq!(rt; world.deliveries(), 0);
-    world.close();
-}
-
-// Shows the pool, where two commands began.
-fn shows_pool(rt: &impl Abort, world: &mut World) -> Result<(), WorldFault> {
-    match world.journal().as_slice() {
-        [Line::Do { .. }, Line::Do { .. }, ..] => world.step(&Command::ShowPool),
-        _ => panic!(rt; "two commands began"),
-    }
-}
-
-// Each time that the pool of 4,096 blocks is shown, 4,097 lines of 12,293 words are written. The last time 3,181 blocks
-// find room, and no word is left.
-#[test]
-fn a_full_journal_stays_full(rt: HostRuntime) {
-    let full = WorldFault::Limit {
-        which: Which::Words,
-        number: 16_777_216,
-    };
-    let mut world = new_world(&rt);
-    does(&rt, &mut world, &Command::Pool { blocks: 4096 }, &[]);
-    does(
-        &rt,
-        &mut world,
-        &host(2),
-        &["born 0 0 [Block(0), Block(1)]", "admitted 0"],
-    );
-    for _ in 0..1364 {
-        assert_eq!(rt; shows_pool(&rt, &mut world), Ok(()));
-    }
-    assert_eq!(rt; world.journal().words(), 16_767_668);
-    for _ in 0..2 {
-        assert_eq!(rt; shows_pool(&rt, &mut world), Err(full));
-        assert_eq!(rt; world.journal().words(), 16_777_216);
-        assert_eq!(rt; world.journal().len(), 5_591_494);
-    }
-    assert!(rt;
-        matches!(
-            world.journal().get(5_591_493),
-            Some(Line::BlockFree { block: Block(3180) })
-        )
-    );
     assert_eq!(rt; world.deliveries(), 0);
     world.close();
 }

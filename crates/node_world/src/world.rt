@@ -1,39 +1,63 @@
 // The world: its machine and its journal.
-ghost use Rattle.std.specs.Prelude.{◌≡◌, ◌≤◌, ◌<◌, ◌^◌, ◌∷◌, ◌++◌, ◌↔◌, [], ℕ, ◌+◌, ◌-◌, nat_le, length, take, true, false, None, Err, OnOk, IfOk, IfSome};
+ghost use Rattle.std.specs.Prelude.{◌≡◌, ◌≤◌, ◌<◌, ◌^◌, ◌∷◌, ◌++◌, ◌↔◌, [], ℕ, ◌+◌, ◌-◌, length, true, false, None, Some, Ok, Err, OnOk, IfOk, IfSome};
 ghost use Rattle.byte_link.specs.Channel.{waiting_bytes};
 ghost use Rattle.global_model.specs.Ranges.{IsInRange};
-ghost use Rattle.global_model.specs.Scenario.{may_stand};
-ghost use Rattle.global_model.specs.Spelling.{words_in};
+ghost use Rattle.global_model.specs.Place.{may_stand};
+ghost use Rattle.global_model.specs.declared.command.Command.TheVariants as commands;
+ghost use Rattle.global_model.specs.Rest.{EndsSettle};
 ghost use Rattle.global_model.specs.Facts.{facts_after, is_living_enclave};
 ghost use Rattle.global_model.specs.Channels.{is_neighbour, waiting_bytes as waiting_in};
-ghost use Rattle.global_model.specs.Due.{journal_of};
-ghost use Rattle.global_model.specs.History.{do_commands, onto};
+ghost use Rattle.global_model.specs.Due.{command_lines, journal_of, settle_from};
+ghost use Rattle.global_model.specs.History.{deliveries_in, do_commands, is_delivery, onto};
+ghost use Rattle.global_model.specs.Lawful.{command_at};
+ghost use Rattle.xemem_wire.specs.Spelling.{AreValid};
 ghost use Rattle.node_world.specs.Appended.{words_by};
+ghost use Rattle.node_world.specs.Links.{sent_in};
+ghost use Rattle.node_world.specs.Machine.{after_command, lines_by};
+ghost use Rattle.node_world.specs.Ready.{IsReady, CanStep};
 ghost use Rattle.node_world.specs.Shown.{IsNodeOf, IsFedBy};
 ghost use Rattle.node_world.specs.World as spec;
-ghost use Rattle.node_world.specs.World.{IsCut};
+ghost use Rattle.node_world.specs.World.{IsAlong, IsCut, IsHistoryOf, IsOfWorlds, IsShort, IsStopped};
 
-use crate::count::{deliveries_in, fitting};
+use crate::count::{fitting, passed};
 use crate::laws::laws;
 use crate::machine::Machine;
 use byte_link::Link;
 use enclave_node::Node;
-use global_model::{Command, Lines};
+use global_model::{Command, Line, Lines, word_count};
 use page_table::PageTable;
 use std::alloc::{AllocError, Global};
 use std::marker::Model;
 use xm_num::Enclave;
-
-// The most words of a journal.
-const MOST_WORDS: u64 = 16_777_216;
 
 /// A limit of a run.
 #[derive(Clone, Copy, Debug, PartialEq, Eq)]
 pub enum Which {
     /// The bytes of a scenario.
     Scenario,
+    /// The lines of a scenario, comments counted.
+    Lines,
+    /// The bytes of a line of a scenario.
+    LineBytes,
+    /// The deliveries of a run.
+    Deliveries,
     /// The words of a journal.
     Words,
+}
+
+impl Which {
+    /// The limit's number: the most that there may be.
+    pub fn most(self) -> u32
+        ensures { result ≡ spec.most_of self }
+    {
+        match self {
+            Which::Scenario => 4_194_304,
+            Which::Lines => 65_536,
+            Which::LineBytes => 4096,
+            Which::Deliveries => 262_144,
+            Which::Words => 16_777_216,
+        }
+    }
 }
 
 /// Why a command wasn't carried through.
@@ -50,8 +74,8 @@ pub enum WorldFault {
 pub enum Progress {
     /// Each step so far was carried through.
     Going,
-    /// A line would have passed the limit on words.
-    Full,
+    /// A line would have passed this limit.
+    Full { which: Which },
     /// Memory was wanting.
     Failed,
 }
@@ -75,12 +99,12 @@ impl Model for World {
     ghost invariant = { λ w. IsKept w.machine w.journal w.progress w.words w.deliveries };
 }
 
-fn too_long() -> WorldFault
-    ensures { result ≡ WorldFault.Limit Which.Words spec.most_words }
+fn limit(which: Which) -> WorldFault
+    ensures { result ≡ WorldFault.Limit which (spec.most_of which) }
 {
     WorldFault::Limit {
-        which: Which::Words,
-        number: MOST_WORDS as u32,
+        which,
+        number: which.most(),
     }
 }
 
@@ -101,17 +125,21 @@ impl World {
     /// Executes a command, whose numbers are in range, at its place. After `Limit` the journal has the lines that stand,
     /// and each later step answers the same. After `Memory` the world is good for nothing but `close`.
     pub fn step(&mut self, command: &Command) -> Result<(), WorldFault>
-        requires place { may_stand (length (do_commands self.old.journal)) command.now ≡ true }
+        requires place { self.old.progress ≡ Progress.Going → may_stand (length (do_commands self.old.journal)) command.now ≡ true }
         requires range { IsInRange command.now }
-        // The journal is the one of the commands so far, and not too long.
+        // The journal is the one of the commands so far, and passes no limit.
         ensures ok { OnOk result (self.new.journal ≡ journal_of (do_commands self.old.journal ++ command.now ∷ [])) }
         ensures going { OnOk result ((self.old.progress ≡ Progress.Going) × (self.new.progress ≡ Progress.Going)) }
-        ensures short { OnOk result (words_in self.new.journal ≤ spec.most_words) }
-        // The next line would pass the limit on words.
+        ensures short { OnOk result (IsShort self.new.journal) }
+        // A settle says that nothing waits exactly where nothing does.
+        ensures rest { (most : ℕ) → command.now ≡ commands.Settle most
+            → OnOk result (EndsSettle most (command_lines (facts_after self.old.journal) command.now) (facts_after self.new.journal)) }
+        // The next line would pass a limit.
         ensures limit { (which : _) (number : ℕ) → result ≡ Err (WorldFault.Limit which number)
-            → (which ≡ Which.Words) × (number ≡ spec.most_words) × (self.new.progress ≡ Progress.Full)
-            × (self.old.progress ≡ Progress.Going → IsCut (do_commands self.old.journal) command.now self.new.journal) }
-        ensures full { self.old.progress ≡ Progress.Full → (result ≡ Err (WorldFault.Limit Which.Words spec.most_words)) × (self.new ≡ self.old) }
+            → IsOfWorlds which × (number ≡ spec.most_of which) × (self.new.progress ≡ Progress.Full which)
+            × (self.old.progress ≡ Progress.Going → IsCut which (do_commands self.old.journal) command.now self.new.journal) }
+        ensures full { (which : _) → self.old.progress ≡ Progress.Full which
+            → (result ≡ Err (WorldFault.Limit which (spec.most_of which))) × (self.new ≡ self.old) }
         // Want of memory.
         ensures memory { result ≡ Err WorldFault.Memory → self.new.progress ≡ Progress.Failed }
         ensures failed { self.old.progress ≡ Progress.Failed → (result ≡ Err WorldFault.Memory) × (self.new ≡ self.old) }
@@ -119,45 +147,122 @@ impl World {
         laws();
         match self.progress {
             Progress::Going => {}
-            Progress::Full => return Err(too_long()),
+            Progress::Full { which } => return Err(limit(which)),
             Progress::Failed => return Err(WorldFault::Memory),
         }
         // Until the command is carried through, the world counts as failed.
         self.progress = Progress::Failed;
-        let Ok(fresh) = self.machine.step(command) else {
-            return Err(WorldFault::Memory);
-        };
-        match self.write(fresh) {
-            Ok(true) => {
+        match self.execute(command) {
+            Ok(None) => {
                 self.progress = Progress::Going;
                 Ok(())
             }
-            Ok(false) => {
-                self.progress = Progress::Full;
-                Err(too_long())
+            Ok(Some(which)) => {
+                self.progress = Progress::Full { which };
+                Err(limit(which))
             }
             Err(AllocError) => Err(WorldFault::Memory),
         }
     }
 
-    // Writes as many of the lines as there is room for, and tells whether these are all.
-    fn write(&mut self, fresh: Lines) -> Result<bool, AllocError>
+    // Writes the lines of a command, up to the limit that is met.
+    fn execute(&mut self, command: &Command) -> Result<Option<Which>, AllocError>
         requires failed { self.old.progress ≡ Progress.Failed }
-        requires short { words_in self.old.journal ≤ spec.most_words }
-        ensures journal { OnOk result (self.new.journal ≡ self.old.journal ++ spec.fitting (spec.most_words - words_in self.old.journal) fresh) }
-        ensures all { IfOk result (λ whole. whole ≡ nat_le (words_in self.old.journal + words_in fresh) spec.most_words) }
+        requires history { IsHistoryOf self.old.machine self.old.journal }
+        requires place { may_stand (length (do_commands self.old.journal)) command.now ≡ true }
+        requires range { IsInRange command.now }
+        ensures journal { result ≡ Ok None → self.new.journal ≡ journal_of (do_commands self.old.journal ++ command.now ∷ []) }
+        ensures history { result ≡ Ok None → IsHistoryOf self.new.machine self.new.journal }
+        ensures cut { (which : _) → result ≡ Ok (Some which) → IsCut which (do_commands self.old.journal) command.now self.new.journal }
+        ensures progress { self.new.progress ≡ self.old.progress }
+    {
+        laws();
+        if let Some(which) = self.write_line(Line::Do { command: *command })? {
+            return Ok(Some(which));
+        }
+        match *command {
+            Command::Settle { most } => self.settle(most),
+            _ => self.run(command),
+        }
+    }
+
+    // Writes what a command of the machine does behind its `do` line.
+    fn run(&mut self, command: &Command) -> Result<Option<Which>, AllocError>
+        requires failed { self.old.progress ≡ Progress.Failed }
+        requires ready { IsReady self.old.machine }
+        requires can { CanStep self.old.machine command.now }
+        requires valid { AreValid (sent_in (lines_by self.old.machine command.now)) }
+        ensures written { result ≡ Ok None → self.new.journal ≡ self.old.journal ++ lines_by self.old.machine command.now }
+        ensures short { result ≡ Ok None → IsShort self.new.journal }
+        ensures machine { result ≡ Ok None → self.new.machine ≡ after_command self.old.machine command.now }
+        ensures stopped { (which : _) → result ≡ Ok (Some which)
+            → IsStopped which self.old.journal (lines_by self.old.machine command.now) self.new.journal }
+        ensures progress { self.new.progress ≡ self.old.progress }
+    {
+        let fresh = self.machine.step(command)?;
+        self.write(fresh)
+    }
+
+    // Writes at most so many deliveries, and how they end.
+    fn settle(&mut self, most: u32) -> Result<Option<Which>, AllocError>
+        requires failed { self.old.progress ≡ Progress.Failed }
+        requires along { IsAlong self.old.machine self.old.journal }
+        requires hand { command_at (onto self.old.journal []) ≡ Some (commands.Settle most) }
+        ensures written { result ≡ Ok None → self.new.journal ≡ self.old.journal ++ settle_from most 0 (facts_after self.old.journal) }
+        ensures along { result ≡ Ok None → IsAlong self.new.machine self.new.journal }
+        ensures stopped { (which : _) → result ≡ Ok (Some which)
+            → IsStopped which self.old.journal (settle_from most 0 (facts_after self.old.journal)) self.new.journal }
+        ensures progress { self.new.progress ≡ self.old.progress }
+    {
+        laws();
+        for made in 0..most {
+            let Some(delivery) = self.machine.next_delivery() else {
+                return self.write_line(Line::Settled { made });
+            };
+            if let Some(which) = self.run(&delivery)? {
+                return Ok(Some(which));
+            }
+        }
+        match self.machine.next_delivery() {
+            Some(_) => self.write_line(Line::Waiting { made: most }),
+            None => self.write_line(Line::Settled { made: most }),
+        }
+    }
+
+    // Writes a line that tells no delivery, where it passes no limit.
+    fn write_line(&mut self, line: Line) -> Result<Option<Which>, AllocError>
+        requires failed { self.old.progress ≡ Progress.Failed }
+        requires still { is_delivery line ≡ false }
+        ensures written { result ≡ Ok None → self.new.journal ≡ self.old.journal ++ line ∷ [] }
+        ensures stopped { (which : _) → result ≡ Ok (Some which) → IsStopped which self.old.journal (line ∷ []) self.new.journal }
+        ensures machine { self.new.machine ≡ self.old.machine }
+        ensures progress { self.new.progress ≡ self.old.progress }
+    {
+        if let Some(which) = passed(&line, self.words, self.deliveries) {
+            return Ok(Some(which));
+        }
+        let words = word_count(&line);
+        self.journal.push(line)?;
+        self.words += words;
+        Ok(None)
+    }
+
+    // Writes as many of the lines as pass no limit, and gives the limit that the next one would pass.
+    fn write(&mut self, fresh: Lines) -> Result<Option<Which>, AllocError>
+        requires failed { self.old.progress ≡ Progress.Failed }
+        ensures written { result ≡ Ok None → self.new.journal ≡ self.old.journal ++ fresh }
+        ensures short { result ≡ Ok None → IsShort self.new.journal }
+        ensures stopped { (which : _) → result ≡ Ok (Some which) → IsStopped which self.old.journal fresh self.new.journal }
         ensures machine { self.new.machine ≡ self.old.machine }
         ensures progress { self.new.progress ≡ self.old.progress }
     {
         let mut fresh = fresh;
-        let (count, words) = fitting(fresh.as_slice(), MOST_WORDS - self.words);
-        let whole = count == fresh.len();
-        fresh.truncate(count);
-        let deliveries = deliveries_in(fresh.as_slice());
+        let fit = fitting(fresh.as_slice(), self.words, self.deliveries);
+        fresh.truncate(fit.count);
         self.journal.append(fresh)?;
-        self.words += words;
-        self.deliveries += deliveries;
-        Ok(whole)
+        self.words = fit.words;
+        self.deliveries = fit.deliveries;
+        Ok(fit.stop)
     }
 
     /// All lines so far.
@@ -169,7 +274,7 @@ impl World {
 
     /// How many deliveries were made: the lines `took` and `end`.
     pub fn deliveries(&self) -> u32
-        ensures { result ≡ spec.deliveries_in self.now.journal }
+        ensures { result ≡ deliveries_in self.now.journal }
     {
         self.deliveries
     }

@@ -1,4 +1,4 @@
-use Rattle.std.proofs.Common.{◌≡◌, ◌++◌, ◌∷◌, [], ◌∙◌, ap, sym, arith, cond, true}
+use Rattle.std.proofs.Common.{◌≡◌, ◌++◌, ◌∷◌, [], ◌||◌, ◌∙◌, ap, sym, arith, cond, true}
 use Rattle.std.specs.Prelude.{List, is_ok, slice_index_or, slice_set}
 use Rattle.std.proofs.lemmas.Grind.{common_steps}
 use Rattle.std.proofs.lemmas.Result.{on_ok_weaker}
@@ -30,11 +30,12 @@ returns c =
     ∙ ap (new_node args.child args.kind args.parent args.blocks.now args.ns) heard in
     let pair = c.in_ok-pair.pair in
     let paired = pair_is pair args.parent c.in_ok-pair.ensures.0 c.in_ok-pair.ensures.1 c.in_ok-pair.ensures.2 in
-    let pairs : c.push-2.new.self.items ≡ m.pairs ++ pair ∷ [] = c.in_ok-push.ensures.items ∙ ap (λ (m : MachineView). m.pairs ++ pair ∷ []) c.self.view_is in
-    let kept : record { pool = c.self.inside.pool; starts = c.self.inside.starts; nodes = slice_set c.push.new.self.items at c.adopt.new.self; pairs = c.push-2.new.self.items } ≡ record m { nodes = slice_set (m.nodes ++ born ∷ []) at c.adopt.new.self; pairs = m.pairs ++ pair ∷ [] } =
-    ap (λ (m : MachineView). record m { nodes = slice_set c.push.new.self.items at c.adopt.new.self; pairs = c.push-2.new.self.items }) c.self.view_is
-    ∙ ap (λ (nodes : List NodeView). record m { nodes = slice_set nodes at c.adopt.new.self; pairs = c.push-2.new.self.items }) pushed
-    ∙ ap (λ (pairs : List Pair). record m { nodes = slice_set (m.nodes ++ born ∷ []) at c.adopt.new.self; pairs = pairs }) pairs in
+    let pairs : c.add.new.self ≡ m.pairs ++ pair ∷ [] = c.in_ok-add.ensures ∙ ap (λ (m : MachineView). m.pairs ++ pair ∷ []) c.self.view_is in
+    let kept : record { pool = c.self.inside.pool; server = c.self.inside.server || args.ns; starts = c.self.inside.starts; nodes = slice_set c.push.new.self.items at c.adopt.new.self; pairs = c.add.new.self }
+    ≡ record m { server = m.server || args.ns; nodes = slice_set (m.nodes ++ born ∷ []) at c.adopt.new.self; pairs = m.pairs ++ pair ∷ [] } =
+    ap (λ (m : MachineView). record m { server = m.server || args.ns; nodes = slice_set c.push.new.self.items at c.adopt.new.self; pairs = c.add.new.self }) c.self.view_is
+    ∙ ap (λ (nodes : List NodeView). record m { server = m.server || args.ns; nodes = slice_set nodes at c.adopt.new.self; pairs = c.add.new.self }) pushed
+    ∙ ap (λ (pairs : List Pair). record m { server = m.server || args.ns; nodes = slice_set (m.nodes ++ born ∷ []) at c.adopt.new.self; pairs = pairs }) pairs in
     record {
       lines = on_ok_weaker c.adopt.result (borne_are m args.child args.kind args.parent args.blocks.now args.ns node parent args.out.now c.boot.new.out c.adopt.new.out told) c.adopt.ensures.lines;
       after = on_ok_weaker c.adopt.result (λ is. kept ∙ birth_is m args.child args.kind args.parent args.blocks.now args.ns node parent born c.adopt.new.self pair c.requires.born made is paired) c.adopt.ensures.after;

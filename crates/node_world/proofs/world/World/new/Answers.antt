@@ -7,6 +7,7 @@ pub invariant_of-result : goal.invariant_of-result
 invariant_of-result c = rw (c.new.ensures, c.new-2.ensures) (record {
   words = refl;
   deliveries = refl;
-  most = omega arith;
-  history = λ going. record { placed = tt; told = refl; short = omega arith; shown = start; appended = nothing };
+  short = record { words = omega arith; deliveries = omega arith };
+  history = λ going. record { placed = tt; told = refl; shown = start; appended = nothing };
+  limit = λ which full. absurd (cc);
 })

@@ -1,9 +1,11 @@
 -- A link and the decoder at its end, by what was sent over the channel and how much of it was taken.
-use Rattle.std.proofs.Common.{◌≡◌, ◌+◌, ◌-◌, ◌≤◌, ℕ, zero, suc, List, [], ◌∷◌, ◌++◌, length, take, drop, false, None, refl, sym, ap, ◌∙◌, subst, arith, append-nil, append_assoc, length-append, length-drop}
+use Rattle.std.proofs.Common.{◌≡◌, ◌+◌, ◌-◌, ◌≤◌, ℕ, zero, suc, List, [], ◌∷◌, ◌++◌, length, map, take, drop, false, None, refl, sym, ap, ◌∙◌, subst, arith, append-nil, length-append, length-drop}
 use Rattle.std.specs.List.{concat}
 use Rattle.std.proofs.Math.Seq.{take-append-add, drop-append-add}
-use Rattle.std.proofs.lemmas.List.{drop_at, drop-append-le, take-append-le, take-append-drop, length-take-le}
-use Rattle.byte_link.specs.Channel.{Channel, fresh, waiting_bytes, filled, later_bytes, taken, sent}
+use Rattle.std.proofs.lemmas.List.{drop_at, drop-append-le, take-append-le, take-append-drop, length-take-le, map-append}
+use Rattle.byte_link.specs.Channel.{Channel, fresh, waiting_bytes, taken, sent}
+use Rattle.byte_link.specs.Passage.{left_of}
+use Rattle.byte_link.proofs.LawLemmas.{waiting-taken, waiting-sent, pieces-sent, pieces-taken}
 use Rattle.xemem_wire.specs.declared.format.Record.{Record}
 use Rattle.xemem_wire.specs.Spelling.{spelling_of, spellings_of, AreValid}
 use Rattle.xemem_wire.specs.Stream.{Reading, reading_of, first_bad}
@@ -13,43 +15,24 @@ use Rattle.global_model.specs.Channels.{whole_records, arriving, waiting_of}
 use Rattle.global_model.specs.Flow.{IsFlow}
 use Rattle.node_world.specs.Links.{IsFlowing, IsChannel, got_bytes, feed_of}
 use Rattle.node_world.specs.Laws.{WireLaws}
-use Rattle.node_world.proofs.Fronts.{IsFront, front_of, spellings-append, spellings-length, whole-after, whole-take, whole-length, whole-bytes, whole-more}
+use Rattle.node_world.proofs.Fronts.{spelling_of-length, IsFront, front_of, spellings-append, spellings-length, whole-after, whole-take, whole-length, whole-bytes, whole-more}
 
 -- ---- what waits in a link
 
-concat-filled : (ps : List (List ℕ)) → concat (filled ps) ≡ concat ps
-concat-filled [] = refl
-concat-filled ([] ∷ ps) = concat-filled ps
-concat-filled ((b ∷ bs) ∷ ps) = ap (λ rest. (b ∷ bs) ++ rest) (concat-filled ps)
-
-concat-append : (ps qs : List (List ℕ)) → concat (ps ++ qs) ≡ concat ps ++ concat qs
-concat-append [] qs = refl
-concat-append (p ∷ ps) qs = ap (λ rest. p ++ rest) (concat-append ps qs) ∙ sym (append_assoc p (concat ps) (concat qs))
-
-drop-append : (n : ℕ) (xs ys : List ℕ) → drop n xs ++ drop (n - length xs) ys ≡ drop n (xs ++ ys)
-drop-append zero xs ys = let none : 0 - length xs ≡ 0 = omega arith in ap (λ k. xs ++ drop k ys) none
-drop-append (suc n) [] ys = let all : suc n - 0 ≡ suc n = omega arith in ap (λ k. drop k ys) all
-drop-append (suc n) (x ∷ xs) ys = let less : suc n - length (x ∷ xs) ≡ n - length xs = omega arith in ap (λ k. drop n xs ++ drop k ys) less ∙ drop-append n xs ys
-
-concat-later : (n : ℕ) (ps : List (List ℕ)) → concat (later_bytes n ps) ≡ drop n (concat ps)
-concat-later zero [] = refl
-concat-later (suc n) [] = refl
-concat-later n (p ∷ ps) = ap (λ rest. drop n p ++ rest) (concat-later (n - length p) ps) ∙ drop-append n p (concat ps)
-
-waiting-taken : (c : Channel) (n : ℕ) → waiting_bytes (taken c n) ≡ drop n (waiting_bytes c)
-waiting-taken c n = concat-filled (later_bytes n c.pieces) ∙ concat-later n c.pieces
-
-waiting-sent : (c : Channel) (bytes : List ℕ) → waiting_bytes (sent c bytes) ≡ waiting_bytes c ++ bytes
-waiting-sent c bytes = concat-append c.pieces (bytes ∷ []) ∙ ap (λ xs. concat c.pieces ++ xs) (append-nil bytes)
+-- the spellings of records one after the other
+pub spellings-concat : (rs : List Record) → spellings_of rs ≡ concat (map spelling_of rs)
+spellings-concat [] = refl
+spellings-concat (r ∷ rs) = ap (λ rest. spelling_of r ++ rest) (spellings-concat rs)
 
 -- what waits in the link are the bytes that were sent and not taken
 pub record IsLinkOf (fact : ChannelFact) (link : Channel) : Type 0 where
   pub within : fact.taken ≤ length (spellings_of fact.sent)
   pub waiting : waiting_bytes link ≡ waiting_of fact
+  pub pieces : link.pieces ≡ left_of (map spelling_of fact.sent) fact.taken
   pub open_end : link.ended ≡ false
 
 pub fresh_link : IsLinkOf no_channel fresh
-fresh_link = record { within = omega arith; waiting = refl; open_end = refl }
+fresh_link = record { within = omega arith; waiting = refl; pieces = refl; open_end = refl }
 
 pub waiting-length : (f : ChannelFact) (link : Channel) → IsLinkOf f link → f.taken + length (waiting_bytes link) ≡ length (spellings_of f.sent)
 waiting-length f link h = let size = ap length h.waiting ∙ length-drop f.taken (spellings_of f.sent) in omega (arith, size, h.within)
@@ -61,6 +44,8 @@ link_sent f link r h =
     record {
       within = let size = ap length all ∙ length-append (spellings_of f.sent) (spelling_of r) in omega (arith, size, h.within);
       waiting = waiting-sent link (spelling_of r) ∙ ap (λ xs. xs ++ spelling_of r) h.waiting ∙ sym (ap (drop f.taken) all ∙ drop-append-le f.taken (spellings_of f.sent) (spelling_of r) h.within);
+      pieces = pieces-sent link (map spelling_of f.sent) f.taken (spelling_of r) (let same = ap length (spellings-concat f.sent) in omega (arith, same, h.within)) (omega (arith, spelling_of-length r)) h.pieces
+          ∙ ap (λ rows. left_of rows f.taken) (sym (map-append spelling_of f.sent (r ∷ [])));
       open_end = h.open_end;
     }
 
@@ -75,6 +60,7 @@ pub link_taken : (f : ChannelFact) (link : Channel) (n : ℕ) → n ≤ length (
 link_taken f link n fits h = record {
   within = let size = waiting-length f link h in omega (arith, size, fits);
   waiting = waiting-taken link n ∙ ap (drop n) h.waiting ∙ drop-more f.taken n (spellings_of f.sent);
+  pieces = pieces-taken link (map spelling_of f.sent) f.taken n h.pieces;
   open_end = h.open_end;
 }
 
@@ -91,6 +77,7 @@ link_of_channel f link d h =
           ap (λ n. drop n (spellings_of f.sent)) h.taken ∙ ap (drop (length (spellings_of h.done) + length d.rest)) all
           ∙ drop-append-add (spellings_of h.done) (spellings_of h.coming) (length d.rest) ∙ ap (drop (length d.rest)) (sym h.bytes) ∙ drop_at d.rest (waiting_bytes link) (length d.rest) refl
           );
+      pieces = h.pieces;
       open_end = h.open_end;
     }
 
@@ -124,6 +111,7 @@ channel_of f link flow h =
       fine = refl;
       given = refl;
       open_end = h.open_end;
+      pieces = h.pieces;
     }
 
 pub flowing_of : (f : ChannelFact) (link : Channel) (d : Decoding) → IsChannel f link d → IsFlowing link d
