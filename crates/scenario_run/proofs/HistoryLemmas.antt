@@ -1,16 +1,16 @@
 -- Fronts of journals and of their commands.
-use Rattle.std.proofs.Common.{◌≡◌, ◌+◌, ◌-◌, ◌≤◌, ℕ, List, [], ◌∷◌, ◌++◌, length, Bool, true, false, leb, cond, refl, sym, ap, ◌∙◌, arith, append_assoc}
-use Rattle.std.proofs.lemmas.Bool.{le-leb}
+use Rattle.std.proofs.Common.{◌≡◌, ◌+◌, ◌≤◌, ℕ, List, [], ◌∷◌, ◌++◌, length, length-append, true, refl, sym, ap, ◌∙◌, arith, append_assoc}
+use Rattle.std.proofs.lemmas.List.Elements.{filter-append}
+use Rattle.std.specs.List.{filter}
 use Rattle.std.proofs.lemmas.List.Concat.{flat_map-append}
 use Rattle.global_model.specs.declared.command.Command.{Command}
 use Rattle.global_model.specs.declared.line.Line.{Line}
 use Rattle.global_model.specs.Spelling.{line_words, words_in, line_text, text_of}
 use Rattle.global_model.specs.Facts.{Facts, no_facts, after_lines}
 use Rattle.global_model.specs.Due.{journal_from, journal_of, step_lines}
-use Rattle.global_model.specs.History.{Follows}
-use Rattle.global_model.specs.Scenario.{may_stand, IsPlacedAfter}
+use Rattle.global_model.specs.History.{Follows, deliveries_in, is_delivery}
+use Rattle.global_model.specs.Place.{may_stand, IsPlacedAfter}
 use Rattle.global_model.specs.Ranges.{IsInRange}
-use Rattle.node_world.specs.World.{fitting}
 
 -- a front of lines, each of which may follow those before it
 pub Follows-front : (Law : List Line → Line → Type 0) (ls ms past : List Line) → Follows Law past (ls ++ ms) → Follows Law past ls
@@ -36,32 +36,19 @@ words_in-append (l ∷ ls) ms = omega (arith, words_in-append ls ms)
 pub text_of-append : (ls ms : List Line) → text_of (ls ++ ms) ≡ text_of ls ++ text_of ms
 text_of-append ls ms = flat_map-append line_text ls ms
 
--- ---- what fits
+-- the deliveries of two pieces of a journal
+pub deliveries_in-append : (ls ms : List Line) → deliveries_in (ls ++ ms) ≡ deliveries_in ls + deliveries_in ms
+deliveries_in-append ls ms = ap length (filter-append is_delivery ls ms) ∙ length-append (filter is_delivery ls) (filter is_delivery ms)
 
--- lines that fit, and what fits of those after them
-pub fitting-append : (most : ℕ) (ls ms : List Line) → words_in ls ≤ most → fitting most (ls ++ ms) ≡ ls ++ fitting (most - words_in ls) ms
-fitting-append most [] ms short = let all : most - 0 ≡ most = omega arith in rw all refl
-fitting-append most (l ∷ ls) ms short =
-    let size = length (line_words l) in
-    let fits : leb size most ≡ true = le-leb size most (omega arith) in
-    let left : (most - size) - words_in ls ≡ most - words_in (l ∷ ls) = omega arith in
-    rw fits (ap (λ xs. l ∷ xs) (rw (← left) (fitting-append (most - size) ls ms (omega arith))))
+-- a delivery in the midst counts
+pub one_delivery : (ls ms : List Line) (line : Line) → is_delivery line ≡ true → deliveries_in ls + 1 ≤ deliveries_in (ls ++ line ∷ ms)
+one_delivery ls ms line is =
+    let here : deliveries_in (line ∷ ms) ≡ deliveries_in ms + 1 = rw is (omega arith) in
+    omega (arith, deliveries_in-append ls (line ∷ ms), here)
 
--- what doesn't fit
-pub unfitting : ℕ → List Line → List Line
-unfitting most [] = []
-unfitting most (l ∷ ls) = cond (leb (length (line_words l)) most) (unfitting (most - length (line_words l)) ls) (l ∷ ls)
-
--- what fits is a front
-pub fitting_front : (most : ℕ) (ls : List Line) → fitting most ls ++ unfitting most ls ≡ ls
-unfolding unfitting
-fitting_front most [] = refl
-fitting_front most (l ∷ ls) = by (leb (length (line_words l)) most) (fitting_front (most - length (line_words l)) ls)
-  where
-    by : (b : Bool) → fitting (most - length (line_words l)) ls ++ unfitting (most - length (line_words l)) ls ≡ ls
-        → cond b (l ∷ fitting (most - length (line_words l)) ls) [] ++ cond b (unfitting (most - length (line_words l)) ls) (l ∷ ls) ≡ l ∷ ls
-    by true is = ap (λ xs. l ∷ xs) is
-    by false is = refl
+-- and so do a line's words
+pub line_in : (ls ms : List Line) (line : Line) → words_in ls + length (line_words line) ≤ words_in (ls ++ line ∷ ms)
+line_in ls ms line = let sum = words_in-append ls (line ∷ ms) in omega (arith, sum)
 
 -- ---- the journal of more commands
 
@@ -71,9 +58,6 @@ journal_from-append G (x ∷ xs) ys =
     let more = journal_from-append (after_lines G (step_lines G x)) xs ys in
     (more.0, ap (λ ls. step_lines G x ++ ls) more.1 ∙ sym (append_assoc (step_lines G x) (journal_from (after_lines G (step_lines G x)) xs) more.0))
 
--- it has no fewer words
-pub words_in-more : (xs ys : List Command) → words_in (journal_of xs) ≤ words_in (journal_of (xs ++ ys))
-words_in-more xs ys =
-    let more = journal_from-append no_facts xs ys in
-    let sum : words_in (journal_of (xs ++ ys)) ≡ words_in (journal_of xs) + words_in more.0 = ap words_in more.1 ∙ words_in-append (journal_of xs) more.0 in
-    omega (arith, sum)
+-- the journal of more commands goes on from that of the first ones
+pub journal_more : (xs ys : List Command) → (rest : List Line) × (journal_of (xs ++ ys) ≡ journal_of xs ++ rest)
+journal_more xs ys = journal_from-append no_facts xs ys

@@ -1,5 +1,3 @@
-pub mod PrintLemmas
-pub mod ReadLemmas
 pub mod WriteLemmas
 pub mod HistoryLemmas
 pub mod StepLemmas

@@ -1,28 +1,30 @@
 -- Whole runs: what was done so far, and what each end leaves.
-use Rattle.std.proofs.Common.{◌≡◌, ◌+◌, ◌≤◌, ℕ, List, [], ◌∷◌, ◌++◌, length, take, true, false, Option, None, Some, refl, sym, ap, ◌∙◌, subst, arith, append_assoc, append-nil, length-append}
+use Rattle.std.proofs.Common.{◌≡◌, ◌+◌, ℕ, List, [], ◌∷◌, ◌++◌, length, take, true, Option, None, Some, Result, Ok, Err, refl, sym, ap, ◌∙◌, subst, arith, append_assoc, append-nil, length-append}
 use Rattle.std.specs.Io.KnownBytes.{Appends}
 use Rattle.std.proofs.KnownBytes.{Appends-trans}
 use Rattle.std.proofs.Math.Seq.{take-append-add}
 use Rattle.global_model.specs.declared.command.Command.{Command}
 use Rattle.global_model.specs.declared.line.Line.{Line}
-use Rattle.global_model.specs.Words.{lines_of}
 use Rattle.global_model.specs.Ranges.{IsInRange}
-use Rattle.global_model.specs.Scenario.{Scenario, scenario_of, scenario_from, said, line_command, may_stand, onto_scenario, IsPlaced}
+use Rattle.global_model.specs.Place.{may_stand, IsPlaced}
 use Rattle.global_model.specs.Due.{journal_of}
-use Rattle.global_model.specs.Spelling.{text_of, words_in}
+use Rattle.global_model.specs.Spelling.{text_of}
 use Rattle.global_model.specs.History.{do_commands, IsHistory, IsDueAt}
 use Rattle.global_model.specs.Lawful.{IsLegalAt, CarriedAt}
 use Rattle.global_model.proofs.Told.{do_commands-append}
+use Rattle.scenario_text.specs.Words.{lines_of}
+use Rattle.scenario_text.specs.Scenario.{Ending, Stop, TooMany, TooLong, Faulty, Unbuilt, Scenario, scenario_of, scenario_from, said, onto_scenario}
 use Rattle.node_world.specs.declared.world.Which.{Which}
-use Rattle.node_world.specs.World.{WorldView, IsCut, no_world, most_words}
-use Rattle.scenario_run.specs.declared.read.Reading.TheVariants as readings
-use Rattle.scenario_run.specs.Reading.{reading_of}
+use Rattle.node_world.specs.declared.world.Which.TheVariants as whiches
+use Rattle.node_world.specs.World.{WorldView, IsCut, IsShort, Passes, most_of, no_world}
+use Rattle.scenario_run.specs.declared.status.Status.{Status}
 use Rattle.scenario_run.specs.declared.status.Status.TheVariants as statuses
 use Rattle.scenario_run.specs.declared.execute.Fault.{Fault}
 use Rattle.scenario_run.specs.declared.execute.Fault.TheVariants as faults
 use Rattle.scenario_run.specs.Laws.{Laws}
-use Rattle.scenario_run.specs.Run.{IsRun, IsRunSoFar, IsRunFull, IsGoing, IsFilled, Writes, WritesFront, LeavesIn, FaultLeaves, status_of}
-use Rattle.scenario_run.proofs.HistoryLemmas.{Follows-front, placed_front, placed_last, text_of-append, fitting_front, unfitting, words_in-more}
+use Rattle.scenario_run.specs.Run.{IsRun, IsRunSoFar, IsRunFull, IsGoing, IsFilled, Writes, WritesFront, Leaves, LeavesIn, FaultLeaves, FillsOn, Ends, ending_status, judged_status, status_of, stop_status}
+use Rattle.scenario_run.proofs.HistoryLemmas.{Follows-front, placed_front, placed_last, text_of-append, line_in, one_delivery, journal_more}
+use Rattle.scenario_run.proofs.StepLemmas.{cut_whole}
 
 -- what was done so far on the world, after so many commands, and what is left of the scenario
 pub record SoFar (bytes : List ℕ) (v : WorldView) (before number : ℕ) (rest : List ℕ) (old new : Option (List ℕ)) : Type 0 where
@@ -36,42 +38,38 @@ appends_none None = tt
 appends_none (Some xs) = sym (append-nil xs)
 
 pub so_far-nothing : (bytes : List ℕ) (v : WorldView) (a : Option (List ℕ)) → v ≡ no_world → SoFar bytes v 0 1 bytes a a
-so_far-nothing bytes v a fresh = rw fresh (record { going = record { told = refl; short = omega arith; going = refl }; count = refl; scenario_is = refl; put = appends_none a })
+so_far-nothing bytes v a fresh = rw fresh (record { going = record { told = refl; short = record { words = omega arith; deliveries = omega arith }; going = refl }; count = refl; scenario_is = refl; put = appends_none a })
 
--- ---- what a line says
+-- ---- what a line said
 
-said_comment : (before : ℕ) (line : List ℕ) → line_command line ≡ Some None → said before line ≡ Some None
-said_comment before line is = rw is refl
+pub said_found : (number : ℕ) (r : Result (Option Command) Stop) (found : Option Command) → Ok found ≡ judged_status number r → r ≡ Ok found
+said_found number (Ok x) found is = cc
+said_found number (Err stop) found is = cc
 
-said_command : (before : ℕ) (line : List ℕ) (c : Command) → line_command line ≡ Some (Some c) → may_stand before c ≡ true → said before line ≡ Some (Some c)
-said_command before line c is may = rw (is, may) refl
-
-said_early : (before : ℕ) (line : List ℕ) (c : Command) → line_command line ≡ Some (Some c) → may_stand before c ≡ false → said before line ≡ None
-said_early before line c is may = rw (is, may) refl
-
-said_unknown : (before : ℕ) (line : List ℕ) → line_command line ≡ None → said before line ≡ None
-said_unknown before line is = rw is refl
+said_stop : (number : ℕ) (r : Result (Option Command) Stop) (status : Status) → Err status ≡ judged_status number r → (stop : Stop) × (r ≡ Err stop) × (status ≡ stop_status number stop)
+said_stop number (Ok x) status is = cc
+said_stop number (Err stop) status is = (stop, refl, cc)
 
 -- ---- one line more
 
-pub so_far-comment : (bytes : List ℕ) (v : WorldView) (before number : ℕ) (rest line after : List ℕ) (old new : Option (List ℕ)) → SoFar bytes v before number rest old new → lines_of rest ≡ line ∷ lines_of after → line_command line ≡ Some None
+pub so_far-comment : (bytes : List ℕ) (v : WorldView) (before number : ℕ) (rest line after : List ℕ) (old new : Option (List ℕ)) → SoFar bytes v before number rest old new → lines_of rest ≡ line ∷ lines_of after → said before number line ≡ Ok None
     → SoFar bytes v before (number + 1) after old new
 so_far-comment bytes v before number rest line after old new s is comment =
     let same : before + 0 ≡ before = omega arith in
-    let here : scenario_from before number (lines_of rest) ≡ scenario_from before (number + 1) (lines_of after) = ap (scenario_from before number) is ∙ rw (said_comment before line comment, same) refl in
+    let here : scenario_from before number (lines_of rest) ≡ scenario_from before (number + 1) (lines_of after) = ap (scenario_from before number) is ∙ rw (comment, same) refl in
     record { going = s.going; count = s.count; scenario_is = s.scenario_is ∙ ap (onto_scenario (do_commands v.journal)) here; put = s.put }
 
 -- the scenario, by the commands that were done and the next one
 pub record IsNext (bytes : List ℕ) (v : WorldView) (before number : ℕ) (c : Command) (after : List ℕ) : Type 0 where
   pub is : scenario_of bytes ≡ onto_scenario (do_commands v.journal ++ c ∷ []) (scenario_from (before + 1) (number + 1) (lines_of after))
 
-pub next_command : (bytes : List ℕ) (v : WorldView) (before number : ℕ) (rest line after : List ℕ) (c : Command) (old new : Option (List ℕ)) → SoFar bytes v before number rest old new → lines_of rest ≡ line ∷ lines_of after → line_command line ≡ Some (Some c)
-    → may_stand before c ≡ true → IsNext bytes v before number c after
-next_command bytes v before number rest line after c old new s is command may =
+pub next_command : (bytes : List ℕ) (v : WorldView) (before number : ℕ) (rest line after : List ℕ) (c : Command) (old new : Option (List ℕ)) → SoFar bytes v before number rest old new → lines_of rest ≡ line ∷ lines_of after
+    → said before number line ≡ Ok (Some c) → IsNext bytes v before number c after
+next_command bytes v before number rest line after c old new s is command =
     let done = do_commands v.journal in
     let left = scenario_from (before + 1) (number + 1) (lines_of after) in
-    let here : scenario_from before number (lines_of rest) ≡ onto_scenario (c ∷ []) left = ap (scenario_from before number) is ∙ rw (said_command before line c command may) refl in
-    record { is = s.scenario_is ∙ ap (onto_scenario done) here ∙ ap (λ (cs : List Command). record { commands = cs; unbuilt = left.unbuilt }) (sym (append_assoc done (c ∷ []) left.commands)) }
+    let here : scenario_from before number (lines_of rest) ≡ onto_scenario (c ∷ []) left = ap (scenario_from before number) is ∙ rw command refl in
+    record { is = s.scenario_is ∙ ap (onto_scenario done) here ∙ ap (λ (cs : List Command). record { commands = cs; ending = left.ending }) (sym (append_assoc done (c ∷ []) left.commands)) }
 
 pub so_far-command : (bytes : List ℕ) (v w : WorldView) (before number : ℕ) (rest after : List ℕ) (c : Command) (old new newer : Option (List ℕ)) → SoFar bytes v before number rest old new → IsNext bytes v before number c after
     → IsGoing w → do_commands w.journal ≡ do_commands v.journal ++ c ∷ [] → Writes new newer v.journal w.journal → SoFar bytes w (before + 1) (number + 1) after old newer
@@ -92,8 +90,11 @@ so_far-command bytes v w before number rest after c old new newer s next going c
 front_placed : Laws → (bytes : List ℕ) (done : List Command) (left : Scenario) → scenario_of bytes ≡ onto_scenario done left → IsPlaced done
 front_placed laws bytes done left is = placed_front done left.commands 0 (subst IsPlaced (ap (λ s. s.commands) is) (laws.placed bytes))
 
-pub next_in_range : Laws → (bytes : List ℕ) (v : WorldView) (before number : ℕ) (c : Command) (after : List ℕ) → IsNext bytes v before number c after → IsInRange c
-next_in_range laws bytes v before number c after next = (placed_last (do_commands v.journal) c 0 (front_placed laws bytes _ _ next.is)).1
+pub next_placed : Laws → (bytes : List ℕ) (v : WorldView) (before number : ℕ) (c : Command) (after : List ℕ) → IsNext bytes v before number c after → (may_stand (length (do_commands v.journal)) c ≡ true) × IsInRange c
+next_placed laws bytes v before number c after next =
+    let done = do_commands v.journal in
+    let sum : 0 + length done ≡ length done = omega arith in
+    subst (λ n. (may_stand n c ≡ true) × IsInRange c) sum (placed_last done c 0 (front_placed laws bytes _ _ next.is))
 
 -- ---- what each end leaves
 
@@ -133,32 +134,39 @@ run_whole laws bytes v left going is none = record {
   short = going.short;
 }
 
--- a line that isn't built ends the scenario
-leaves_unbuilt : Laws → (bytes : List ℕ) (v : WorldView) (before number : ℕ) (rest line after : List ℕ) (old new : Option (List ℕ)) → (s : SoFar bytes v before number rest old new) → lines_of rest ≡ line ∷ lines_of after → said before line ≡ None
-    → LeavesIn old new (statuses.Unbuilt number) bytes v
+-- the scenario ends here, at a line or at its end
+ends_here : Laws → (bytes : List ℕ) (v : WorldView) (ending : Option Ending) → IsGoing v → scenario_of bytes ≡ onto_scenario (do_commands v.journal) (record { commands = []; ending = ending }) → Ends (ending_status ending) bytes v (text_of v.journal)
 unfolding run_whole
-leaves_unbuilt laws bytes v before number rest line after old new s is nothing =
-    let end : Scenario = record { commands = []; unbuilt = Some number } in
-    let here : scenario_from before number (lines_of rest) ≡ end = ap (scenario_from before number) is ∙ rw nothing refl in
-    let scenario : scenario_of bytes ≡ onto_scenario (do_commands v.journal) end = s.scenario_is ∙ ap (onto_scenario (do_commands v.journal)) here in
-    (text_of v.journal, s.put, (ap (λ x. x.unbuilt) scenario, (run_whole laws bytes v end s.going scenario refl, record { has = refl; going = s.going.going })))
+ends_here laws bytes v ending going scenario =
+    (ending, refl, (ap (λ x. x.ending) scenario, run_whole laws bytes v (record { commands = []; ending = ending }) going scenario refl, record { has = refl; going = going.going }))
 
-pub leaves_unknown : Laws → (bytes : List ℕ) (v : WorldView) (before number : ℕ) (rest line after : List ℕ) (old new : Option (List ℕ)) → SoFar bytes v before number rest old new → lines_of rest ≡ line ∷ lines_of after → line_command line ≡ None
-    → LeavesIn old new (statuses.Unbuilt number) bytes v
-leaves_unknown laws bytes v before number rest line after old new s is unknown = leaves_unbuilt laws bytes v before number rest line after old new s is (said_unknown before line unknown)
+-- what it leaves by its status
+stop_leaves : (bytes : List ℕ) (v : WorldView) (written : List ℕ) (number : ℕ) (stop : Stop) → Ends (stop_status number stop) bytes v written → Leaves (stop_status number stop) bytes v written
+stop_leaves bytes v written number TooMany ends = ends
+stop_leaves bytes v written number TooLong ends = ends
+stop_leaves bytes v written number (Faulty fault) ends = ends
+stop_leaves bytes v written number Unbuilt ends = ends
 
-pub leaves_early : Laws → (bytes : List ℕ) (v : WorldView) (before number : ℕ) (rest line after : List ℕ) (c : Command) (old new : Option (List ℕ)) → SoFar bytes v before number rest old new → lines_of rest ≡ line ∷ lines_of after → line_command line ≡ Some (Some c)
-    → may_stand before c ≡ false → LeavesIn old new (statuses.Unbuilt number) bytes v
-leaves_early laws bytes v before number rest line after c old new s is command early =
-    leaves_unbuilt laws bytes v before number rest line after old new s is (said_early before line c command early)
+-- a line at which the scenario ends
+leaves_stop : Laws → (bytes : List ℕ) (v : WorldView) (before number : ℕ) (rest line after : List ℕ) (old new : Option (List ℕ)) (stop : Stop) → SoFar bytes v before number rest old new → lines_of rest ≡ line ∷ lines_of after → said before number line ≡ Err stop
+    → LeavesIn old new (stop_status number stop) bytes v
+leaves_stop laws bytes v before number rest line after old new stop s is stops =
+    let ending : Ending = record { line = number; stop = stop } in
+    let here : scenario_from before number (lines_of rest) ≡ record { commands = []; ending = Some ending } = ap (scenario_from before number) is ∙ rw stops refl in
+    let scenario : scenario_of bytes ≡ onto_scenario (do_commands v.journal) (record { commands = []; ending = Some ending }) = s.scenario_is ∙ ap (onto_scenario (do_commands v.journal)) here in
+    (text_of v.journal, s.put, stop_leaves bytes v (text_of v.journal) number stop (ends_here laws bytes v (Some ending) s.going scenario))
+
+pub leaves_judged : Laws → (bytes : List ℕ) (v : WorldView) (before number : ℕ) (rest line after : List ℕ) (old new : Option (List ℕ)) (status : Status) → SoFar bytes v before number rest old new → lines_of rest ≡ line ∷ lines_of after
+    → Err status ≡ judged_status number (said before number line) → LeavesIn old new status bytes v
+leaves_judged laws bytes v before number rest line after old new status s is judged =
+    let found = said_stop number (said before number line) status judged in
+    subst (λ st. LeavesIn old new st bytes v) (sym found.2) (leaves_stop laws bytes v before number rest line after old new found.0 s is found.1)
 
 pub leaves_ok : Laws → (bytes : List ℕ) (v : WorldView) (before number : ℕ) (rest : List ℕ) (old new : Option (List ℕ)) → SoFar bytes v before number rest old new → rest ≡ [] → LeavesIn old new statuses.Ok bytes v
-unfolding run_whole
 leaves_ok laws bytes v before number rest old new s none =
-    let end : Scenario = record { commands = []; unbuilt = None } in
-    let here : scenario_from before number (lines_of rest) ≡ end = ap (λ r. scenario_from before number (lines_of r)) none in
-    let scenario : scenario_of bytes ≡ onto_scenario (do_commands v.journal) end = s.scenario_is ∙ ap (onto_scenario (do_commands v.journal)) here in
-    (text_of v.journal, s.put, (ap (λ x. x.unbuilt) scenario, (run_whole laws bytes v end s.going scenario refl, record { has = refl; going = s.going.going })))
+    let here : scenario_from before number (lines_of rest) ≡ record { commands = []; ending = None } = ap (λ r. scenario_from before number (lines_of r)) none in
+    let scenario : scenario_of bytes ≡ onto_scenario (do_commands v.journal) (record { commands = []; ending = None }) = s.scenario_is ∙ ap (onto_scenario (do_commands v.journal)) here in
+    (text_of v.journal, s.put, ends_here laws bytes v None s.going scenario)
 
 leaves_write : Laws → (bytes : List ℕ) (v w : WorldView) (before number : ℕ) (rest after : List ℕ) (c : Command) (old new newer : Option (List ℕ)) → SoFar bytes v before number rest old new → IsNext bytes v before number c after
     → WritesFront new newer v.journal (journal_of (do_commands v.journal ++ c ∷ [])) → LeavesIn old newer statuses.WriteFault bytes w
@@ -172,11 +180,11 @@ leaves_write laws bytes v w before number rest after c old new newer s next writ
     (text_of v.journal ++ take n piece, Appends-trans old new newer (text_of v.journal) (take n piece) s.put writes.wrote.2, record { text = text_of (journal_of done); run = run_so_far laws bytes done _ next.is; count = m; front = cut })
 
 -- the journal of first commands, cut
-run_full : Laws → (bytes : List ℕ) (done : List Command) (c : Command) (left : Scenario) (journal : List Line) → scenario_of bytes ≡ onto_scenario (done ++ c ∷ []) left → IsCut done c journal → IsRunFull bytes (text_of journal)
-run_full laws bytes done c left journal is cut =
+run_full : Laws → (bytes : List ℕ) (which : Which) (done : List Command) (c : Command) (left : Scenario) (journal : List Line) → scenario_of bytes ≡ onto_scenario (done ++ c ∷ []) left → IsCut which done c journal → IsRunFull which bytes (text_of journal)
+run_full laws bytes which done c left journal is cut =
     let all = done ++ c ∷ [] in
-    let rest = unfitting most_words (journal_of all) in
-    let whole : journal_of all ≡ journal ++ rest = sym (fitting_front most_words (journal_of all)) ∙ ap (λ ls. ls ++ rest) (sym cut.front) in
+    let rest = cut.2.line ∷ cut.2.rest in
+    let whole = cut_whole which done c journal cut in
     let commands : all ≡ do_commands journal ++ do_commands rest = sym (laws.commands all) ∙ ap do_commands whole ∙ do_commands-append journal rest in
     record {
       journal = journal;
@@ -189,14 +197,23 @@ run_full laws bytes done c left journal is cut =
       cut = cut;
     }
 
+-- what a limit of worlds leaves
+limit_leaves : (bytes : List ℕ) (w : WorldView) (written : List ℕ) (which : Which) → FillsOn which bytes w written → Leaves (statuses.Limit which (most_of which)) bytes w written
+limit_leaves bytes w written whiches.Scenario fills = absurd fills.0
+limit_leaves bytes w written whiches.Lines fills = absurd fills.0
+limit_leaves bytes w written whiches.LineBytes fills = absurd fills.0
+limit_leaves bytes w written whiches.Deliveries fills = (refl, fills)
+limit_leaves bytes w written whiches.Words fills = (refl, fills)
+
 leaves_limit : Laws → (bytes : List ℕ) (v w : WorldView) (before number : ℕ) (rest after : List ℕ) (c : Command) (old new newer : Option (List ℕ)) (which : Which) (limit : ℕ) → SoFar bytes v before number rest old new
     → IsNext bytes v before number c after → IsFilled new newer which limit v c w → LeavesIn old newer (statuses.Limit which limit) bytes w
 unfolding run_full
 leaves_limit laws bytes v w before number rest after c old new newer which limit s next filled =
     let lines = filled.wrote.lines in
     let text : text_of v.journal ++ text_of lines ≡ text_of w.journal = sym (text_of-append v.journal lines) ∙ ap text_of (sym filled.wrote.grown) in
-    rw (filled.words, filled.most)
-    (text_of w.journal, subst (Appends old newer) text (Appends-trans old new newer _ _ s.put filled.wrote.wrote), (refl, run_full laws bytes (do_commands v.journal) c _ w.journal next.is filled.cut, record { has = refl; full = filled.full }))
+    let run = run_full laws bytes which (do_commands v.journal) c _ w.journal next.is filled.cut in
+    rw filled.most
+    (text_of w.journal, subst (Appends old newer) text (Appends-trans old new newer _ _ s.put filled.wrote.wrote), limit_leaves bytes w (text_of w.journal) which (filled.limit, run, record { has = refl; full = filled.full }))
 
 pub leaves_fault : Laws → (bytes : List ℕ) (v w : WorldView) (before number : ℕ) (rest after : List ℕ) (c : Command) (old new newer : Option (List ℕ)) → SoFar bytes v before number rest old new → IsNext bytes v before number c after
     → (fault : Fault) → FaultLeaves new newer v c w fault → LeavesIn old newer (status_of fault) bytes w
@@ -210,28 +227,21 @@ was_write faults.Memory is = cc
 was_write faults.Write is = refl
 was_write (faults.Limit which limit) is = cc
 
--- a journal that was cut is one of a scenario whose whole journal is too long
-pub too_long : (bytes written : List ℕ) → IsRunFull bytes written → words_in (journal_of (scenario_of bytes).commands) ≤ most_words → ⊥
-too_long bytes written run short =
-    let more : words_in (journal_of (run.done ++ run.command ∷ [])) ≤ words_in (journal_of (scenario_of bytes).commands) = subst (λ cs. words_in (journal_of (run.done ++ run.command ∷ [])) ≤ words_in (journal_of cs)) (sym run.next.is) (words_in-more (run.done ++ run.command ∷ []) run.next.rest) in
-    omega (arith, more, short, run.cut.long)
+-- a journal that was cut is one of a scenario whose whole journal passes the limit
+passes_all : (which : Which) (journal rest : List Line) (line : Line) → Passes which journal line → IsShort (journal ++ line ∷ rest) → ⊥
+passes_all whiches.Scenario journal rest line passes short = absurd passes
+passes_all whiches.Lines journal rest line passes short = absurd passes
+passes_all whiches.LineBytes journal rest line passes short = absurd passes
+passes_all whiches.Deliveries journal rest line passes short = let more = one_delivery journal rest line passes.0 in omega (arith, more, passes.1, short.deliveries)
+passes_all whiches.Words journal rest line passes short = let more = line_in journal rest line in omega (arith, more, passes.0, short.words)
 
--- ---- what the reader said
-
-pub said_nothing : (o : Option (Option Command)) → readings.Comment ≡ reading_of o → o ≡ Some None
-said_nothing None is = cc
-said_nothing (Some None) is = refl
-said_nothing (Some (Some c)) is = cc
-
-pub said_something : (o : Option (Option Command)) (c : Command) → readings.Command c ≡ reading_of o → o ≡ Some (Some c)
-said_something None c is = cc
-said_something (Some None) c is = cc
-said_something (Some (Some d)) c is = let same : c ≡ d = cc in ap (λ x. Some (Some x)) (sym same)
-
-pub said_no_word : (o : Option (Option Command)) → readings.Unknown ≡ reading_of o → o ≡ None
-said_no_word None is = refl
-said_no_word (Some None) is = cc
-said_no_word (Some (Some c)) is = cc
+pub too_long : (which : Which) (bytes written : List ℕ) → IsRunFull which bytes written → IsShort (journal_of (scenario_of bytes).commands) → ⊥
+too_long which bytes written run short =
+    let stopped = run.cut.2 in
+    let more = journal_more (run.done ++ run.command ∷ []) run.next.rest in
+    let all : journal_of (scenario_of bytes).commands ≡ run.journal ++ stopped.line ∷ (stopped.rest ++ more.0) =
+    ap journal_of run.next.is ∙ more.1 ∙ ap (λ ls. ls ++ more.0) (cut_whole which run.done run.command run.journal run.cut) ∙ append_assoc run.journal (stopped.line ∷ stopped.rest) more.0 in
+    passes_all which run.journal (stopped.rest ++ more.0) stopped.line stopped.passes (subst IsShort all short)
 
 -- ---- nothing done
 

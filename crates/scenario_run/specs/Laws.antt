@@ -4,7 +4,8 @@ use Rattle.global_model.specs.declared.command.Command.{Command}
 use Rattle.global_model.specs.Facts.{facts_after}
 use Rattle.global_model.specs.Due.{journal_of, step_lines}
 use Rattle.global_model.specs.History.{do_commands, IsCarried, IsLegal, IsTold, IsWhole}
-use Rattle.global_model.specs.Scenario.{scenario_of, IsPlaced}
+use Rattle.global_model.specs.Place.{IsPlaced}
+use Rattle.scenario_text.specs.Scenario.{scenario_of}
 
 -- the journal of commands
 pub record Laws : Type 0 where

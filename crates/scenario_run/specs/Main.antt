@@ -4,7 +4,8 @@ use Rattle.std.specs.Prelude.{◌≡◌, ◌≤◌, ◌<◌, ◌⊎◌, ◌∷�
 use Rattle.std.specs.Global.{Global}
 use Rattle.std.specs.Io.KnownBytes.{Appends, Consumes, IsAtEnd, Keeps}
 use Rattle.xm_edge.specs.Whole.{GivesAll}
-use Rattle.global_model.specs.Scenario.{scenario_of}
+use Rattle.node_world.specs.declared.world.Which.{Which}
+use Rattle.scenario_text.specs.Scenario.{Ending, scenario_of}
 use Rattle.node_world.specs.World.{WorldView}
 use Rattle.scenario_run.specs.Run.{IsRun, IsRunSoFar, IsRunCut, IsRunFull, HasRun, HasFilled}
 
@@ -16,39 +17,38 @@ most = 4194304
 abbrev pub AsksRun : List (String Global) → Type 0
 AsksRun words = map string_bytes words ≡ codes "run" ∷ []
 
--- The headline. The source was read to its end, each line of the scenario is built, and what was appended to the sink is
+-- The headline. The source was read to its end, no line stops the scenario, and what was appended to the sink is
 -- the text of a lawful history that is whole, whose commands are exactly those of the scenario. That history is the
 -- world's journal, and each step on the world was carried through.
 pub record WritesHistory (left left_new put put_new : Option (List ℕ)) (world : WorldView) : Type 0 where
   pub bytes : List ℕ
   pub read : GivesAll left left_new bytes most
-  pub built : (scenario_of bytes).unbuilt ≡ None
+  pub whole : (scenario_of bytes).ending ≡ None
   pub written : List ℕ
   pub wrote : Appends put put_new written
   pub run : IsRun bytes written
   pub ran : HasRun world run.journal
 
--- The source was read to its end, this is the first line of the scenario that isn't built, and what was appended is the
--- text of the history of the commands before it. That history is the world's journal, and each step on the world was
--- carried through.
-pub record StopsUnbuilt (line : ℕ) (left left_new put put_new : Option (List ℕ)) (world : WorldView) : Type 0 where
+-- The source was read to its end, the scenario ends so at a line, and what was appended is the text of the history of the
+-- commands before it. That history is the world's journal, and each step on the world was carried through.
+pub record StopsAtLine (ending : Ending) (left left_new put put_new : Option (List ℕ)) (world : WorldView) : Type 0 where
   pub bytes : List ℕ
   pub read : GivesAll left left_new bytes most
-  pub unbuilt : (scenario_of bytes).unbuilt ≡ Some line
+  pub stops : (scenario_of bytes).ending ≡ Some ending
   pub written : List ℕ
   pub wrote : Appends put put_new written
   pub run : IsRun bytes written
   pub ran : HasRun world run.journal
 
 -- The source was read to its end, and what was appended is the text of a lawful history of first commands of the
--- scenario, up to the line that would pass the most words. That history is the world's journal.
-pub record StopsFull (left left_new put put_new : Option (List ℕ)) (world : WorldView) : Type 0 where
+-- scenario, up to the line that would pass the limit. That history is the world's journal.
+pub record StopsFull (which : Which) (left left_new put put_new : Option (List ℕ)) (world : WorldView) : Type 0 where
   pub bytes : List ℕ
   pub read : GivesAll left left_new bytes most
   pub written : List ℕ
   pub wrote : Appends put put_new written
-  pub run : IsRunFull bytes written
-  pub filled : HasFilled world run.journal
+  pub run : IsRunFull which bytes written
+  pub filled : HasFilled which world run.journal
 
 -- The source was read to its end, and what was appended is a front of the text of a history of first commands of the
 -- scenario.

@@ -1,6 +1,6 @@
 // Runs with children: their births, what goes over their channels, and what is refused.
 use super::*;
-use crate::tests::{carry_out, plain_row, run_row};
+use crate::tests::{carry_out, plain_row, run_row, syntax};
 use std::alloc::{AllocError, Global};
 use std::test::Fail;
 use xm_edge::{MemSink, MemSource};
@@ -45,17 +45,17 @@ fn children(rt: HostRuntime) -> Result<(), Fail> {
         ),
         plain_row(
             b"pool 4\nhost 1 ns\nboot cokernel under 1 blocks 1\n",
-            Status::Unbuilt { line: 3 },
-            b"do pool 4\ndo host 1 ns\nborn 0 host 0 ns 0\nadmitted 0\n",
+            Status::Ok,
+            b"do pool 4\ndo host 1 ns\nborn 0 host 0 ns 0\nadmitted 0\ndo boot cokernel under 1 blocks 1\nrefused NoEnclave\n",
         ),
         plain_row(
             b"pool 4\nhost 1 ns\nboot cokernel under 0 blocks 1 ns\n",
-            Status::Unbuilt { line: 3 },
-            b"do pool 4\ndo host 1 ns\nborn 0 host 0 ns 0\nadmitted 0\n",
+            Status::Ok,
+            b"do pool 4\ndo host 1 ns\nborn 0 host 0 ns 0\nadmitted 0\ndo boot cokernel under 0 blocks 1 ns\nrefused NameServerTaken\n",
         ),
         plain_row(
             b"pool 4\ndeliver 1 0 1\n",
-            Status::Unbuilt { line: 2 },
+            syntax(2, SyntaxFault::Place),
             b"do pool 4\n",
         ),
     ];

@@ -3,7 +3,7 @@ ghost use Rattle.std.specs.Prelude.{◌≡◌, ◌≤◌, ◌<◌, ◌++◌, ◌
 ghost use Rattle.std.specs.Io.KnownBytes.{Appends};
 ghost use Rattle.xm_edge.specs.Faults.{HasCause, Rose};
 ghost use Rattle.xm_edge.specs.Whole.{AppendsFront};
-ghost use Rattle.global_model.specs.Scenario.{may_stand};
+ghost use Rattle.global_model.specs.Place.{may_stand};
 ghost use Rattle.global_model.specs.Ranges.{IsInRange};
 ghost use Rattle.global_model.specs.History.{do_commands};
 ghost use Rattle.global_model.specs.Spelling.{text_of};

@@ -1,10 +1,11 @@
-// The limit on a journal's words, met exactly and passed.
+// The limit on a journal's words, met exactly and passed, and the most deliveries that boots make.
 ghost use Rattle.std.specs.Prelude.{◌<◌, length, IfOk, None};
 ghost use Rattle.std.specs.Io.{WritesAtMost};
 ghost use Rattle.xm_edge.specs.Faults.{HasCause};
 
 use super::*;
 use node_world::World;
+use scenario_text::digits;
 use std::alloc::{AllocError, Global};
 use std::test::Fail;
 use xm_edge::{MemSource, Sink, WriteFailed};
@@ -64,10 +65,18 @@ fn scenario(alloc: Global, pools: u32, links: u32) -> Result<Vec<u8>, AllocError
     Ok(text)
 }
 
-// How a run ended and what it wrote, and how many lines the world's journal has.
-fn counted(alloc: Global, pools: u32, links: u32) -> Result<(Status, Counter, u64), AllocError> {
+// How a run ended and what it wrote, how many lines the world's journal has, and how many deliveries were made.
+#[derive(Drop)]
+struct End {
+    status: Status,
+    sink: Counter,
+    lines: u64,
+    deliveries: u32,
+}
+
+fn counted(alloc: Global, scenario: Vec<u8>) -> Result<End, AllocError> {
     let words = crate::tests::words(alloc, &["run"])?;
-    let mut source = MemSource::new(scenario(alloc, pools, links)?, Vec::new(alloc));
+    let mut source = MemSource::new(scenario, Vec::new(alloc));
     let mut sink = Counter {
         pieces: 0,
         words: 0,
@@ -77,8 +86,14 @@ fn counted(alloc: Global, pools: u32, links: u32) -> Result<(Status, Counter, u6
     let mut world = World::new(alloc)?;
     let status = xemem_main(alloc, &words, &mut source, &mut sink, &mut world);
     let lines = world.journal().len() as u64;
+    let deliveries = world.deliveries();
     world.close();
-    Ok((status, sink, lines))
+    Ok(End {
+        status,
+        sink,
+        lines,
+        deliveries,
+    })
 }
 
 const LIMIT: Status = Status::Limit {
@@ -90,24 +105,24 @@ const LIMIT: Status = Status::Limit {
 // the blocks 1 to 3635.
 #[test]
 fn ends_before_the_line_that_passes_the_most_words(rt: HostRuntime) -> Result<(), Fail> {
-    let (status, sink, lines) = counted(rt.alloc(), 1365, 0)?;
-    assert_eq!(rt; status, LIMIT);
-    assert_eq!(rt; sink.words, 16_777_215);
-    assert_eq!(rt; sink.last.as_slice(), b"block 3635 free\n".as_slice());
-    assert_eq!(rt; sink.pieces, 4 + 1364 * 4097 + 1 + 3636);
-    assert_eq!(rt; lines, sink.pieces);
+    let end = counted(rt.alloc(), scenario(rt.alloc(), 1365, 0)?)?;
+    assert_eq!(rt; end.status, LIMIT);
+    assert_eq!(rt; end.sink.words, 16_777_215);
+    assert_eq!(rt; end.sink.last.as_slice(), b"block 3635 free\n".as_slice());
+    assert_eq!(rt; end.sink.pieces, 4 + 1364 * 4097 + 1 + 3636);
+    assert_eq!(rt; end.lines, end.sink.pieces);
     Ok(())
 }
 
 // 10913 = 1559 * 7.
 #[test]
 fn takes_exactly_the_most_words(rt: HostRuntime) -> Result<(), Fail> {
-    let (status, sink, lines) = counted(rt.alloc(), 1364, 1559)?;
-    assert_eq!(rt; status, Status::Ok);
-    assert_eq!(rt; sink.words, 16_777_216);
-    assert_eq!(rt; sink.last.as_slice(), b"refused NoLink\n".as_slice());
-    assert_eq!(rt; sink.pieces, 4 + 1364 * 4097 + 1559 * 2);
-    assert_eq!(rt; lines, sink.pieces);
+    let end = counted(rt.alloc(), scenario(rt.alloc(), 1364, 1559)?)?;
+    assert_eq!(rt; end.status, Status::Ok);
+    assert_eq!(rt; end.sink.words, 16_777_216);
+    assert_eq!(rt; end.sink.last.as_slice(), b"refused NoLink\n".as_slice());
+    assert_eq!(rt; end.sink.pieces, 4 + 1364 * 4097 + 1559 * 2);
+    assert_eq!(rt; end.lines, end.sink.pieces);
     Ok(())
 }
 
@@ -116,11 +131,35 @@ fn takes_exactly_the_most_words(rt: HostRuntime) -> Result<(), Fail> {
 fn writes_nothing_of_a_command_that_comes_after_the_most_words(
     rt: HostRuntime,
 ) -> Result<(), Fail> {
-    let (status, sink, lines) = counted(rt.alloc(), 1364, 1560)?;
-    assert_eq!(rt; status, LIMIT);
-    assert_eq!(rt; sink.words, 16_777_216);
-    assert_eq!(rt; sink.last.as_slice(), b"refused NoLink\n".as_slice());
-    assert_eq!(rt; sink.pieces, 4 + 1364 * 4097 + 1559 * 2);
-    assert_eq!(rt; lines, sink.pieces);
+    let end = counted(rt.alloc(), scenario(rt.alloc(), 1364, 1560)?)?;
+    assert_eq!(rt; end.status, LIMIT);
+    assert_eq!(rt; end.sink.words, 16_777_216);
+    assert_eq!(rt; end.sink.last.as_slice(), b"refused NoLink\n".as_slice());
+    assert_eq!(rt; end.sink.pieces, 4 + 1364 * 4097 + 1559 * 2);
+    assert_eq!(rt; end.lines, end.sink.pieces);
+    Ok(())
+}
+
+// A chain of enclaves, each found over all those before it.
+fn chain(alloc: Global, last: u32) -> Result<Vec<u8>, AllocError> {
+    let mut text = Vec::from_slice(alloc, b"pool 256\nhost 1 ns\n")?;
+    for parent in 0..last {
+        text.extend_from_slice(b"boot cokernel under ")?;
+        digits(&mut text, u64::from(parent))?;
+        text.extend_from_slice(b" blocks 1\nsettle 10000\n")?;
+    }
+    Ok(text)
+}
+
+// The boot of enclave e takes 2 e + 2 deliveries: the sum from 1 to 255. No boots make as many as the limit.
+#[test]
+fn finds_a_chain_of_256_enclaves(rt: HostRuntime) -> Result<(), Fail> {
+    let end = counted(rt.alloc(), chain(rt.alloc(), 255)?)?;
+    assert_eq!(rt; end.status, Status::Ok);
+    assert_eq!(rt; end.deliveries, 65_790);
+    assert_eq!(rt; end.sink.last.as_slice(), b"settled 512\n".as_slice());
+    assert_eq!(rt; end.sink.words, 1_188_060);
+    assert_eq!(rt; end.sink.pieces, 264_184);
+    assert_eq!(rt; end.lines, end.sink.pieces);
     Ok(())
 }

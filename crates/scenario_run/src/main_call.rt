@@ -2,11 +2,11 @@
 ghost use Rattle.std.specs.Prelude.{◌≡◌, ◌≤◌, ◌↔◌, ◌⊎◌, ℕ, List, length, None, Some, IsTrue};
 ghost use Rattle.std.specs.Io.KnownBytes.{Keeps};
 ghost use Rattle.xm_edge.specs.Faults.{Rose};
-ghost use Rattle.global_model.specs.Scenario.{scenario_of};
-ghost use Rattle.global_model.specs.Spelling.{words_in};
+ghost use Rattle.scenario_text.specs.Scenario.{TooMany, TooLong, Faulty, Unbuilt, most_lines, most_line_bytes, scenario_of};
 ghost use Rattle.global_model.specs.Due.{journal_of};
-ghost use Rattle.node_world.specs.World.{no_world, most_words};
-ghost use Rattle.scenario_run.specs.Main.{most, AsksRun, WritesHistory, StopsUnbuilt, StopsFull, StopsWriting, StopsForMemory, StopsAtLimit, StopsReading};
+ghost use Rattle.node_world.specs.World.{IsOfWorlds, IsShort, most_of, no_world};
+ghost use Rattle.scenario_run.specs.Main.{most, AsksRun, WritesHistory, StopsAtLine, StopsFull, StopsWriting, StopsForMemory, StopsAtLimit, StopsReading};
+ghost use Rattle.scenario_run.specs.Run.{ending_status};
 
 use crate::run::run;
 use crate::{Status, Which};
@@ -45,17 +45,25 @@ pub fn xemem_main<S: Source, K: Sink>(
     ensures idle { result ≡ Status.Usage
         → Keeps (S.left source.old) (S.left source.new) × Keeps (K.contents sink.old) (K.contents sink.new) × (world.new ≡ world.old) }
 
-    // The first line that isn't built.
+    // The first line with which something is wrong, or whose command isn't built.
+    ensures syntax { (line : ℕ) (fault : _) → result ≡ Status.Syntax line fault
+        → StopsAtLine (record { line = line; stop = Faulty fault }) (S.left source.old) (S.left source.new) (K.contents sink.old) (K.contents sink.new) world.new }
     ensures unbuilt { (line : ℕ) → result ≡ Status.Unbuilt line
-        → StopsUnbuilt line (S.left source.old) (S.left source.new) (K.contents sink.old) (K.contents sink.new) world.new }
+        → StopsAtLine (record { line = line; stop = Unbuilt }) (S.left source.old) (S.left source.new) (K.contents sink.old) (K.contents sink.new) world.new }
+
+    // The first line that is one too many, or too long.
+    ensures lines { (number : ℕ) → result ≡ Status.Limit Which.Lines number
+        → (number ≡ most_lines) × (line : ℕ) × StopsAtLine (record { line = line; stop = TooMany }) (S.left source.old) (S.left source.new) (K.contents sink.old) (K.contents sink.new) world.new }
+    ensures line_bytes { (number : ℕ) → result ≡ Status.Limit Which.LineBytes number
+        → (number ≡ most_line_bytes) × (line : ℕ) × StopsAtLine (record { line = line; stop = TooLong }) (S.left source.old) (S.left source.new) (K.contents sink.old) (K.contents sink.new) world.new }
 
     // Too many bytes.
     ensures limit { (number : ℕ) → result ≡ Status.Limit Which.Scenario number
         → (number ≡ most) × StopsAtLimit (S.left source.old) (S.left source.new) (K.contents sink.old) (K.contents sink.new) × (world.new ≡ world.old) }
 
-    // A line that would pass the most words.
-    ensures full { (number : ℕ) → result ≡ Status.Limit Which.Words number
-        → (number ≡ most_words) × StopsFull (S.left source.old) (S.left source.new) (K.contents sink.old) (K.contents sink.new) world.new }
+    // A line that would pass the most deliveries or the most words.
+    ensures full { (which : _) (number : ℕ) → IsOfWorlds which → result ≡ Status.Limit which number
+        → (number ≡ most_of which) × StopsFull which (S.left source.old) (S.left source.new) (K.contents sink.old) (K.contents sink.new) world.new }
 
     // A fault of reading or writing comes only where the count of that side rose, and no count falls.
     ensures read_fault { result ≡ Status.ReadFault
@@ -68,11 +76,11 @@ pub fn xemem_main<S: Source, K: Sink>(
     ensures memory { result ≡ Status.Memory
         → StopsForMemory (S.left source.old) (S.left source.new) (K.contents sink.old) (K.contents sink.new) world.old world.new }
 
-    // Where nothing stands against it, the scenario is run to its end, but for want of memory.
+    // Where nothing stands against it, the run ends as the scenario does, but for want of memory.
     ensures complete { (bytes : List ℕ) → AsksRun words.now.items → S.left source.old ≡ Some bytes → length bytes ≤ most
-        → (scenario_of bytes).unbuilt ≡ None → words_in (journal_of (scenario_of bytes).commands) ≤ most_words
+        → IsShort (journal_of (scenario_of bytes).commands)
         → (Rose (S.faults source.old) (S.faults source.new) → ⊥) → (Rose (K.faults sink.old) (K.faults sink.new) → ⊥)
-        → (result ≡ Status.Ok) ⊎ (result ≡ Status.Memory) }
+        → (result ≡ ending_status (scenario_of bytes).ending) ⊎ (result ≡ Status.Memory) }
 {
     if !asks_run(words) {
         return Status::Usage;

@@ -1,7 +1,7 @@
 // Memory of any enclave and process, the pool, and what is refused of them.
 use super::*;
-use crate::print::digits;
 use crate::tests::{carry_out, plain_row, run_row};
+use scenario_text::digits;
 use std::alloc::{AllocError, Global};
 use std::process::Abort;
 use std::test::Fail;
@@ -70,8 +70,9 @@ fn refuses_the_host(rt: HostRuntime) -> Result<(), Fail> {
     Ok(())
 }
 
+// Each command with an enclave; a settle finds nothing.
 #[test]
-fn refuses_all_where_no_enclave_lives(rt: HostRuntime) -> Result<(), Fail> {
+fn refuses_all_after_a_refused_host(rt: HostRuntime) -> Result<(), Fail> {
     for command in [
         "boot cokernel under 0 blocks 1",
         "boot cokernel under 0 blocks 4096",
@@ -83,10 +84,17 @@ fn refuses_all_where_no_enclave_lives(rt: HostRuntime) -> Result<(), Fail> {
         "deliver 1 0 1",
         "show link 0 0",
         "show link 0 1",
+        "show routes 0",
         "show pool",
     ] {
         refuse(&rt, rt.alloc(), NO_HOST, command, "NoEnclave")?;
     }
+    let settles = plain_row(
+        b"pool 1\nhost 2 ns\nsettle 0\nsettle 9\n",
+        Status::Ok,
+        b"do pool 1\ndo host 2 ns\nrefused NoBlocks\ndo settle 0\nsettled 0\ndo settle 9\nsettled 0\n",
+    );
+    run_row(&rt, rt.alloc(), &settles)?;
     Ok(())
 }
 
@@ -95,6 +103,10 @@ fn refuses_all_where_no_enclave_lives(rt: HostRuntime) -> Result<(), Fail> {
 fn refuses_by_the_first_condition_that_holds(rt: HostRuntime) -> Result<(), Fail> {
     for (command, cause) in [
         ("boot cokernel under 0 blocks 2", "NoBlocks"),
+        ("boot cokernel under 1 blocks 2", "NoBlocks"),
+        ("boot cokernel under 0 blocks 2 ns", "NameServerTaken"),
+        ("boot cokernel under 2 blocks 2 ns", "NoEnclave"),
+        ("boot cokernel under 65534 blocks 1", "NoEnclave"),
         ("proc 2 1 1", "NoEnclave"),
         ("proc 65534 1 1", "NoEnclave"),
         ("alloc 2 9 16777215 4096", "NoEnclave"),
@@ -134,6 +146,8 @@ fn refuses_by_the_first_condition_that_holds(rt: HostRuntime) -> Result<(), Fail
         ("show link 2 2", "NoEnclave"),
         ("show link 0 0", "NoLink"),
         ("show link 1 1", "NoLink"),
+        ("show routes 2", "NoEnclave"),
+        ("show routes 65534", "NoEnclave"),
     ] {
         refuse(&rt, rt.alloc(), TWO, command, cause)?;
     }

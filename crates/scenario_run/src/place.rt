@@ -1,23 +1,20 @@
-// Where a command may stand.
+// Which commands are built.
 ghost use Rattle.std.specs.Prelude.{◌≡◌};
-ghost use Rattle.global_model.specs.Scenario as spec;
+ghost use Rattle.global_model.specs.Place as spec;
 
 use global_model::Command;
 use xm_num::Kind;
 
-/// Whether a command may stand after so many others.
-pub fn may_stand(before: u32, command: &Command) -> bool
-    ensures { result ≡ spec.may_stand before command.now }
+/// Whether the command's form is built.
+pub fn is_built(command: &Command) -> bool
+    ensures { result ≡ spec.is_built command.now }
 {
     match command {
-        Command::Pool { .. } => before == 0,
-        Command::Host { ns, .. } => before == 1 && *ns,
-        Command::Boot {
-            kind,
-            parent,
-            ns,
-            ..
-        } => before >= 2 && *kind == Kind::Cokernel && parent.0 == 0 && !*ns,
-        _ => before >= 2,
+        Command::Boot { kind, .. } => *kind == Kind::Cokernel,
+        Command::Pool { .. } | Command::Host { .. } | Command::Proc { .. } => true,
+        Command::Alloc { .. } | Command::Touch { .. } => true,
+        Command::Deliver { .. } | Command::Settle { .. } => true,
+        Command::ShowRoutes { .. } | Command::ShowLink { .. } | Command::ShowPool => true,
+        _ => false,
     }
 }

@@ -38,6 +38,10 @@ pub fn plain_row<'a>(scenario: &'a [u8], status: Status, journal: &'a [u8]) -> R
     }
 }
 
+pub fn syntax(line: u32, fault: SyntaxFault) -> Status {
+    Status::Syntax { line, fault }
+}
+
 pub fn words(alloc: Global, texts: &[&str]) -> Result<Vec<String>, AllocError> {
     let mut words = Vec::new(alloc);
     for text in texts {
@@ -88,6 +92,11 @@ fn journals(rt: HostRuntime) -> Result<(), Fail> {
         plain_row(b"# nothing is done here", Status::Ok, b""),
         plain_row(b"\n \t\n", Status::Ok, b""),
         plain_row(
+            b"# one\n\npool 2\nhost 1\n",
+            Status::Ok,
+            b"do pool 2\ndo host 1\nborn 0 host 0 - 0\n",
+        ),
+        plain_row(
             b"pool 4\nhost 2 ns\nproc 0 1 2\nalloc 0 1 16777215 1\nalloc 0 1 1 3\nalloc 0 1 4 1\ntouch 0 1 68719476735 r\ntouch 0 1 68719476736 r\ntouch 0 1 18446744073709551615 w\nalloc 0 1 3 1\ntouch 0 1 12288 w",
             Status::Ok,
             b"do pool 4\ndo host 2 ns\nborn 0 host 0 ns 0 1\nadmitted 0\ndo proc 0 1 2\nproc 0 1 1 2\ndo alloc 0 1 16777215 1\nalloc 0 1 16777215 0\ndo alloc 0 1 1 3\nalloc 0 1 1 1 2 3\ndo alloc 0 1 4 1\nalloc 0 1 4 4\ndo touch 0 1 68719476735 r\ntouched 0 1 16777215 0\ndo touch 0 1 68719476736 r\nrefused NotMapped\ndo touch 0 1 18446744073709551615 w\nrefused NotMapped\ndo alloc 0 1 3 1\nrefused Taken\ndo touch 0 1 12288 w\ntouched 0 1 3 3\n",
@@ -123,57 +132,34 @@ fn faults_and_limits(rt: HostRuntime) -> Result<(), Fail> {
             failing_puts: &[11],
             ..plain_row(SMALLEST, Status::Ok, SMALLEST_JOURNAL)
         },
-        plain_row(b"host 1 ns\n", Status::Unbuilt { line: 1 }, b""),
+        plain_row(b"host 1 ns\n", syntax(1, SyntaxFault::Place), b""),
         plain_row(
-            b"# one\n\npool 2\nhost 1\n",
-            Status::Unbuilt { line: 4 },
+            b"# one\n\npool 2\nhost x\n",
+            syntax(4, SyntaxFault::Number(1)),
             first,
         ),
-        plain_row(b"pool 2\nproc 0 1 1\n", Status::Unbuilt { line: 2 }, first),
-        plain_row(b"pool 2\nshow pool\n", Status::Unbuilt { line: 2 }, first),
-        plain_row(b"show pool\n", Status::Unbuilt { line: 1 }, b""),
+        plain_row(
+            b"pool 2\nproc 0 1 1\n",
+            syntax(2, SyntaxFault::Place),
+            first,
+        ),
+        plain_row(b"pool 2\nshow pool\n", syntax(2, SyntaxFault::Place), first),
+        plain_row(b"show pool\n", syntax(1, SyntaxFault::Place), b""),
         plain_row(
             b"pool 2\nhost 3 ns\nhost 1 ns\n",
-            Status::Unbuilt { line: 3 },
+            syntax(3, SyntaxFault::Place),
             b"do pool 2\ndo host 3 ns\nrefused NoBlocks\n",
         ),
-        plain_row(b"pool 2\npool 2\n", Status::Unbuilt { line: 2 }, first),
+        plain_row(b"pool 2\npool 2\n", syntax(2, SyntaxFault::Place), first),
         plain_row(
             b"pool 2\nhost 1 ns now\n",
-            Status::Unbuilt { line: 2 },
+            syntax(2, SyntaxFault::Count),
             first,
         ),
-        plain_row(b"pool 02\n", Status::Unbuilt { line: 1 }, b""),
+        plain_row(b"pool 02\n", syntax(1, SyntaxFault::Number(1)), b""),
     ];
     for row in &rows {
         run_row(&rt, rt.alloc(), row)?;
-    }
-    Ok(())
-}
-
-// So many line feeds.
-fn line_feeds(alloc: Global, count: u32) -> Result<Vec<u8>, AllocError> {
-    let mut bytes = Vec::new(alloc);
-    for _ in 0..count {
-        bytes.push(b'\n')?;
-    }
-    Ok(bytes)
-}
-
-#[test]
-fn the_longest_scenario(rt: HostRuntime) -> Result<(), Fail> {
-    let alloc = rt.alloc();
-    let limit = Status::Limit {
-        which: Which::Scenario,
-        number: 4_194_304,
-    };
-    for (count, status) in [(4_194_304, Status::Ok), (4_194_305, limit)] {
-        let mut source = MemSource::new(line_feeds(alloc, count)?, Vec::new(alloc));
-        let mut sink = MemSink::new(alloc, 16, Vec::new(alloc))?;
-        let (ended, journal) = carry_out(alloc, &["run"], &mut source, &mut sink)?;
-        assert_eq!(rt; ended, status);
-        assert_eq!(rt; sink.bytes().len(), 0);
-        assert_eq!(rt; journal.len(), 0);
     }
     Ok(())
 }

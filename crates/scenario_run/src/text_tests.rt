@@ -1,66 +1,65 @@
-// The forms at the ends of their ranges, and the texts of all lines and statuses.
+// The forms at the ends of their ranges, and the texts of all lines.
 use crate::print::print_lines;
-use crate::read::{Reading, first_line, read_line};
-use crate::{Status, Which, exit_number, status_text};
 use global_model::{ByteList, Command, Line};
+use scenario_text::{SyntaxFault, first_line, read_command};
 use std::alloc::{AllocError, Global};
 use xemem_wire::{Body, Record};
 use xm_num::{Block, BlockList, Cause, Enclave, Frame, FrameList, Kind, Pid, Vpn, Want};
 
-fn pool(blocks: u16) -> Reading {
-    Reading::Command(Command::Pool { blocks })
+fn pool(blocks: u16) -> Command {
+    Command::Pool { blocks }
 }
 
-fn host(blocks: u16, ns: bool) -> Reading {
-    Reading::Command(Command::Host { blocks, ns })
+fn host(blocks: u16, ns: bool) -> Command {
+    Command::Host { blocks, ns }
 }
 
-fn proc(enclave: u16, uid: u32, gid: u32) -> Reading {
+fn proc(enclave: u16, uid: u32, gid: u32) -> Command {
     let enclave = Enclave(enclave);
-    Reading::Command(Command::Proc { enclave, uid, gid })
+    Command::Proc { enclave, uid, gid }
 }
 
-fn alloc(enclave: u16, pid: u32, at: u32, pages: u32) -> Reading {
-    Reading::Command(Command::Alloc {
+fn alloc(enclave: u16, pid: u32, at: u32, pages: u32) -> Command {
+    Command::Alloc {
         enclave: Enclave(enclave),
         pid: Pid(pid),
         at: Vpn(at),
         pages,
-    })
+    }
 }
 
-fn touch(enclave: u16, pid: u32, addr: u64, want: Want) -> Reading {
-    Reading::Command(Command::Touch {
+fn touch(enclave: u16, pid: u32, addr: u64, want: Want) -> Command {
+    Command::Touch {
         enclave: Enclave(enclave),
         pid: Pid(pid),
         addr,
         want,
-    })
+    }
 }
 
-fn boot(kind: Kind, parent: u16, blocks: u16, ns: bool) -> Reading {
+fn boot(kind: Kind, parent: u16, blocks: u16, ns: bool) -> Command {
     let parent = Enclave(parent);
-    Reading::Command(Command::Boot {
+    Command::Boot {
         kind,
         parent,
         blocks,
         ns,
-    })
+    }
 }
 
-fn deliver(from: u16, to: u16, count: u32) -> Reading {
+fn deliver(from: u16, to: u16, count: u32) -> Command {
     let (from, to) = (Enclave(from), Enclave(to));
-    Reading::Command(Command::Deliver { from, to, count })
+    Command::Deliver { from, to, count }
 }
 
-fn show_link(from: u16, to: u16) -> Reading {
+fn show_link(from: u16, to: u16) -> Command {
     let (from, to) = (Enclave(from), Enclave(to));
-    Reading::Command(Command::ShowLink { from, to })
+    Command::ShowLink { from, to }
 }
 
 #[test]
 fn reads_each_form_within_its_ranges(rt: HostRuntime) {
-    for (line, reading) in [
+    for (line, command) in [
         ("pool 1", pool(1)),
         ("pool 4096", pool(4096)),
         ("host 1", host(1, false)),
@@ -102,104 +101,108 @@ fn reads_each_form_within_its_ranges(rt: HostRuntime) {
         ("show link 0 0", show_link(0, 0)),
         ("show link 65534 65534", show_link(65_534, 65_534)),
         ("show link 1 2", show_link(1, 2)),
-        ("show pool", Reading::Command(Command::ShowPool)),
-        ("\tshow\t pool ", Reading::Command(Command::ShowPool)),
+        ("show pool", Command::ShowPool),
+        ("\tshow\t pool ", Command::ShowPool),
         (" \t pool\t\t 7 \t", pool(7)),
     ] {
-        assert_eq!(rt; read_line(line.as_bytes()), reading, "of {line}");
+        assert_eq!(rt;
+            read_command(line.as_bytes()),
+            Ok(Some(command)),
+            "of {line}"
+        );
     }
 }
 
 #[test]
 fn takes_nothing_else_for_a_command(rt: HostRuntime) {
-    for line in [
-        "pool 0",
-        "pool 4097",
-        "host 0",
-        "host 4097",
-        "host 0 ns",
-        "host 4097 ns",
-        "proc 65535 0 0",
-        "proc 0 4294967296 0",
-        "proc 0 0 4294967296",
-        "alloc 65535 1 1 1",
-        "alloc 0 4294967296 1 1",
-        "alloc 0 1 0 1",
-        "alloc 0 1 16777216 1",
-        "alloc 0 1 1 0",
-        "alloc 0 1 1 4097",
-        "touch 65535 1 0 r",
-        "touch 0 4294967296 0 r",
-        "touch 0 1 18446744073709551616 r",
-        "touch 0 1 0 x",
-        "touch 0 1 0 rw",
-        "boot host under 0 blocks 1",
-        "boot VM under 0 blocks 1",
-        "boot vm under 65535 blocks 1",
-        "boot vm under -1 blocks 1",
-        "boot vm under 0 blocks 0",
-        "boot vm under 0 blocks 4097",
-        "boot vm under 65535 blocks 1 ns",
-        "boot vm under 0 blocks 0 ns",
-        "boot vm under 0 blocks 4097 ns",
-        "boot vm unde 0 blocks 1",
-        "boot vm under 0 block 1",
-        "boot vm blocks 0 under 1",
-        "boot vm unde 0 blocks 1 ns",
-        "boot vm under 0 block 1 ns",
-        "boot vm under 0 blocks 1 NS",
-        "boot vm under 0 blocks 1 -",
-        "boot vm under 0 blocks 1 ns ns",
-        "boot vm under 0 blocks",
-        "boot vm under 0",
-        "deliver 65535 0 1",
-        "deliver -1 0 1",
-        "deliver 0 65535 1",
-        "deliver 0 -1 1",
-        "deliver 0 0 0",
-        "deliver 0 0 4294967296",
-        "deliver 0 0",
-        "deliver 0 0 1 1",
-        "show link 65535 0",
-        "show link -1 0",
-        "show link 0 65535",
-        "show link 0 -1",
-        "show links 0 0",
-        "show link 0",
-        "show link 0 0 0",
-        "show",
-        "show link",
-        "show pools",
-        "show Pool",
-        "show pool 0",
-        "pool show",
-        "shows pool",
-        "pool 01",
-        "pool 00",
-        "proc 00 0 0",
-        "pool +1",
-        "pool -1",
-        "pool 1\r",
-        "pool 0x1",
-        "pool",
-        "pool 1 1",
-        "host",
-        "host 1 NS",
-        "host 1 ns ns",
-        "proc 0 0",
-        "proc 0 0 0 0",
-        "alloc 0 1 1",
-        "alloc 0 1 1 1 1",
-        "touch 0 1 0",
-        "touch 0 1 0 r r",
-        "Pool 1",
-        "boot 1",
-        "pool #1",
-        "pool é",
-        "é",
-        "a b c d e f g h i j",
+    for (line, fault) in [
+        ("pool 0", SyntaxFault::Number(1)),
+        ("pool 4097", SyntaxFault::Number(1)),
+        ("host 0", SyntaxFault::Number(1)),
+        ("host 4097", SyntaxFault::Number(1)),
+        ("host 0 ns", SyntaxFault::Number(1)),
+        ("host 4097 ns", SyntaxFault::Number(1)),
+        ("proc 65535 0 0", SyntaxFault::Number(1)),
+        ("proc 0 4294967296 0", SyntaxFault::Number(2)),
+        ("proc 0 0 4294967296", SyntaxFault::Number(3)),
+        ("alloc 65535 1 1 1", SyntaxFault::Number(1)),
+        ("alloc 0 4294967296 1 1", SyntaxFault::Number(2)),
+        ("alloc 0 1 0 1", SyntaxFault::Number(3)),
+        ("alloc 0 1 16777216 1", SyntaxFault::Number(3)),
+        ("alloc 0 1 1 0", SyntaxFault::Number(4)),
+        ("alloc 0 1 1 4097", SyntaxFault::Number(4)),
+        ("touch 65535 1 0 r", SyntaxFault::Number(1)),
+        ("touch 0 4294967296 0 r", SyntaxFault::Number(2)),
+        ("touch 0 1 18446744073709551616 r", SyntaxFault::Number(3)),
+        ("touch 0 1 0 x", SyntaxFault::Keyword(4)),
+        ("touch 0 1 0 rw", SyntaxFault::Keyword(4)),
+        ("boot host under 0 blocks 1", SyntaxFault::Keyword(1)),
+        ("boot VM under 0 blocks 1", SyntaxFault::Keyword(1)),
+        ("boot vm under 65535 blocks 1", SyntaxFault::Number(3)),
+        ("boot vm under -1 blocks 1", SyntaxFault::Number(3)),
+        ("boot vm under 0 blocks 0", SyntaxFault::Number(5)),
+        ("boot vm under 0 blocks 4097", SyntaxFault::Number(5)),
+        ("boot vm under 65535 blocks 1 ns", SyntaxFault::Number(3)),
+        ("boot vm under 0 blocks 0 ns", SyntaxFault::Number(5)),
+        ("boot vm under 0 blocks 4097 ns", SyntaxFault::Number(5)),
+        ("boot vm unde 0 blocks 1", SyntaxFault::Keyword(2)),
+        ("boot vm under 0 block 1", SyntaxFault::Keyword(4)),
+        ("boot vm blocks 0 under 1", SyntaxFault::Keyword(2)),
+        ("boot vm unde 0 blocks 1 ns", SyntaxFault::Keyword(2)),
+        ("boot vm under 0 block 1 ns", SyntaxFault::Keyword(4)),
+        ("boot vm under 0 blocks 1 NS", SyntaxFault::Keyword(6)),
+        ("boot vm under 0 blocks 1 -", SyntaxFault::Keyword(6)),
+        ("boot vm under 0 blocks 1 ns ns", SyntaxFault::Count),
+        ("boot vm under 0 blocks", SyntaxFault::Count),
+        ("boot vm under 0", SyntaxFault::Count),
+        ("deliver 65535 0 1", SyntaxFault::Number(1)),
+        ("deliver -1 0 1", SyntaxFault::Number(1)),
+        ("deliver 0 65535 1", SyntaxFault::Number(2)),
+        ("deliver 0 -1 1", SyntaxFault::Number(2)),
+        ("deliver 0 0 0", SyntaxFault::Number(3)),
+        ("deliver 0 0 4294967296", SyntaxFault::Number(3)),
+        ("deliver 0 0", SyntaxFault::Count),
+        ("deliver 0 0 1 1", SyntaxFault::Count),
+        ("show link 65535 0", SyntaxFault::Number(2)),
+        ("show link -1 0", SyntaxFault::Number(2)),
+        ("show link 0 65535", SyntaxFault::Number(3)),
+        ("show link 0 -1", SyntaxFault::Number(3)),
+        ("show links 0 0", SyntaxFault::Keyword(1)),
+        ("show link 0", SyntaxFault::Keyword(1)),
+        ("show link 0 0 0", SyntaxFault::Count),
+        ("show", SyntaxFault::Count),
+        ("show link", SyntaxFault::Keyword(1)),
+        ("show pools", SyntaxFault::Keyword(1)),
+        ("show Pool", SyntaxFault::Keyword(1)),
+        ("show pool 0", SyntaxFault::Keyword(1)),
+        ("pool show", SyntaxFault::Number(1)),
+        ("shows pool", SyntaxFault::Word),
+        ("pool 01", SyntaxFault::Number(1)),
+        ("pool 00", SyntaxFault::Number(1)),
+        ("proc 00 0 0", SyntaxFault::Number(1)),
+        ("pool +1", SyntaxFault::Number(1)),
+        ("pool -1", SyntaxFault::Number(1)),
+        ("pool 1\r", SyntaxFault::Number(1)),
+        ("pool 0x1", SyntaxFault::Number(1)),
+        ("pool", SyntaxFault::Count),
+        ("pool 1 1", SyntaxFault::Count),
+        ("host", SyntaxFault::Count),
+        ("host 1 NS", SyntaxFault::Keyword(2)),
+        ("host 1 ns ns", SyntaxFault::Count),
+        ("proc 0 0", SyntaxFault::Count),
+        ("proc 0 0 0 0", SyntaxFault::Count),
+        ("alloc 0 1 1", SyntaxFault::Count),
+        ("alloc 0 1 1 1 1", SyntaxFault::Count),
+        ("touch 0 1 0", SyntaxFault::Count),
+        ("touch 0 1 0 r r", SyntaxFault::Count),
+        ("Pool 1", SyntaxFault::Word),
+        ("boot 1", SyntaxFault::Count),
+        ("pool #1", SyntaxFault::Number(1)),
+        ("pool é", SyntaxFault::Number(1)),
+        ("é", SyntaxFault::Word),
+        ("a b c d e f g h i j", SyntaxFault::Word),
     ] {
-        assert_eq!(rt; read_line(line.as_bytes()), Reading::Unknown, "of {line}");
+        assert_eq!(rt; read_command(line.as_bytes()), Err(fault), "of {line}");
     }
 }
 
@@ -213,7 +216,7 @@ fn takes_a_line_for_a_comment_by_its_first_byte(rt: HostRuntime) {
         "#pool 1",
         "# a b c d e f g h i j",
     ] {
-        assert_eq!(rt; read_line(line.as_bytes()), Reading::Comment, "of {line}");
+        assert_eq!(rt; read_command(line.as_bytes()), Ok(None), "of {line}");
     }
 }
 
@@ -529,50 +532,6 @@ fn spells_each_cause(rt: HostRuntime) -> Result<(), AllocError> {
             printed(rt.alloc(), &[Line::Refused { cause }])?.as_slice(),
             want.as_bytes()
         );
-    }
-    Ok(())
-}
-
-#[test]
-fn numbers_and_spells_each_status(rt: HostRuntime) -> Result<(), AllocError> {
-    for (status, number, want) in [
-        (Status::Ok, 0, ">"),
-        (
-            Status::Usage,
-            1,
-            ">usage: xemem run | xemem load SEED CALLS",
-        ),
-        (Status::ReadFault, 3, ">read fault"),
-        (Status::WriteFault, 4, ">write fault"),
-        (
-            Status::Limit {
-                which: Which::Scenario,
-                number: 4_194_304,
-            },
-            5,
-            ">limit Scenario 4194304",
-        ),
-        (
-            Status::Limit {
-                which: Which::Words,
-                number: 16_777_216,
-            },
-            5,
-            ">limit Words 16777216",
-        ),
-        (Status::Memory, 6, ">out of memory"),
-        (
-            Status::Unbuilt {
-                line: 4_294_967_295,
-            },
-            8,
-            ">line 4294967295: not built yet",
-        ),
-    ] {
-        let mut out = Vec::from_slice(rt.alloc(), b">")?;
-        status_text(&status, &mut out)?;
-        assert_eq!(rt; out.as_slice(), want.as_bytes());
-        assert_eq!(rt; exit_number(&status), number);
     }
     Ok(())
 }

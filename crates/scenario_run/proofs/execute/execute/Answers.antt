@@ -22,7 +22,7 @@ returns-in-Ok-clause-failed g c =
 pub write_from-requires-in-Err-Limit : goal.write_from-requires-in-Err-Limit
 write_from-requires-in-Err-Limit g c =
     let cut = (c.in-Err-Limit.ensures.limit _ _ (ap Err c.in-Err-Limit.field-0-is)).3 c.requires.going.going in
-    rw (c.len-before.ensures, c.journal.ensures, c.journal-in-Err-Limit.ensures) (cut_length c.laws.ensures c.args.world.now c.step.new.self c.args.command.now c.requires.going cut)
+    rw (c.len-before.ensures, c.journal.ensures, c.journal-in-Err-Limit.ensures) (cut_length c.args.world.now c.step.new.self _ c.args.command.now c.requires.going cut)
 
 pub returns-in_err-write_from-in-Err-Limit-clause-failed :
     goal.returns-in_err-write_from-in-Err-Limit-clause-failed
@@ -30,7 +30,7 @@ returns-in_err-write_from-in-Err-Limit-clause-failed g c =
     let cut = (c.in-Err-Limit.ensures.limit _ _ (ap Err c.in-Err-Limit.field-0-is)).3 c.requires.going.going in
     let left = rw (c.len-before.ensures, c.journal.ensures, c.journal-in-Err-Limit.ensures) at c.in_err-write_from-in-Err-Limit.ensures.failed in
     let p = err_from_is_err_and c.from_residual.result c.from_residual.ensures.1 in
-    rw (p.1, p.2) (cut_leaves c.laws.ensures c.args.world.now c.step.new.self c.args.command.now _ _ c.requires.going cut _ left)
+    rw (p.1, p.2) (cut_leaves c.args.world.now c.step.new.self _ c.args.command.now _ _ c.requires.going cut _ left)
 
 pub returns-in_ok-write_from-in-Err-Limit-clause-failed :
     goal.returns-in_ok-write_from-in-Err-Limit-clause-failed
@@ -38,4 +38,4 @@ returns-in_ok-write_from-in-Err-Limit-clause-failed g c =
     let limit = c.in-Err-Limit.ensures.limit _ _ (ap Err c.in-Err-Limit.field-0-is) in
     let cut = limit.3 c.requires.going.going in
     let wrote = rw (c.len-before.ensures, c.journal.ensures, c.journal-in-Err-Limit.ensures) at c.in_ok-write_from-in-Err-Limit.ensures.written in
-    record { words = limit.0; most = limit.1; full = limit.2; cut = cut; wrote = cut_writes c.laws.ensures c.args.world.now c.step.new.self c.args.command.now _ _ c.requires.going cut wrote }
+    record { limit = limit.0; most = limit.1; full = limit.2; cut = cut; wrote = cut_writes c.args.world.now c.step.new.self _ c.args.command.now _ _ c.requires.going cut wrote }

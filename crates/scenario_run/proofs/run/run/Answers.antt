@@ -1,34 +1,29 @@
-use Rattle.std.proofs.Common.{◌∙◌, Err, sym, ap, arith}
+use Rattle.std.proofs.Common.{◌≡◌, ◌∙◌, None, Ok, sym, ap, arith}
 use Rattle.std.proofs.lemmas.Bool.{eqb-true}
 use Rattle.std.proofs.lemmas.List.{nil_from_length}
-use Rattle.global_model.specs.Scenario.{line_command}
-use Rattle.scenario_run.proofs.RunLemmas.{next_command, next_in_range, said_nothing, said_something, said_no_word, so_far-comment, so_far-command, leaves_unknown, leaves_early, leaves_ok, leaves_fault, was_write}
+use Rattle.scenario_run.proofs.RunLemmas.{next_command, next_placed, said_found, so_far-comment, so_far-command, leaves_judged, leaves_ok, leaves_fault}
 use Rattle.scenario_run.proofs.run.run.Goals as goal
-use Rattle.scenario_run.proofs.run.run.Goals.{in-Comment, in-Command+else-not-may_stand+in-Ok}
-
-pub returns-in-Unknown-clause-leaves : goal.returns-in-Unknown-clause-leaves
-returns-in-Unknown-clause-leaves g c =
-    leaves_unknown c.laws.ensures _ _ _ _ _ _ c.first_line.result.1.now _ _ c.loop-rest.invariant.so_far c.first_line.ensures.lines (said_no_word _ c.in-Unknown.ensures)
-
-pub returns-then-not-may_stand-clause-leaves : goal.returns-then-not-may_stand-clause-leaves
-returns-then-not-may_stand-clause-leaves g c =
-    let command = said_something (line_command c.first_line.result.0.now) c.in-Command.command c.in-Command.ensures in
-    leaves_early c.laws.ensures _ _ _ _ _ _ c.first_line.result.1.now _ _ _ c.loop-rest.invariant.so_far c.first_line.ensures.lines command (sym c.may_stand.ensures ∙ c.if-not-may_stand.true)
-
-pub execute-requires-clause-range : goal.execute-requires-clause-range
-execute-requires-clause-range g c =
-    let command = said_something (line_command c.first_line.result.0.now) c.in-Command.command c.in-Command.ensures in
-    next_in_range c.laws.ensures _ _ _ _ _ _ (next_command _ _ _ _ _ _ c.first_line.result.1.now _ _ _ c.loop-rest.invariant.so_far c.first_line.ensures.lines command (sym c.may_stand.ensures ∙ c.if-not-may_stand.false))
+use Rattle.scenario_run.proofs.run.run.Goals.{in-Some+in-Ok-execute, in_default}
 
 pub returns-in-Err-clause-leaves : goal.returns-in-Err-clause-leaves
 returns-in-Err-clause-leaves g c =
-    let command = said_something (line_command c.first_line.result.0.now) c.in-Command.command c.in-Command.ensures in
-    let next = next_command _ _ _ _ _ _ c.first_line.result.1.now _ _ _ c.loop-rest.invariant.so_far c.first_line.ensures.lines command (sym c.may_stand.ensures ∙ c.if-not-may_stand.false) in
-    rw c.status_of.ensures (leaves_fault c.laws.ensures _ _ c.execute.new.world _ _ _ _ _ _ _ _ c.loop-rest.invariant.so_far next _ c.in-Err.ensures.failed)
+    leaves_judged c.laws.ensures _ _ _ _ _ _ c.first_line.result.1.now _ _ c.in-Err.status c.loop-rest.invariant.so_far c.first_line.ensures.lines (sym c.in-Err.is ∙ c.judge.ensures)
 
-pub returns-in-Err-clause-write : goal.returns-in-Err-clause-write
-returns-in-Err-clause-write g c =
-    λ is. rw (← c.loop-rest.invariant.faults) (c.execute.ensures.write (c.in-Err.is ∙ ap Err (was_write c.in-Err.fault (sym c.status_of.ensures ∙ is))))
+pub execute-requires-clause-place : goal.execute-requires-clause-place
+execute-requires-clause-place g c =
+    let said = said_found _ _ _ (sym c.in-Ok.is ∙ c.judge.ensures) ∙ ap Ok c.in-Some.is in
+    (next_placed c.laws.ensures _ _ _ _ _ _ (next_command _ _ _ _ _ _ c.first_line.result.1.now _ _ _ c.loop-rest.invariant.so_far c.first_line.ensures.lines said)).0
+
+pub execute-requires-clause-range : goal.execute-requires-clause-range
+execute-requires-clause-range g c =
+    let said = said_found _ _ _ (sym c.in-Ok.is ∙ c.judge.ensures) ∙ ap Ok c.in-Some.is in
+    (next_placed c.laws.ensures _ _ _ _ _ _ (next_command _ _ _ _ _ _ c.first_line.result.1.now _ _ _ c.loop-rest.invariant.so_far c.first_line.ensures.lines said)).1
+
+pub returns-in-Err-execute-clause-leaves : goal.returns-in-Err-execute-clause-leaves
+returns-in-Err-execute-clause-leaves g c =
+    let said = said_found _ _ _ (sym c.in-Ok.is ∙ c.judge.ensures) ∙ ap Ok c.in-Some.is in
+    let next = next_command _ _ _ _ _ _ c.first_line.result.1.now _ _ _ c.loop-rest.invariant.so_far c.first_line.ensures.lines said in
+    rw c.status_of.ensures (leaves_fault c.laws.ensures _ _ c.execute.new.world _ _ _ _ _ _ _ _ c.loop-rest.invariant.so_far next _ c.in-Err-execute.ensures.failed)
 
 pub returns-clause-leaves : goal.returns-clause-leaves
 returns-clause-leaves g c =
@@ -37,21 +32,22 @@ returns-clause-leaves g c =
 pub loop-rest-preserved : goal.loop-rest-preserved
 loop-rest-preserved g c =
     let after = c.first_line.result.1.now in
-    elim c.match-read_line.branch [
-      | in-Comment w ↦
+    elim c.match-said.branch [
+      | in_default w ↦
+          let nothing : c.in-Ok.said ≡ None = search in
           record {
-            so_far = rw (w.sink-is, w.world-is, w.before-is) (so_far-comment _ _ _ _ _ _ after _ _ c.loop-rest.invariant.so_far c.first_line.ensures.lines (said_nothing _ w.in-Comment.ensures));
+            so_far = rw (w.sink-is, w.world-is, w.before-is) (so_far-comment _ _ _ _ _ _ after _ _ c.loop-rest.invariant.so_far c.first_line.ensures.lines (said_found _ _ _ (sym c.in-Ok.is ∙ c.judge.ensures) ∙ ap Ok nothing));
             count = omega (arith, c.first_line.ensures.shorter, c.loop-rest.invariant.count);
             before = omega (arith, w.before-is, c.loop-rest.invariant.before);
             faults = rw w.sink-is c.loop-rest.invariant.faults;
           }
-      | in-Command+else-not-may_stand+in-Ok w ↦
-          let command = said_something (line_command c.first_line.result.0.now) w.in-Command.command w.in-Command.ensures in
-          let next = next_command _ _ _ _ _ _ after _ _ _ c.loop-rest.invariant.so_far c.first_line.ensures.lines command (sym w.may_stand.ensures ∙ w.if-not-may_stand.false) in
+      | in-Some+in-Ok-execute w ↦
+          let said = said_found _ _ _ (sym c.in-Ok.is ∙ c.judge.ensures) ∙ ap Ok w.in-Some.is in
+          let next = next_command _ _ _ _ _ _ after _ _ _ c.loop-rest.invariant.so_far c.first_line.ensures.lines said in
           record {
-            so_far = rw (w.sink-is, w.world-is, w.before-is) (so_far-command _ _ _ _ _ _ _ _ _ _ _ c.loop-rest.invariant.so_far next w.in-Ok.ensures.going w.in-Ok.ensures.commands w.in-Ok.ensures.written);
+            so_far = rw (w.sink-is, w.world-is, w.before-is) (so_far-command _ _ _ _ _ _ _ _ _ _ _ c.loop-rest.invariant.so_far next w.in-Ok-execute.ensures.going w.in-Ok-execute.ensures.commands w.in-Ok-execute.ensures.written);
             count = omega (arith, c.first_line.ensures.shorter, c.loop-rest.invariant.count);
             before = omega (arith, w.before-is, c.loop-rest.invariant.before);
-            faults = rw w.sink-is (w.in-Ok.ensures.kept ∙ c.loop-rest.invariant.faults);
+            faults = rw w.sink-is (w.in-Ok-execute.ensures.kept ∙ c.loop-rest.invariant.faults);
           }
     ]
