@@ -1,11 +1,11 @@
 // The examples of the documents: each is read, and printed again as it stands.
 use crate::{print_line, read_command, read_line};
-use global_model::{Line, words};
+use global_model::{Line, word_count};
 use std::alloc::{AllocError, AllocGlobal};
 use std::process::Abort;
 
 // How many words there are with one space between.
-fn word_count(text: &str) -> usize {
+fn words_in(text: &str) -> usize {
     text.split(' ').count()
 }
 
@@ -142,7 +142,7 @@ fn lines_of_the_documents(rt: HostRuntime) -> Result<(), AllocError> {
             panic!(rt; "{text} is no line");
         };
         is_printed(&rt, &line, "", text)?;
-        assert_eq!(rt; words(&line) as usize, word_count(text), "at {text}");
+        assert_eq!(rt; word_count(&line), words_in(text) as u64, "at {text}");
     }
     Ok(())
 }
