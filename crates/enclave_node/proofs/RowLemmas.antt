@@ -1,6 +1,6 @@
 -- Rows by the next number that has one.
 use Rattle.std.proofs.Common.{◌≡◌, ◌<◌, ◌≤◌, ◌+◌, ◌^◌, ℕ, Bool, true, false, cond, ◌&&◌, ◌||◌, List, [], ◌∷◌, map, filter, Option, None, Some, refl, sym, ap, subst, ◌∙◌, eq-eqb, ne_eqb, arith}
-use Rattle.std.specs.Prelude.{option_map, nat_le, nat_lt, ◌==◌, if◌then◌else◌}
+use Rattle.std.specs.Prelude.{option_map, nat_le, nat_lt, IsSome, ◌==◌, if◌then◌else◌}
 use Rattle.std.specs.List.{AllByRecursion}
 use Rattle.std.specs.List.Sorted.{IsStrictlySortedBy}
 use Rattle.std.specs.Option.{option_map_or}
@@ -13,7 +13,9 @@ use Rattle.std.specs.declared.cmp.Ordering.TheVariants.{Less, Equal, Greater}
 use Rattle.std.proofs.lemmas.Bool.{ltb-false, le-leb, leb-true, lt-leb}
 use Rattle.std.proofs.lemmas.Bool.Decides.{nat_tests}
 use Rattle.xm_num.specs.Rows.{at, put, less, any_between, next_from, IsAscending}
+use Rattle.xm_num.proofs.RunLemmas.{next_is}
 use Rattle.page_table.specs.Spaces.{AreWithin}
+use Rattle.route_learn.specs.Routes.{AreNumbers}
 
 -- the number, where there is one, lies below a limit
 abbrev pub is_below : ℕ → Option ℕ → Bool
@@ -125,6 +127,13 @@ keys_map f (row ∷ rows) = ap (λ ks. row.0 ∷ ks) (keys_map f rows)
 pub ascending_map : {V W : Type 0} (f : V → W) (rows : List (ℕ × V)) → IsAscending rows → IsAscending (map_rows f rows)
 ascending_map f rows ascends = subst (IsStrictlySortedBy nat_cmp) (sym (keys_map f rows)) ascends
 
+pub numbers_map : {V W : Type 0} (f : V → W) (rows : List (ℕ × V)) → AreNumbers rows → AreNumbers (map_rows f rows)
+numbers_map f rows numbers d some = numbers d (by (at rows d) (rw (at_map f rows d) at some))
+  where
+    by : (found : Option _) → IsSome (option_map f found) → IsSome found
+    by None some = cc
+    by (Some value) some = refl
+
 -- ---- rows that are gone through by their numbers
 
 -- the rows from a number on
@@ -199,3 +208,13 @@ next_is_above (row ∷ rows) low k next = by (nat_le low row.0) refl next (next_
     by : (b : Bool) → nat_le low row.0 ≡ b → Some k ≡ cond b (Some row.0) (next_from rows low) → (Some k ≡ next_from rows low → low ≤ k) → low ≤ k
     by true le next more = let same : k ≡ row.0 = cc in let here : low ≤ row.0 = leb-true low row.0 le in omega arith
     by false gt next more = more next
+
+-- no row of numbers of 16 bits lies above them
+pub none_above : {V : Type 0} (rows : List (ℕ × V)) (low : ℕ) → IsAscending rows → AreNumbers rows → 2 ^ 16 ≤ low → rows_from low rows ≡ []
+none_above rows low ascends numbers high = by (next_from rows low) refl
+  where
+    by : (found : Option ℕ) → next_from rows low ≡ found → rows_from low rows ≡ []
+    by None is = none_from rows low (sym is)
+    by (Some k) is =
+        let lowest = (next_is rows low k ascends).0 is in
+        absurd (omega (arith, lowest.from, numbers k lowest.here))

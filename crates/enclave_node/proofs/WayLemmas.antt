@@ -1,17 +1,18 @@
 -- What an enclave learns of ways, by the sides of its neighbours and by their numbers.
-use Rattle.std.proofs.Common.{◌≡◌, ℕ, Bool, true, false, ◌||◌, List, [], ◌∷◌, ◌++◌, Option, None, Some, refl, sym, ap, subst, ◌∙◌}
+use Rattle.std.proofs.Common.{◌≡◌, ◌+◌, ℕ, Bool, true, false, ◌||◌, List, [], ◌∷◌, ◌++◌, Option, None, Some, refl, sym, ap, subst, append_assoc, ◌∙◌}
 use Rattle.std.specs.Prelude.{option_map, not, if◌then◌else◌, Result, Ok, Err, OnOk}
 use Rattle.xm_num.specs.declared.Enclave.{Enclave}
 use Rattle.xm_num.specs.declared.Neighbour.{Neighbour}
 use Rattle.xm_num.specs.Rows.{at, put, less, next_from, IsAscending}
 use Rattle.route_learn.specs.Routes as ways
-use Rattle.route_learn.specs.Routes.{RouteView, place_of}
+use Rattle.route_learn.specs.Routes.{RouteView, place_of, AreNumbers}
+use Rattle.global_model.specs.declared.line.Line.{Line}
 use Rattle.global_model.specs.declared.line.Line.TheVariants as lines
 use Rattle.global_model.specs.Facts.{place_among}
 use Rattle.global_model.specs.View.{View, own_line, own_lines}
 use Rattle.global_model.specs.Steps.{register_of, here_lines, knows_way, told_askers, drop_lines}
-use Rattle.enclave_node.specs.Sides.{enclave_of, side_of, rows_of, with_way, with_route}
-use Rattle.enclave_node.proofs.RowLemmas.{put_map, less_map, at_map, next_map, ascending_map}
+use Rattle.enclave_node.specs.Sides.{enclave_of, side_of, rows_of, with_way, with_route, learned_lines}
+use Rattle.enclave_node.proofs.RowLemmas.{put_map, less_map, at_map, next_map, ascending_map, numbers_map, rows_from, first_of_rows}
 use Rattle.enclave_node.proofs.SideLemmas.{place_same, number_same, known_same, told_kept}
 
 -- a view with what is learned of ways
@@ -106,6 +107,19 @@ route_at v now r k n x is sees looked number =
 
 pub routes_ascend : (v now : View) (r : RouteView) → v ≡ now → v ≡ seen v r → IsAscending r.routes → IsAscending now.routes
 routes_ascend v now r is sees ascends = subst (λ (w : View). IsAscending w.routes) (sym sees ∙ is) (ascending_map (enclave_of v.parent) r.routes ascends)
+
+pub routes_number : (v now : View) (r : RouteView) → v ≡ now → v ≡ seen v r → AreNumbers r.routes → AreNumbers now.routes
+routes_number v now r is sees numbers = subst (λ (w : View). AreNumbers w.routes) (sym sees ∙ is) (numbers_map (enclave_of v.parent) r.routes numbers)
+
+-- the next of the learned routes was told
+pub route_told : (me of over : Enclave) (routes : List (ℕ × Enclave)) (low : ℕ) (out new all : List Line) → IsAscending routes
+    → Some of.0 ≡ next_from routes low → at routes of.0 ≡ Some over → new ≡ out ++ lines.AtRoute me of over ∷ []
+    → out ++ learned_lines me (rows_from low routes) ≡ all → new ++ learned_lines me (rows_from (of.0 + 1) routes) ≡ all
+route_told me of over routes low out new all ascends next found more told =
+    let one = lines.AtRoute me of over ∷ [] in
+    let rest = learned_lines me (rows_from (of.0 + 1) routes) in
+    ap (λ ls. ls ++ rest) more ∙ append_assoc out one rest
+    ∙ ap (λ rows. out ++ learned_lines me rows) (sym (first_of_rows routes low of.0 over ascends next found)) ∙ told
 
 -- ---- the first word of the way
 

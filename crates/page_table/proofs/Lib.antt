@@ -1,4 +1,3 @@
-pub mod Firsts
 pub mod Gaps
 pub mod Within
 pub mod Runs

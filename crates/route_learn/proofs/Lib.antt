@@ -1,3 +1,2 @@
 pub mod AskerLemmas
-pub mod FirstLemmas
 pub mod PastLemmas

@@ -1,5 +1,5 @@
 -- What an enclave knows of ways, and what each call changes of it.
-use Rattle.std.specs.Prelude.{ℕ, ◌+◌, Bool, ◌||◌, List, [], Option, None, Some, is_some, drop, slice_get, option_map, if◌then◌else◌}
+use Rattle.std.specs.Prelude.{ℕ, ◌+◌, ◌<◌, ◌^◌, IsSome, Bool, ◌||◌, List, [], Option, None, Some, is_some, drop, slice_get, option_map, if◌then◌else◌}
 use Rattle.xm_num.specs.declared.Enclave.{Enclave}
 use Rattle.xm_num.specs.declared.Neighbour.{Neighbour}
 use Rattle.xm_num.specs.declared.Neighbour.TheVariants as neighbours
@@ -24,6 +24,10 @@ pub record AreAscending (v : RouteView) : Type 0 where
   pub askers : IsAscending v.askers
   pub back : IsAscending v.back
   pub routes : IsAscending v.routes
+
+-- the numbers of a table have 16 bits
+abbrev pub AreNumbers : {V : Type 0} → List (ℕ × V) → Type 0
+AreNumbers rows = (d : ℕ) → IsSome (at rows d) → d < 2 ^ 16
 
 -- Up comes first, then the children by their numbers
 abbrev pub place_of : Neighbour → ℕ

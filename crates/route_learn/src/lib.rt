@@ -168,6 +168,7 @@ impl Routes {
         ensures next { option_map (λ route. route.0.0) result ≡ rows.next_from self.now.routes from }
         ensures over { IfSome result (λ route. rows.at self.now.routes route.0.0 ≡ Some route.1) }
         ensures ascending { rows.IsAscending self.now.routes }
+        ensures numbers { spec.AreNumbers self.now.routes }
     {
         self.routes.next_from(from)
     }

@@ -1,7 +1,7 @@
 // Neighbours by number, as rows.
 ghost use Rattle.std.specs.Prelude.{◌≡◌, [], drop, slice_get, option_map, IfSome, OnOk, OnErr, Some};
 ghost use Rattle.xm_num.specs.Rows as rows;
-ghost use Rattle.route_learn.specs.Routes.{place_of};
+ghost use Rattle.route_learn.specs.Routes.{place_of, AreNumbers};
 
 use std::alloc::{AllocError, Global};
 use std::collections::BTreeMap;
@@ -74,6 +74,7 @@ impl Askers {
 #[derive(Drop)]
 pub struct Ways {
     rows: BTreeMap<u16, Neighbour>,
+    ghost numbers: { AreNumbers rows.entries },
 }
 
 impl Model for Ways {
@@ -124,6 +125,7 @@ impl Ways {
         ensures next { option_map (λ way. way.0.0) result ≡ rows.next_from self.now low }
         ensures over { IfSome result (λ way. rows.at self.now way.0.0 ≡ Some way.1) }
         ensures ascending { rows.IsAscending self.now }
+        ensures numbers { AreNumbers self.now }
     {
         let (number, over) = self.rows.range(low..).next()?;
         Some((Enclave(*number), *over))

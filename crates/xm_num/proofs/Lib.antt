@@ -1,3 +1,4 @@
 pub mod Tables
 pub mod RowLemmas
 pub mod RunLemmas
+pub mod FirstLemmas

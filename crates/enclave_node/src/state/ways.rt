@@ -1,6 +1,7 @@
 // What an enclave learns of ways, by the numbers of its neighbours.
 ghost use Rattle.std.specs.Prelude.{◌≡◌, [], ◌∷◌, ◌++◌, false, not, if◌then◌else◌, drop, slice_get, option_map, Some, IfSome, IfOk, OnOk};
 ghost use Rattle.xm_num.specs.Rows.{at, next_from, IsAscending};
+ghost use Rattle.route_learn.specs.Routes.{AreNumbers};
 ghost use Rattle.global_model.specs.declared.line.Line.TheVariants as lines;
 ghost use Rattle.global_model.specs.View.{own_line, own_lines};
 ghost use Rattle.global_model.specs.Steps as steps;
@@ -114,26 +115,27 @@ impl<A: AddressSpace> State<A> {
         ensures next { option_map (λ route. route.0.0) result ≡ next_from self.now.routes from }
         ensures over { IfSome result (λ route. at self.now.routes route.0.0 ≡ Some route.1) }
         ensures ascending { IsAscending self.now.routes }
+        ensures numbers { AreNumbers self.now.routes }
     {
         let (of, over) = self.routes.next_route(from)?;
         Some((of, enclave_of(self.parent, over)))
     }
 
-    // Tells the learned routes, ascending. One to an enclave of the last number of 16 bits counts as want of memory.
+    // Tells the learned routes, ascending.
     fn show_learned(&self, out: &mut Lines) -> Result<(), AllocError>
         ensures { OnOk result (out.new ≡ out.old ++ spec.learned_lines self.now.me self.now.routes) }
     {
         let mut number = 0;
         while let Some((of, over)) = self.next_route(number) {
-            if of.0 == u16::MAX {
-                return Err(AllocError);
-            }
             out.push(Line::AtRoute {
                 enclave: self.me,
                 of,
                 over,
             })?;
-            number = of.0 + 1;
+            let Some(behind) = of.0.checked_add(1) else {
+                return Ok(());
+            };
+            number = behind;
         }
         Ok(())
     }
