@@ -1,4 +1,4 @@
-use Rattle.std.proofs.Common.{◌≡◌, ℕ, zero, suc, ◌+◌, ◌-◌, ◌<◌, List, [], ◌∷◌, ◌++◌, length, take, drop, set, refl, sym, ap, arith}
+use Rattle.std.proofs.Common.{◌≡◌, ℕ, zero, suc, ◌-◌, List, [], ◌∷◌, ◌++◌, length, take, drop, refl, sym, ap, arith}
 
 -- `take` and `drop` across the seam of two lists, and across one another
 
@@ -35,14 +35,3 @@ drop-take_less (suc n) zero xs = let e : 0 - suc n ≡ 0 = omega arith in rw e r
 drop-take_less (suc n) (suc m) [] = sym (nothing_taken (suc m - suc n))
 drop-take_less (suc n) (suc m) (x ∷ xs) =
     let e : suc m - suc n ≡ m - n = omega arith in rw e (drop-take_less n m xs)
-
--- one more of the first bytes of a queue is moved
-pub moved_more : (i byte : ℕ) (queue rest into : List ℕ) → drop i queue ≡ byte ∷ rest → i < length into → set (take i queue ++ drop i into) i byte ≡ take (i + 1) queue ++ drop (i + 1) into
-moved_more zero byte [] rest into e h = cc
-moved_more zero byte (b ∷ queue) rest [] e h = absurd (omega arith)
-moved_more zero byte (b ∷ queue) rest (x ∷ into) e h = cc
-moved_more (suc i) byte [] rest into e h = cc
-moved_more (suc i) byte (b ∷ queue) rest [] e h = absurd (omega arith)
-moved_more (suc i) byte (b ∷ queue) rest (x ∷ into) e h =
-    let next : suc i + 1 ≡ suc (i + 1) = omega arith in
-    rw next (ap (λ bytes. b ∷ bytes) (moved_more i byte queue rest into e (omega arith)))

@@ -1,7 +1,5 @@
-use Rattle.std.proofs.Common.{Bor, Option, Some, None, IsSome, IfSome, option_copied, slice_get, inl, inr, ◌≡◌, ℕ, min, ◌-◌, ◌<◌, ◌≤◌, ◌↔◌, Bool, true, false, List, [], ◌∷◌, ◌++◌, length, take, drop, get_or, refl, sym, ap, ◌∙◌, arith}
-use Rattle.std.proofs.lemmas.Bool.{cases_lt}
+use Rattle.std.proofs.Common.{◌≡◌, ℕ, min, ◌-◌, ◌<◌, ◌≤◌, ◌↔◌, Bool, true, false, List, [], ◌∷◌, ◌++◌, length, take, drop, get_or, sym, ap, ◌∙◌, arith}
 use Rattle.std.proofs.lemmas.List.{nil_from_length}
-use Rattle.std.proofs.lemmas.Option.{slice_get_read, slice_get_past}
 use Rattle.byte_link.specs.Channel.{Channel, waiting_bytes, boundary_of, filled, first_bytes, sent, taken, ended_less}
 use Rattle.byte_link.specs.Layout.{pieces_of, shown, lengths_after, IsLaid}
 use Rattle.byte_link.proofs.Rows.{concat-pieces, pieces_push, pieces_after, pieces_before, first_row}
@@ -37,9 +35,3 @@ first_positive ns bs e n laid h k = rw k (laid.positive 0 n h)
 pub none_within : (bs ws : List ℕ) (n r : ℕ) → ws ≡ bs → 0 < n → r ≡ min n (length bs) → (r ≡ 0) ↔ (ws ≡ [])
 none_within bs ws n r w h e =
     (λ z. w ∙ nil_from_length bs (omega arith), λ z. (let none : length bs ≡ 0 = ap length (sym w ∙ z) in omega arith))
-
--- a byte that a queue lends, copied
-pub copied_item : (xs : List ℕ) (i n : ℕ) (r : Option (Bor ℕ)) → n ≡ length xs → (IsSome r ↔ (i < n)) → IfSome r (λ x. x.now ≡ get_or xs i x.now) → option_copied r ≡ slice_get xs i
-copied_item xs i n None long some at =
-    elim (cases_lt i n) [ inl less ↦ (let never = some.1 less in cc) | inr past ↦ sym (slice_get_past xs i (omega arith)) ]
-copied_item xs i n (Some x) long some at = sym (slice_get_read xs n i x.now long (some.0 refl) at)

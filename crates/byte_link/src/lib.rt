@@ -8,15 +8,17 @@
 ghost use Rattle.std.specs.Prelude.{◌≡◌, ◌+◌, ◌-◌, ◌^◌, ◌<◌, ◌≤◌, ◌↔◌, false, [], ◌++◌, length, take, drop, min, slice_get, IfOk, OnOk, OnErr, IsTrue};
 ghost use Rattle.byte_link.specs.Channel.{fresh, waiting_bytes, boundary_of, sent, taken, ended_less, mark_taken, IsAtEnd};
 
+mod bytes;
 mod laws;
 mod queues;
 #[cfg(test)]
 mod tests;
 
+use bytes::Bytes;
 pub use laws::{
     boundaries_end_records, bytes_follow_calls, bytes_leave_in_order, pieces_follow_calls,
 };
-use queues::{append, forget_front, move_front};
+use queues::forget_front;
 use std::alloc::{AllocError, Global};
 use std::collections::VecDeque;
 use std::marker::Model;
@@ -26,7 +28,7 @@ use std::marker::Model;
 /// Contracts see it as a `Channel`: a list of pieces, each what waits of one record, and the two bits of the end mark.
 #[derive(Drop)]
 pub struct Link {
-    bytes: VecDeque<u8>,
+    bytes: Bytes,
     // How much of each record wasn't taken, oldest first. A cut shortens only `bytes`.
     lengths: VecDeque<u32>,
     ended: bool,
@@ -39,9 +41,9 @@ impl Model for Link {
 
     ghost Value = { Channel };
 
-    ghost view = { λ l. shown l.lengths.items l.bytes.items l.ended l.end_taken };
+    ghost view = { λ l. shown l.lengths.items l.bytes l.ended l.end_taken };
 
-    ghost invariant = { λ l. IsLaid l.lengths.items l.bytes.items l.ended };
+    ghost invariant = { λ l. IsLaid l.lengths.items l.bytes l.ended };
 }
 
 impl Link {
@@ -50,7 +52,7 @@ impl Link {
         ensures { IfOk result (λ link. link ≡ fresh) }
     {
         Ok(Link {
-            bytes: VecDeque::new(alloc),
+            bytes: Bytes::new(alloc),
             lengths: VecDeque::new(alloc),
             ended: false,
             end_taken: false,
@@ -65,9 +67,9 @@ impl Link {
         ensures ok { OnOk result (self.new ≡ sent self.old bytes.now) }
         ensures err { OnErr result (self.new ≡ self.old) }
     {
-        self.bytes.reserve(bytes.len())?;
-        self.lengths.push_back(bytes.len() as u32)?;
-        append(&mut self.bytes, bytes);
+        self.lengths.reserve(1)?;
+        self.bytes.append(bytes)?;
+        self.lengths.push_back_reserved(bytes.len() as u32);
         Ok(())
     }
 
@@ -78,7 +80,7 @@ impl Link {
         ensures rest { self.new ≡ taken self.old result }
     {
         let count = into.len().min(self.bytes.len());
-        move_front(&mut self.bytes, into, count);
+        self.bytes.take_front(into, count);
         forget_front(&mut self.lengths, count as u32);
         count
     }
@@ -135,6 +137,6 @@ impl Link {
     pub fn byte(&self, i: u32) -> Option<u8>
         ensures { result ≡ slice_get (waiting_bytes self.now) i }
     {
-        self.bytes.get(i as usize).copied()
+        self.bytes.get(i as usize)
     }
 }

@@ -5,11 +5,8 @@ use Rattle.byte_link.proofs.Link.end.Goals as goal
 pub returns-clause-count : goal.returns-clause-count
 returns-clause-count c =
     let all = ap length (waits _ _ _ _ _ c.self.view_is c.self.invariant) in
-    let long = c.self.inside.bytes.ok.0 in
-    rw all (c.min-count.ensures ∙ ap (λ n. min c.args.cut n) (c.len-waiting.ensures ∙ long))
+    rw all (c.min-count.ensures ∙ ap (λ n. min c.args.cut n) c.len-waiting.ensures)
 
 pub returns-clause-rest : goal.returns-clause-rest
 returns-clause-rest c =
-    let long = c.len-waiting.ensures ∙ c.self.inside.bytes.ok.0 in
-    let step = ended_shown _ _ _ _ _ c.min-count.result c.self.view_is c.self.invariant in
-    rw (c.truncate.ensures.items, long) step
+    rw (c.truncate.ensures, c.len-waiting.ensures) (ended_shown _ _ _ _ _ c.min-count.result c.self.view_is c.self.invariant)
