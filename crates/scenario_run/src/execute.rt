@@ -12,6 +12,7 @@ ghost use Rattle.scenario_run.specs.Run.{IsGoing, Writes, FaultLeaves, LinesLeav
 use crate::laws::laws;
 use crate::print::print_lines;
 use global_model::{Command, Lines};
+use memchr::memchr;
 use node_world::{Which, World, WorldFault};
 use xm_edge::{Sink, WriteFailed, write_all};
 
@@ -32,12 +33,10 @@ fn piece_length(text: &[u8]) -> usize
     ensures some { 0 < result }
     ensures within { result ≤ length text.now }
 {
-    for (at, byte) in text.iter().enumerate() {
-        if *byte == b'\n' {
-            return at + 1;
-        }
+    match memchr(b'\n', text) {
+        Some(at) => at + 1,
+        None => text.len(),
     }
-    text.len()
 }
 
 // Writes a text, each line with its line feed in one piece.
