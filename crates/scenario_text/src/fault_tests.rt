@@ -1,241 +1,344 @@
 // What is said of lines that spell no command.
 use crate::{SyntaxFault, first_line, place_ok, read_command};
 use global_model::Command;
+use std::process::Abort;
 use xm_num::{Enclave, Kind};
 
-#[test]
-fn finds_numbers_one_past_their_ranges_in_memory_commands(rt: HostRuntime) {
-    for (line, place) in [
-        ("pool 0", 1),
-        ("pool 4097", 1),
-        ("host 0", 1),
-        ("host 4097", 1),
-        ("host 0 ns", 1),
-        ("host 4097 ns", 1),
-        ("boot cokernel under -1 blocks 1", 3),
-        ("boot cokernel under 65535 blocks 1", 3),
-        ("boot cokernel under 0 blocks 0", 5),
-        ("boot cokernel under 0 blocks 4097", 5),
-        ("boot cokernel under -1 blocks 1 ns", 3),
-        ("boot cokernel under 65535 blocks 1 ns", 3),
-        ("boot cokernel under 0 blocks 0 ns", 5),
-        ("boot cokernel under 0 blocks 4097 ns", 5),
-        ("proc -1 0 0", 1),
-        ("proc 65535 0 0", 1),
-        ("proc 0 -1 0", 2),
-        ("proc 0 4294967296 0", 2),
-        ("proc 0 0 -1", 3),
-        ("proc 0 0 4294967296", 3),
-        ("alloc -1 0 1 1", 1),
-        ("alloc 65535 0 1 1", 1),
-        ("alloc 0 -1 1 1", 2),
-        ("alloc 0 4294967296 1 1", 2),
-        ("alloc 0 0 0 1", 3),
-        ("alloc 0 0 16777216 1", 3),
-        ("alloc 0 0 1 0", 4),
-        ("alloc 0 0 1 4097", 4),
-        ("free -1 0 1 1", 1),
-        ("free 65535 0 1 1", 1),
-        ("free 0 -1 1 1", 2),
-        ("free 0 4294967296 1 1", 2),
-        ("free 0 0 0 1", 3),
-        ("free 0 0 16777216 1", 3),
-        ("free 0 0 1 0", 4),
-        ("free 0 0 1 4097", 4),
-        ("make -1 0 0 0 0000", 1),
-        ("make 65535 0 0 0 0000", 1),
-        ("make 0 -1 0 0 0000", 2),
-        ("make 0 4294967296 0 0 0000", 2),
-        ("make 0 0 -1 0 0000", 3),
-        ("make 0 0 18446744073709551616 0 0000", 3),
-        ("make 0 0 0 -1 0000", 4),
-        ("make 0 0 0 18446744073709551616 0000", 4),
-        ("make 0 0 0 0 000", 5),
-        ("make 0 0 0 0 1000", 5),
-        ("remove -1 0 0", 1),
-        ("remove 65535 0 0", 1),
-        ("remove 0 -1 0", 2),
-        ("remove 0 4294967296 0", 2),
-        ("remove 0 0 -1", 3),
-        ("remove 0 0 9223372036854775808", 3),
-        ("get -1 0 0 ro", 1),
-        ("get 65535 0 0 ro", 1),
-        ("get 0 -1 0 ro", 2),
-        ("get 0 4294967296 0 ro", 2),
-        ("get 0 0 -1 ro", 3),
-        ("get 0 0 9223372036854775808 ro", 3),
-        ("release -1 0 0", 1),
-    ] {
-        assert_eq!(rt;
-            read_command(line.as_bytes()),
-            Err(SyntaxFault::Number(place)),
-            "of {line}"
-        );
+// Lines by their faults. PAST_N have at word N a number that is one past an end of its range, SPELLED_N one that is
+// spelled otherwise, and KEYWORD_N a word that is no keyword there.
+
+const PAST_1: &str = "\
+pool 0
+pool 4097
+host 0
+host 4097
+host 0 ns
+host 4097 ns
+proc -1 0 0
+proc 65535 0 0
+alloc -1 0 1 1
+alloc 65535 0 1 1
+free -1 0 1 1
+free 65535 0 1 1
+make -1 0 0 0 0000
+make 65535 0 0 0 0000
+remove -1 0 0
+remove 65535 0 0
+get -1 0 0 ro
+get 65535 0 0 ro
+release -1 0 0
+release 65535 0 0
+attach -1 0 0 0 0 0
+attach 65535 0 0 0 0 0
+detach -1 0 0
+detach 65535 0 0
+exit -1 0
+exit 65535 0
+touch -1 0 0 r
+touch 65535 0 0 r
+deliver -1 0 1
+deliver 65535 0 1
+settle -1
+settle 4294967296
+kill -1 cut 0
+kill 65535 cut 0
+stop -1
+stop 65535
+";
+
+const PAST_2: &str = "\
+proc 0 -1 0
+proc 0 4294967296 0
+alloc 0 -1 1 1
+alloc 0 4294967296 1 1
+free 0 -1 1 1
+free 0 4294967296 1 1
+make 0 -1 0 0 0000
+make 0 4294967296 0 0 0000
+remove 0 -1 0
+remove 0 4294967296 0
+get 0 -1 0 ro
+get 0 4294967296 0 ro
+release 0 -1 0
+release 0 4294967296 0
+attach 0 -1 0 0 0 0
+attach 0 4294967296 0 0 0 0
+detach 0 -1 0
+detach 0 4294967296 0
+exit 0 -1
+exit 0 4294967296
+touch 0 -1 0 r
+touch 0 4294967296 0 r
+deliver 0 -1 1
+deliver 0 65535 1
+show maps -1 0
+show maps 65535 0
+show link -1 0
+show link 65535 0
+show routes -1
+show routes 65535
+show pins -1
+show pins 65535
+";
+
+const PAST_3: &str = "\
+boot cokernel under -1 blocks 1
+boot cokernel under 65535 blocks 1
+boot cokernel under -1 blocks 1 ns
+boot cokernel under 65535 blocks 1 ns
+proc 0 0 -1
+proc 0 0 4294967296
+alloc 0 0 0 1
+alloc 0 0 16777216 1
+free 0 0 0 1
+free 0 0 16777216 1
+make 0 0 -1 0 0000
+make 0 0 18446744073709551616 0 0000
+remove 0 0 -1
+remove 0 0 9223372036854775808
+get 0 0 -1 ro
+get 0 0 9223372036854775808 ro
+release 0 0 -1
+release 0 0 9223372036854775808
+attach 0 0 -1 0 0 0
+attach 0 0 9223372036854775808 0 0 0
+detach 0 0 -1
+detach 0 0 18446744073709551616
+touch 0 0 -1 r
+touch 0 0 18446744073709551616 r
+deliver 0 0 0
+deliver 0 0 4294967296
+kill 0 cut -1
+kill 0 cut 4294967296
+show maps 0 -1
+show maps 0 4294967296
+show link 0 -1
+show link 0 65535
+";
+
+const PAST_4: &str = "\
+alloc 0 0 1 0
+alloc 0 0 1 4097
+free 0 0 1 0
+free 0 0 1 4097
+make 0 0 0 -1 0000
+make 0 0 0 18446744073709551616 0000
+attach 0 0 0 -1 0 0
+attach 0 0 0 18446744073709551616 0 0
+";
+
+const PAST_5: &str = "\
+boot cokernel under 0 blocks 0
+boot cokernel under 0 blocks 4097
+boot cokernel under 0 blocks 0 ns
+boot cokernel under 0 blocks 4097 ns
+make 0 0 0 0 000
+make 0 0 0 0 1000
+attach 0 0 0 0 -1 0
+attach 0 0 0 0 18446744073709551616 0
+";
+
+const PAST_6: &str = "\
+attach 0 0 0 0 0 -1
+attach 0 0 0 0 0 18446744073709551616
+";
+
+const SPELLED_1: &str = "\
+pool 01
+pool 00
+pool 0001
+proc 00 0 0
+pool +1
+pool -1
+pool 0x1
+pool 1e3
+pool 1_0
+pool 1.
+pool one
+pool #2
+pool 2#
+pool 5000
+pool 2\r
+pool \r
+pool é
+pool 1é
+pool 18446744073709551616
+pool 99999999999999999999999999999999
+";
+
+const SPELLED_2: &str = "\
+proc 0 01 0
+proc 0 1\u{b} 0
+show link 70000 70000
+show pins 00
+";
+
+const SPELLED_3: &str = "\
+make 0 1 00 4096 0640
+get 1 1 9223372036854775808 ro
+get 1 1 -1 ro
+show link 0 70000
+";
+
+const SPELLED_5: &str = "\
+make 0 1 0 4096 640
+make 0 1 0 4096 00640
+make 0 1 0 4096 0778
+make 0 1 0 4096 0o64
+make 0 1 0 4096 -064
+";
+
+const KEYWORD_1: &str = "\
+boot host under 0 blocks 1
+boot VM under 0 blocks 1
+boot host under 0 blocks 1 ns
+boot VM under 0 blocks 1 ns
+show MAPS 0 0
+show LINK 0 0
+show ROUTES 0
+show PINS 0
+show POOL
+show NAMES
+show maps\r 0 1
+show maps
+show link
+show routes
+show pool 0
+show names 0
+show maps 0
+show pool 0 1
+show routes 0 1
+";
+
+const KEYWORD_2: &str = "\
+host 1 nss
+boot cokernel unders 0 blocks 1
+boot cokernel unders 0 blocks 1 ns
+kill 0 cuts 0
+boot vm over 0 blocks 1
+boot vm blocks 0 under 1
+host 1 1
+kill 0 1 1
+";
+
+const KEYWORD_4: &str = "\
+boot cokernel under 0 blockss 1
+boot cokernel under 0 blockss 1 ns
+get 0 0 0 wo
+get 0 0 0 r
+touch 0 0 0 rw
+touch 0 0 0 x
+";
+
+const KEYWORD_6: &str = "\
+boot cokernel under 0 blocks 1 nss
+boot vm under 0 blocks 1 ns\r
+boot vm under 0 blocks 1 -
+";
+
+const COUNT: &str = "\
+pool
+pool 1 1
+host
+host 1 ns ns
+boot cokernel under 0 blocks
+boot cokernel under 0 blocks 1 ns ns
+proc 0 0
+proc 0 0 0 0
+alloc 0 0 1
+alloc 0 0 1 1 1
+free 0 0 1
+free 0 0 1 1 1
+make 0 0 0 0
+make 0 0 0 0 0000 0000
+remove 0 0
+remove 0 0 0 0
+get 0 0 0
+get 0 0 0 ro ro
+release 0 0
+release 0 0 0 0
+attach 0 0 0 0 0
+attach 0 0 0 0 0 0 0
+detach 0 0
+detach 0 0 0 0
+exit 0
+exit 0 0 0
+touch 0 0 0
+touch 0 0 0 r r
+deliver 0 0
+deliver 0 0 1 1
+settle
+settle 0 0
+kill 0 cut
+kill 0 cut 0 0
+stop
+stop 0 0
+show
+show maps 0 0 0
+boot
+get 0 0 0 ro ro ro ro ro
+pool x y
+stop now please
+pool x x x x x x x x x x x x x x x x x x x x x x x x x x x x x
+show maps maps maps maps maps maps maps maps maps maps maps maps maps maps maps maps maps maps maps maps maps maps maps maps maps maps maps maps maps
+";
+
+const WORD: &str = "\
+jump
+jump 1
+jumps over it
+Pool 1
+POOL 1
+pools 1
+poo 1
+shows pool
+1
+maps 0 1
+pool# 1
+-# pool 1
+\rpool 1
+pool\r
+pool\u{b}1
+é
+é 1
+poolé 1
+- pool 1
+a b c d e f g h i j
+link 0 0
+\u{0}
+";
+
+// Each line has this fault.
+fn all_are(rt: &impl Abort, lines: &str, fault: SyntaxFault) {
+    for line in lines.split_terminator('\n') {
+        assert_eq!(rt; read_command(line.as_bytes()), Err(fault), "of {line}");
     }
 }
 
 #[test]
-fn finds_numbers_one_past_their_ranges_in_the_other_commands(rt: HostRuntime) {
-    for (line, place) in [
-        ("release 65535 0 0", 1),
-        ("release 0 -1 0", 2),
-        ("release 0 4294967296 0", 2),
-        ("release 0 0 -1", 3),
-        ("release 0 0 9223372036854775808", 3),
-        ("attach -1 0 0 0 0 0", 1),
-        ("attach 65535 0 0 0 0 0", 1),
-        ("attach 0 -1 0 0 0 0", 2),
-        ("attach 0 4294967296 0 0 0 0", 2),
-        ("attach 0 0 -1 0 0 0", 3),
-        ("attach 0 0 9223372036854775808 0 0 0", 3),
-        ("attach 0 0 0 -1 0 0", 4),
-        ("attach 0 0 0 18446744073709551616 0 0", 4),
-        ("attach 0 0 0 0 -1 0", 5),
-        ("attach 0 0 0 0 18446744073709551616 0", 5),
-        ("attach 0 0 0 0 0 -1", 6),
-        ("attach 0 0 0 0 0 18446744073709551616", 6),
-        ("detach -1 0 0", 1),
-        ("detach 65535 0 0", 1),
-        ("detach 0 -1 0", 2),
-        ("detach 0 4294967296 0", 2),
-        ("detach 0 0 -1", 3),
-        ("detach 0 0 18446744073709551616", 3),
-        ("exit -1 0", 1),
-        ("exit 65535 0", 1),
-        ("exit 0 -1", 2),
-        ("exit 0 4294967296", 2),
-        ("touch -1 0 0 r", 1),
-        ("touch 65535 0 0 r", 1),
-        ("touch 0 -1 0 r", 2),
-        ("touch 0 4294967296 0 r", 2),
-        ("touch 0 0 -1 r", 3),
-        ("touch 0 0 18446744073709551616 r", 3),
-        ("deliver -1 0 1", 1),
-        ("deliver 65535 0 1", 1),
-        ("deliver 0 -1 1", 2),
-        ("deliver 0 65535 1", 2),
-        ("deliver 0 0 0", 3),
-        ("deliver 0 0 4294967296", 3),
-        ("settle -1", 1),
-        ("settle 4294967296", 1),
-        ("kill -1 cut 0", 1),
-        ("kill 65535 cut 0", 1),
-        ("kill 0 cut -1", 3),
-        ("kill 0 cut 4294967296", 3),
-        ("stop -1", 1),
-        ("stop 65535", 1),
-        ("show maps -1 0", 2),
-        ("show maps 65535 0", 2),
-        ("show maps 0 -1", 3),
-        ("show maps 0 4294967296", 3),
-        ("show link -1 0", 2),
-        ("show link 65535 0", 2),
-        ("show link 0 -1", 3),
-        ("show link 0 65535", 3),
-        ("show routes -1", 2),
-        ("show routes 65535", 2),
-        ("show pins -1", 2),
-        ("show pins 65535", 2),
-    ] {
-        assert_eq!(rt;
-            read_command(line.as_bytes()),
-            Err(SyntaxFault::Number(place)),
-            "of {line}"
-        );
-    }
+fn finds_numbers_one_past_their_ranges(rt: HostRuntime) {
+    all_are(&rt, PAST_1, SyntaxFault::Number(1));
+    all_are(&rt, PAST_2, SyntaxFault::Number(2));
+    all_are(&rt, PAST_3, SyntaxFault::Number(3));
+    all_are(&rt, PAST_4, SyntaxFault::Number(4));
+    all_are(&rt, PAST_5, SyntaxFault::Number(5));
+    all_are(&rt, PAST_6, SyntaxFault::Number(6));
 }
 
 #[test]
 fn takes_no_other_spelling_of_a_number(rt: HostRuntime) {
-    for (line, place) in [
-        ("pool 01", 1),
-        ("pool 00", 1),
-        ("pool 0001", 1),
-        ("proc 00 0 0", 1),
-        ("proc 0 01 0", 2),
-        ("make 0 1 00 4096 0640", 3),
-        ("pool +1", 1),
-        ("pool -1", 1),
-        ("pool 0x1", 1),
-        ("pool 1e3", 1),
-        ("pool 1_0", 1),
-        ("pool 1.", 1),
-        ("pool one", 1),
-        ("pool #2", 1),
-        ("pool 2#", 1),
-        ("pool 5000", 1),
-        ("pool 2\r", 1),
-        ("pool \r", 1),
-        ("pool é", 1),
-        ("pool 1é", 1),
-        ("pool 18446744073709551616", 1),
-        ("pool 99999999999999999999999999999999", 1),
-        ("proc 0 1\u{b} 0", 2),
-        ("make 0 1 0 4096 640", 5),
-        ("make 0 1 0 4096 00640", 5),
-        ("make 0 1 0 4096 0778", 5),
-        ("make 0 1 0 4096 0o64", 5),
-        ("make 0 1 0 4096 -064", 5),
-        ("get 1 1 9223372036854775808 ro", 3),
-        ("get 1 1 -1 ro", 3),
-        ("show link 0 70000", 3),
-        ("show link 70000 70000", 2),
-        ("show pins 00", 2),
-    ] {
-        assert_eq!(rt;
-            read_command(line.as_bytes()),
-            Err(SyntaxFault::Number(place)),
-            "of {line}"
-        );
-    }
+    all_are(&rt, SPELLED_1, SyntaxFault::Number(1));
+    all_are(&rt, SPELLED_2, SyntaxFault::Number(2));
+    all_are(&rt, SPELLED_3, SyntaxFault::Number(3));
+    all_are(&rt, SPELLED_5, SyntaxFault::Number(5));
 }
 
 #[test]
 fn finds_words_that_are_no_keyword_there(rt: HostRuntime) {
-    for (line, place) in [
-        ("host 1 nss", 2),
-        ("boot host under 0 blocks 1", 1),
-        ("boot VM under 0 blocks 1", 1),
-        ("boot cokernel unders 0 blocks 1", 2),
-        ("boot cokernel under 0 blockss 1", 4),
-        ("boot host under 0 blocks 1 ns", 1),
-        ("boot VM under 0 blocks 1 ns", 1),
-        ("boot cokernel unders 0 blocks 1 ns", 2),
-        ("boot cokernel under 0 blockss 1 ns", 4),
-        ("boot cokernel under 0 blocks 1 nss", 6),
-        ("get 0 0 0 wo", 4),
-        ("get 0 0 0 r", 4),
-        ("touch 0 0 0 rw", 4),
-        ("touch 0 0 0 x", 4),
-        ("kill 0 cuts 0", 2),
-        ("show MAPS 0 0", 1),
-        ("show LINK 0 0", 1),
-        ("show ROUTES 0", 1),
-        ("show PINS 0", 1),
-        ("show POOL", 1),
-        ("show NAMES", 1),
-        ("show maps\r 0 1", 1),
-        ("boot vm under 0 blocks 1 ns\r", 6),
-        ("boot vm over 0 blocks 1", 2),
-        ("boot vm blocks 0 under 1", 2),
-        ("boot vm under 0 blocks 1 -", 6),
-        ("host 1 1", 2),
-        ("show maps", 1),
-        ("show link", 1),
-        ("show routes", 1),
-        ("show pool 0", 1),
-        ("show names 0", 1),
-        ("show maps 0", 1),
-        ("show pool 0 1", 1),
-        ("show routes 0 1", 1),
-        ("kill 0 1 1", 2),
-    ] {
-        assert_eq!(rt;
-            read_command(line.as_bytes()),
-            Err(SyntaxFault::Keyword(place)),
-            "of {line}"
-        );
-    }
+    all_are(&rt, KEYWORD_1, SyntaxFault::Keyword(1));
+    all_are(&rt, KEYWORD_2, SyntaxFault::Keyword(2));
+    all_are(&rt, KEYWORD_4, SyntaxFault::Keyword(4));
+    all_are(&rt, KEYWORD_6, SyntaxFault::Keyword(6));
 }
 
 #[test]
@@ -262,92 +365,12 @@ fn names_the_first_word_that_does_not_fit(rt: HostRuntime) {
 
 #[test]
 fn counts_the_words_before_it_reads_them(rt: HostRuntime) {
-    for line in [
-        "pool",
-        "pool 1 1",
-        "host",
-        "host 1 ns ns",
-        "boot cokernel under 0 blocks",
-        "boot cokernel under 0 blocks 1 ns ns",
-        "proc 0 0",
-        "proc 0 0 0 0",
-        "alloc 0 0 1",
-        "alloc 0 0 1 1 1",
-        "free 0 0 1",
-        "free 0 0 1 1 1",
-        "make 0 0 0 0",
-        "make 0 0 0 0 0000 0000",
-        "remove 0 0",
-        "remove 0 0 0 0",
-        "get 0 0 0",
-        "get 0 0 0 ro ro",
-        "release 0 0",
-        "release 0 0 0 0",
-        "attach 0 0 0 0 0",
-        "attach 0 0 0 0 0 0 0",
-        "detach 0 0",
-        "detach 0 0 0 0",
-        "exit 0",
-        "exit 0 0 0",
-        "touch 0 0 0",
-        "touch 0 0 0 r r",
-        "deliver 0 0",
-        "deliver 0 0 1 1",
-        "settle",
-        "settle 0 0",
-        "kill 0 cut",
-        "kill 0 cut 0 0",
-        "stop",
-        "stop 0 0",
-        "show",
-        "show maps 0 0 0",
-        "boot",
-        "get 0 0 0 ro ro ro ro ro",
-        "pool x y",
-        "stop now please",
-        "pool x x x x x x x x x x x x x x x x x x x x x x x x x x x x x",
-        "show maps maps maps maps maps maps maps maps maps maps maps maps maps maps maps maps maps maps maps maps maps maps maps maps maps maps maps maps maps",
-    ] {
-        assert_eq!(rt;
-            read_command(line.as_bytes()),
-            Err(SyntaxFault::Count),
-            "of {line}"
-        );
-    }
+    all_are(&rt, COUNT, SyntaxFault::Count);
 }
 
 #[test]
 fn finds_first_words_that_begin_no_form(rt: HostRuntime) {
-    for line in [
-        "jump",
-        "jump 1",
-        "jumps over it",
-        "Pool 1",
-        "POOL 1",
-        "pools 1",
-        "poo 1",
-        "shows pool",
-        "1",
-        "maps 0 1",
-        "pool# 1",
-        "-# pool 1",
-        "\rpool 1",
-        "pool\r",
-        "pool\u{b}1",
-        "é",
-        "é 1",
-        "poolé 1",
-        "- pool 1",
-        "a b c d e f g h i j",
-        "link 0 0",
-        "\u{0}",
-    ] {
-        assert_eq!(rt;
-            read_command(line.as_bytes()),
-            Err(SyntaxFault::Word),
-            "of {line}"
-        );
-    }
+    all_are(&rt, WORD, SyntaxFault::Word);
     assert_eq!(rt; read_command(b"\xff"), Err(SyntaxFault::Word));
     assert_eq!(rt; read_command(b"pool \xff"), Err(SyntaxFault::Number(1)));
     assert_eq!(rt; read_command(b"show \xff"), Err(SyntaxFault::Keyword(1)));

@@ -16,6 +16,8 @@ mod item;
 mod laws;
 mod line;
 mod line_laws;
+#[cfg(test)]
+mod line_tests;
 mod lists;
 mod name_tables;
 mod names;
