@@ -1,6 +1,6 @@
 -- Rows by the next number that has one.
 use Rattle.std.proofs.Common.{◌≡◌, ◌<◌, ◌≤◌, ◌+◌, ◌^◌, ℕ, Bool, true, false, cond, ◌&&◌, ◌||◌, List, [], ◌∷◌, map, filter, Option, None, Some, refl, sym, ap, subst, ◌∙◌, eq-eqb, ne_eqb, arith}
-use Rattle.std.specs.Prelude.{option_map, nat_le, nat_lt, IsSome, ◌==◌, if◌then◌else◌}
+use Rattle.std.specs.Prelude.{option_map, nat_le, nat_lt, IsSome, ◌==◌}
 use Rattle.std.specs.List.{AllByRecursion}
 use Rattle.std.specs.List.Sorted.{IsStrictlySortedBy}
 use Rattle.std.specs.Option.{option_map_or}
@@ -58,24 +58,6 @@ any_next (row ∷ rows) low high ascends = by (nat_le low row.0) (nat_lt row.0 h
     by false b is more = more
     by true true is more = sym is
     by true false is more = none_between rows row.0 low high (ltb-false _ _ is) ascends.0 ∙ sym is
-
--- what changes do to look-ups and to the order, and that look-ups tell rows apart
-pub record Laws (V : Type 0) : Type 0 where
-  pub put_at : (table : List (ℕ × V)) (k q : ℕ) (v : V) → at (put table k v) q ≡ (if k == q then Some v else at table q)
-  pub less_at : (table : List (ℕ × V)) (k q : ℕ) → IsAscending table → at (less table k) q ≡ (if k == q then None else at table q)
-  pub put_ascends : (table : List (ℕ × V)) (k : ℕ) (v : V) → IsAscending table → IsAscending (put table k v)
-  pub less_ascends : (table : List (ℕ × V)) (k : ℕ) → IsAscending table → IsAscending (less table k)
-  pub same : (a b : List (ℕ × V)) → IsAscending a → IsAscending b → ((k : ℕ) → at a k ≡ at b k) → a ≡ b
-
--- a row that is taken out and put back comes where it was
-pub put_back : {V : Type 0} → Laws V → (table : List (ℕ × V)) (k : ℕ) (v : V) → IsAscending table → put (less table k) k v ≡ put table k v
-put_back laws table k v ascends =
-    laws.same (put (less table k) k v) (put table k v) (laws.put_ascends (less table k) k v (laws.less_ascends table k ascends)) (laws.put_ascends table k v ascends)
-    (λ q. laws.put_at (less table k) k q v ∙ ap (λ found. if k == q then Some v else found) (laws.less_at table k q ascends) ∙ by (k == q) (at table q) ∙ sym (laws.put_at table k q v))
-  where
-    by : (b : Bool) (found : Option _) → (if b then Some v else (if b then None else found)) ≡ (if b then Some v else found)
-    by true found = refl
-    by false found = refl
 
 -- ---- rows by another meaning of what stands at them
 

@@ -1,5 +1,5 @@
 // The decoders at the ends of an enclave's channels.
-ghost use Rattle.std.specs.Prelude.{◌≡◌, [], length, drop, slice_get, None, IfSome, IfOk, OnOk};
+ghost use Rattle.std.specs.Prelude.{◌≡◌, [], length, drop, slice_get, None, Some, IsSome, IfSome, IfOk, OnOk};
 ghost use Rattle.std.specs.Prelude.{◌≤◌};
 ghost use Rattle.xm_num.specs.Rows.{at, put, less};
 ghost use Rattle.xemem_wire.specs.Decoding.{Decoding, nothing_taken, after_piece};
@@ -7,6 +7,7 @@ ghost use Rattle.xemem_wire.specs.Decoding.{Decoding, nothing_taken, after_piece
 use std::alloc::{AllocError, Global};
 use std::collections::BTreeMap;
 use std::marker::Model;
+use std::mem;
 use xemem_wire::{BadField, Decoder, FeedFault, Record};
 use xm_num::Enclave;
 use xm_num::laws::rows;
@@ -112,10 +113,26 @@ impl Feeds {
         ensures found { result ≡ at self.old from.0 }
         ensures left { self.new ≡ less self.old from.0 }
         ensures given { IfSome result (λ feed. feed.records ≡ []) }
-        ensures back { (feed : Decoding) → put self.new from.0 feed ≡ put self.old from.0 feed }
     {
         rows::<Feed>();
         self.rows.remove(&from.0)
+    }
+
+    /// Changes the decoder of an open channel for another. All whole records of both were given.
+    pub fn swap(&mut self, from: Enclave, feed: &mut Feed)
+        requires open_end { IsSome (at self.old from.0) }
+        requires given { feed.old.records ≡ [] }
+        ensures out { at self.old from.0 ≡ Some feed.new }
+        ensures given { feed.new.records ≡ [] }
+        ensures into { self.new ≡ put self.old from.0 feed.old }
+        ensures open_end { IsSome (at self.new from.0) }
+        ensures again { (other : Decoding) → put self.new from.0 other ≡ put self.old from.0 other }
+    {
+        rows::<Feed>();
+        match self.rows.get_mut(&from.0) {
+            Some(slot) => mem::swap(slot, feed),
+            None => unreachable!(),
+        }
     }
 
     /// Puts in the decoder of a channel, all of whose whole records were given.

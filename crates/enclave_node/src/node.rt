@@ -17,6 +17,7 @@ use global_model::{Line, Lines};
 use page_table::AddressSpace;
 use std::alloc::{AllocError, Global};
 use std::marker::Model;
+use std::mem;
 use thiserror::Error;
 use xemem_wire::{BadField, WireFault};
 use xm_num::{
@@ -41,6 +42,8 @@ pub struct Node<A: AddressSpace> {
     alloc: Global,
     state: State<A>,
     feeds: Feeds,
+    // Where the lines of a call are built up, so that its room serves the next call too.
+    fresh: Lines,
     appended: u64,
     failed: bool,
 }
@@ -54,6 +57,16 @@ impl<A: AddressSpace> Model for Node<A> {
 }
 
 impl<A: AddressSpace> Node<A> {
+    // Lends the list for a step's lines, which `finish` takes back.
+    fn fresh(&mut self) -> Lines
+        ensures empty { result ≡ [] }
+        ensures same { self.new ≡ self.old }
+    {
+        let mut fresh = mem::replace(&mut self.fresh, Lines::new(self.alloc));
+        fresh.truncate(0);
+        fresh
+    }
+
     // Ends a step: appends its lines, and counts their words. Where memory was wanting, the node has failed.
     fn finish<T>(
         &mut self,
@@ -69,9 +82,11 @@ impl<A: AddressSpace> Node<A> {
         ensures err_lines { OnErr result (out.new ≡ out.old) }
         ensures fails { OnErr result (self.new.failed ≡ true) }
     {
+        let mut fresh = fresh;
         let words = fresh.words();
         if let Ok(value) = done {
-            if out.append(fresh).is_ok() {
+            if out.append(&mut fresh).is_ok() {
+                self.fresh = fresh;
                 self.appended = self.appended.saturating_add(words);
                 return Ok(value);
             }
@@ -92,7 +107,7 @@ impl<A: AddressSpace> Node<A> {
         if self.failed {
             return Err(AllocError);
         }
-        let mut fresh = Lines::new(self.alloc);
+        let mut fresh = self.fresh();
         let done = self.state.start(uid, gid, &mut fresh);
         self.finish(done, fresh, out)
     }
@@ -109,7 +124,7 @@ impl<A: AddressSpace> Node<A> {
         if self.failed {
             return Err(AllocError);
         }
-        let mut fresh = Lines::new(self.alloc);
+        let mut fresh = self.fresh();
         let done = self.state.call(pid, call, &mut fresh);
         self.finish(done, fresh, out)
     }
@@ -173,7 +188,7 @@ impl<A: AddressSpace> Node<A> {
         if self.failed {
             return Err(AllocError);
         }
-        let mut fresh = Lines::new(self.alloc);
+        let mut fresh = self.fresh();
         let done = self.add_child(child, kind, &mut fresh);
         self.finish(done, fresh, out)
     }
@@ -200,10 +215,11 @@ impl<A: AddressSpace> Node<A> {
         ensures after { OnOk result (self.new ≡ spec.took self.old from piece.now) }
         ensures bad { IfOk result (λ bad. bad ≡ (spec.fed self.old from piece.now).bad) }
     {
-        let mut feed = self.feeds.take(from).unwrap();
+        let mut feed = Feed::new(self.alloc)?;
+        self.feeds.swap(from, &mut feed);
         let bad = feed.take(piece)?;
         self.state.take_all(from, &mut feed, out)?;
-        self.feeds.put(from, feed)?;
+        self.feeds.swap(from, &mut feed);
         Ok(bad)
     }
 
@@ -224,7 +240,7 @@ impl<A: AddressSpace> Node<A> {
             return Err(NodeFault::Memory);
         }
         let from = self.number_of(from);
-        let mut fresh = Lines::new(self.alloc);
+        let mut fresh = self.fresh();
         let done = self.take_piece(from, piece, &mut fresh);
         match self.finish(done, fresh, out) {
             Ok(None) => Ok(()),
@@ -259,7 +275,7 @@ impl<A: AddressSpace> Node<A> {
         if self.failed {
             return Err(AllocError);
         }
-        let mut fresh = Lines::new(self.alloc);
+        let mut fresh = self.fresh();
         let done = self.close_channel(child, &mut fresh);
         self.finish(done, fresh, out)
     }
@@ -295,7 +311,7 @@ impl<A: AddressSpace> Node<A> {
             Show::Routes => self.state.show_routes(&mut fresh)?,
             Show::Pool => self.state.show_pool(&mut fresh)?,
         }
-        out.append(fresh)
+        out.append(&mut fresh)
     }
 
     /// The deaths that the node heard of, ascending.
@@ -319,6 +335,7 @@ impl<A: AddressSpace> Node<A> {
             alloc: _,
             state,
             feeds: _,
+            fresh: _,
             appended: _,
             failed: _,
         } = self;

@@ -39,12 +39,14 @@ impl Lines {
         Ok(())
     }
 
-    /// Adds all lines of another list at the end. For want of memory the list stays as it was.
-    pub fn append(&mut self, other: Lines) -> Result<(), AllocError>
-        ensures ok { OnOk result (self.new ≡ self.old ++ other) }
+    /// Moves all lines of another list to the end, and leaves that one empty with its room. For want of memory both stay as
+    /// they were.
+    pub fn append(&mut self, other: &mut Lines) -> Result<(), AllocError>
+        ensures ok { OnOk result (self.new ≡ self.old ++ other.old) }
+        ensures moved { OnOk result (other.new ≡ []) }
         ensures err { OnErr result (self.new ≡ self.old) }
+        ensures err_other { OnErr result (other.new ≡ other.old) }
     {
-        let mut other = other;
         self.items.append(&mut other.items)
     }
 

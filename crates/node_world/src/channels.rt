@@ -52,13 +52,13 @@ impl Model for Channels {
     ghost invariant = { λ c. IsIndex c.waiting.keys c.pairs.items };
 }
 
-// Sends a record over a link, whose number the set then has.
+// Sends a record over a link, whose number the set then has. It is spelled in `room` first.
 fn send_noted(
-    alloc: Global,
     link: &mut Link,
     waiting: &mut BTreeSet<u32>,
     number: u32,
     rec: &Record,
+    room: &mut Vec<u8>,
 ) -> Result<(), AllocError>
     requires valid { IsTrue (is_valid rec.now) }
     requires open_end { link.old.ended ≡ false }
@@ -71,7 +71,7 @@ fn send_noted(
     let Ok(fresh) = waiting.insert(number) else {
         return Err(AllocError);
     };
-    let result = send_over(alloc, link, rec);
+    let result = send_over(link, rec, room);
     if result.is_err() && fresh {
         waiting.remove(&number);
     }
@@ -80,25 +80,25 @@ fn send_noted(
 
 // Takes bytes out of a link. The set lets its number go once nothing waits there.
 fn take_noted(
-    alloc: Global,
     link: &mut Link,
     waiting: &mut BTreeSet<u32>,
     number: u32,
     count: u32,
-) -> Result<Vec<u8>, AllocError>
+    into: &mut Vec<u8>,
+) -> Result<(), AllocError>
     requires within { count ≤ length (waiting_bytes link.old) }
     requires noted { index.IsNoted waiting.old.keys number link.old }
-    ensures bytes { IfOk result (λ bytes. bytes.items ≡ take count (waiting_bytes link.old)) }
+    ensures bytes { OnOk result (into.new.items ≡ take count (waiting_bytes link.old)) }
     ensures rest { OnOk result (link.new ≡ taken link.old count) }
     ensures open_end { link.new.ended ≡ link.old.ended }
     ensures noted { index.IsNoted waiting.new.keys number link.new }
     ensures others { index.SameBut number waiting.old.keys waiting.new.keys }
 {
-    let bytes = take_bytes(alloc, link, count)?;
+    take_bytes(link, count, into)?;
     if link.waiting() == 0 {
         waiting.remove(&number);
     }
-    Ok(bytes)
+    Ok(())
 }
 
 impl Channels {
@@ -205,8 +205,9 @@ impl Channels {
         }
     }
 
-    /// Sends a record over a channel. For want of memory the channels are as before.
-    pub fn send(&mut self, alloc: Global, hop: Hop, rec: &Record) -> Result<(), AllocError>
+    /// Sends a record over a channel. It is spelled in `room` first, whose bytes are lost. For want of memory the channels are
+    /// as before.
+    pub fn send(&mut self, hop: Hop, rec: &Record, room: &mut Vec<u8>) -> Result<(), AllocError>
         requires within { spec.IsIn self.old hop }
         requires valid { IsTrue (is_valid rec.now) }
         requires open_ends { AreOpen self.old }
@@ -217,31 +218,35 @@ impl Channels {
             Hop::NoEnclave | Hop::NoLink => Ok(()),
             Hop::Up(i) => {
                 let link = &mut self.pairs[i].up;
-                send_noted(alloc, link, &mut self.waiting, up_number(i), rec)
+                send_noted(link, &mut self.waiting, up_number(i), rec, room)
             }
             Hop::Down(i) => {
                 let link = &mut self.pairs[i].down;
-                send_noted(alloc, link, &mut self.waiting, down_number(i), rec)
+                send_noted(link, &mut self.waiting, down_number(i), rec, room)
             }
         }
     }
 
-    /// Takes the first `count` bytes out of a channel, in which they wait. For want of memory the channels are as before.
-    pub fn take(&mut self, alloc: Global, hop: Hop, count: u32) -> Result<Vec<u8>, AllocError>
+    /// Takes the first `count` bytes out of a channel, in which they wait. `into` has these alone then. For want of memory the
+    /// channels are as before.
+    pub fn take(&mut self, hop: Hop, count: u32, into: &mut Vec<u8>) -> Result<(), AllocError>
         requires within { spec.IsIn self.old hop }
         requires waits { count ≤ length (waiting_bytes (spec.link_of self.old hop)) }
-        ensures bytes { IfOk result (λ bytes. bytes.items ≡ take count (waiting_bytes (spec.link_of self.old hop))) }
+        ensures bytes { OnOk result (into.new.items ≡ take count (waiting_bytes (spec.link_of self.old hop))) }
         ensures rest { OnOk result (self.new ≡ spec.with_link self.old hop (taken (spec.link_of self.old hop) count)) }
     {
         match hop {
-            Hop::NoEnclave | Hop::NoLink => Ok(Vec::new(alloc)),
+            Hop::NoEnclave | Hop::NoLink => {
+                into.clear();
+                Ok(())
+            }
             Hop::Up(i) => {
                 let link = &mut self.pairs[i].up;
-                take_noted(alloc, link, &mut self.waiting, up_number(i), count)
+                take_noted(link, &mut self.waiting, up_number(i), count, into)
             }
             Hop::Down(i) => {
                 let link = &mut self.pairs[i].down;
-                take_noted(alloc, link, &mut self.waiting, down_number(i), count)
+                take_noted(link, &mut self.waiting, down_number(i), count, into)
             }
         }
     }

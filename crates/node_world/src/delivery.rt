@@ -18,31 +18,31 @@ pub fn refuse(cause: Cause, out: &mut Lines) -> Result<(), AllocError>
     out.push(Line::Refused { cause })
 }
 
-/// Sends a record over a link. More bytes than a u32 counts find no room.
-pub fn send_over(alloc: Global, link: &mut Link, rec: &Record) -> Result<(), AllocError>
+/// Sends a record over a link. It is spelled in `room` first, whose bytes are lost. More bytes than a u32 counts find no room.
+pub fn send_over(link: &mut Link, rec: &Record, room: &mut Vec<u8>) -> Result<(), AllocError>
     requires valid { IsTrue (is_valid rec.now) }
     requires open_end { link.old.ended ≡ false }
     ensures sent { OnOk result (link.new ≡ sent link.old (spelling_of rec.now)) }
     ensures err { OnErr result (link.new ≡ link.old) }
 {
-    let mut bytes = Vec::new(alloc);
-    encode(rec, &mut bytes)?;
-    if bytes.len() >= (u32::MAX - link.waiting()) as usize {
+    room.clear();
+    encode(rec, room)?;
+    if room.len() >= (u32::MAX - link.waiting()) as usize {
         return Err(AllocError);
     }
-    link.send(&bytes)
+    link.send(room)
 }
 
-/// Takes the first `count` bytes out of a link, in which they wait.
-pub fn take_bytes(alloc: Global, link: &mut Link, count: u32) -> Result<Vec<u8>, AllocError>
+/// Takes the first `count` bytes out of a link, in which they wait. `into` has these alone then.
+pub fn take_bytes(link: &mut Link, count: u32, into: &mut Vec<u8>) -> Result<(), AllocError>
     requires { count ≤ length (waiting_bytes link.old) }
-    ensures bytes { IfOk result (λ bytes. bytes.items ≡ take count (waiting_bytes link.old)) }
+    ensures bytes { OnOk result (into.new.items ≡ take count (waiting_bytes link.old)) }
     ensures rest { OnOk result (link.new ≡ taken link.old count) }
     ensures err { OnErr result (link.new ≡ link.old) }
 {
-    let mut bytes = vec![in alloc; 0; count as usize]?;
-    link.take(&mut bytes);
-    Ok(bytes)
+    into.resize(count as usize, 0)?;
+    link.take(into);
+    Ok(())
 }
 
 // At most 32 waiting bytes of a link from byte `at` on.

@@ -22,6 +22,7 @@ use global_model::{Command, Line, Lines};
 use page_table::PageTable;
 use std::alloc::{AllocError, Global};
 use std::marker::Model;
+use std::mem;
 use xemem_wire::Record;
 use xm_num::{BlockList, Cause, Enclave, Kind, Neighbour, Pid, Vpn, Want};
 
@@ -38,6 +39,9 @@ pub struct Machine {
     starts: u32,
     nodes: Vec<Node<PageTable>>,
     channels: Channels,
+    // Where the bytes of a record or of a delivery are put, and the lines of a step: their room serves the next too.
+    bytes: Vec<u8>,
+    fresh: Lines,
 }
 
 impl Model for Machine {
@@ -60,7 +64,26 @@ impl Machine {
             starts: 0,
             nodes: Vec::new(alloc),
             channels: Channels::new(alloc),
+            bytes: Vec::new(alloc),
+            fresh: Lines::new(alloc),
         }
+    }
+
+    // Lends the list for a step's lines.
+    fn fresh(&mut self) -> Lines
+        ensures empty { result ≡ [] }
+        ensures same { self.new ≡ self.old }
+    {
+        let mut fresh = mem::replace(&mut self.fresh, Lines::new(self.alloc));
+        fresh.truncate(0);
+        fresh
+    }
+
+    /// Takes a list whose room then serves the next step.
+    pub fn reuse(&mut self, lines: Lines)
+        ensures { self.new ≡ self.old }
+    {
+        self.fresh = lines;
     }
 
     /// Carries out a command, and gives the lines behind its `do` line. For want of memory the machine isn't to be used
@@ -72,7 +95,7 @@ impl Machine {
         ensures lines { IfOk result (λ journal. journal ≡ spec.lines_by self.old command.now) }
         ensures after { OnOk result (self.new ≡ spec.after_command self.old command.now) }
     {
-        let mut fresh = Lines::new(self.alloc);
+        let mut fresh = self.fresh();
         self.act(command, &mut fresh)?;
         self.carry(fresh.as_slice())?;
         Ok(fresh)
@@ -346,9 +369,9 @@ impl Machine {
             return out.push(Line::Idle { from, to });
         }
         let count = count.min(waiting);
-        let piece = self.channels.take(self.alloc, hop, count)?;
+        self.channels.take(hop, count, &mut self.bytes)?;
         out.push(Line::Took { from, to, count })?;
-        match self.nodes[to.0 as usize].feed(side, &piece, out) {
+        match self.nodes[to.0 as usize].feed(side, &self.bytes, out) {
             Ok(()) => Ok(()),
             Err(NodeFault::Memory) => Err(AllocError),
             Err(NodeFault::BadRecord { .. }) => unreachable!(),
@@ -410,7 +433,7 @@ impl Machine {
         ensures open_ends { AreOpen self.new.pairs }
     {
         let hop = self.hop(from, to);
-        self.channels.send(self.alloc, hop, rec)
+        self.channels.send(hop, rec, &mut self.bytes)
     }
 
     /// The node of an enclave that was born.
@@ -436,6 +459,8 @@ impl Machine {
             starts: _,
             mut nodes,
             channels: _,
+            bytes: _,
+            fresh: _,
         } = self;
         while let Some(node) = nodes.pop() {
             node.close();

@@ -259,7 +259,8 @@ impl World {
         let mut fresh = fresh;
         let fit = fitting(fresh.as_slice(), self.words, self.deliveries);
         fresh.truncate(fit.count);
-        self.journal.append(fresh)?;
+        self.journal.append(&mut fresh)?;
+        self.machine.reuse(fresh);
         self.words = fit.words;
         self.deliveries = fit.deliveries;
         Ok(fit.stop)

@@ -56,13 +56,15 @@ impl<A: AddressSpace> Node<A> {
         ensures lines { OnOk result (out.new ≡ out.old ++ fresh) }
         ensures err { OnErr result (out.new ≡ out.old) }
     {
+        let mut fresh = fresh;
         let appended = fresh.words();
         let state = State::born(alloc, birth)?;
-        match out.append(fresh) {
+        match out.append(&mut fresh) {
             Ok(()) => Ok(Node {
                 alloc,
                 state,
                 feeds,
+                fresh,
                 appended,
                 failed: false,
             }),

@@ -5,5 +5,5 @@ use Rattle.node_world.proofs.delivery.send_over.Goals as goal
 
 pub send-requires-clause-filled : goal.send-requires-clause-filled
 send-requires-clause-filled c =
-    let bytes = c.deref.ensures.value ∙ c.in_ok-encode.ensures.ok ∙ ap (λ xs. xs ++ spelling_of c.args.rec.now) c.new-bytes.ensures.items in
+    let bytes = c.deref.ensures.value ∙ c.in_ok-encode.ensures.ok ∙ ap (λ xs. xs ++ spelling_of c.args.rec.now) c.clear.ensures.items in
     omega (arith, ap length bytes, spelling_of-length c.args.rec.now)

@@ -17,5 +17,5 @@ unreachable-requires c =
     let is = node_read m.nodes c.args.to.0 node c.requires.born (c.index_mut.ensures.value ∙ ap (λ (m : MachineView). slice_index_or m.nodes c.args.to.0 node) c.self.view_is) in
     let waits = ap (λ (m : MachineView). waiting_bytes (link_of m.pairs c.args.hop)) c.self.view_is in
     let fits : c.min-count.result ≤ length (waiting_bytes link) = omega (arith, c.min-count.ensures, c.waiting-waiting.ensures, ap length waits) in
-    let piece : c.deref.result.now ≡ take c.min-count.result (waiting_bytes link) = c.deref.ensures.value ∙ c.in_ok-piece.ensures.bytes ∙ ap (take c.min-count.result) waits in
+    let piece : c.deref.result.now ≡ take c.min-count.result (waiting_bytes link) = c.deref.ensures.value ∙ c.in_ok-take.ensures.bytes ∙ ap (take c.min-count.result) waits in
     never_refused c.laws.ensures.wire link node (node_at m.nodes c.args.to.0) c.args.side c.args.from c.min-count.result c.deref.result.now bad is c.requires.flows c.requires.side fits piece refused

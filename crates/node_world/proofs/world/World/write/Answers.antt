@@ -10,7 +10,7 @@ invariant_of-self-2 c =
     let fit = c.fitting-fit in
     let counts = counted_more c.self.inside.journal c.truncate.new.self c.as_slice.result.now c.args.fresh c.append.new.self fit.result.count c.self.inside.words c.self.inside.deliveries fit.result.words fit.result.deliveries
     c.as_slice.ensures c.truncate.ensures c.in_ok-append.ensures.ok c.self.invariant.words c.self.invariant.deliveries fit.ensures.words fit.ensures.deliveries in
-    failed_keeps c.self.inside.machine c.append.new.self c.self.inside.progress fit.result.words fit.result.deliveries (ap (λ w. w.progress) c.self.view_is ∙ c.requires.failed) counts.0 counts.1 fit.ensures.words_fit fit.ensures.deliveries_fit
+    failed_keeps c.reuse.new.self c.append.new.self c.self.inside.progress fit.result.words fit.result.deliveries (ap (λ w. w.progress) c.self.view_is ∙ c.requires.failed) counts.0 counts.1 fit.ensures.words_fit fit.ensures.deliveries_fit
 
 pub returns-clause-stopped : goal.returns-clause-stopped
 returns-clause-stopped c which is =
