@@ -1,6 +1,7 @@
 // Neighbours by number, as rows.
-ghost use Rattle.std.specs.Prelude.{◌≡◌, [], drop, slice_get, option_map, IfSome, OnOk, OnErr, Some};
+ghost use Rattle.std.specs.Prelude.{◌≡◌, ◌<◌, ◌≤◌, ◌^◌, [], drop, slice_get, vec_len, option_map, IfSome, OnOk, OnErr, Some};
 ghost use Rattle.xm_num.specs.Rows as rows;
+ghost use Rattle.route_learn.specs.Layout.{present};
 ghost use Rattle.route_learn.specs.Routes.{place_of, AreNumbers};
 
 use std::alloc::{AllocError, Global};
@@ -70,30 +71,47 @@ impl Askers {
     }
 }
 
-// The neighbour over which each enclave lies, by the enclaves' numbers.
+// Makes room for an enclave's number. It changes no way, also for want of memory.
+#[tactic(auto, using(crate::proofs::PresentLemmas::present_resized))]
+fn make_room(items: &mut Vec<Option<Neighbour>>, number: usize) -> Result<(), AllocError>
+    requires { number < 2 ^ 16 }
+    ensures room { OnOk result (number < vec_len items.new) }
+    ensures most { vec_len items.old ≤ 2 ^ 16 → vec_len items.new ≤ 2 ^ 16 }
+    ensures same { present 0 items.new.items ≡ present 0 items.old.items }
+{
+    if number < items.len() {
+        return Ok(());
+    }
+    items.resize(number + 1, None)
+}
+
+// The neighbour over which each enclave lies, by the enclaves' numbers. These are small and dense, so a look-up is one
+// read of a vector.
 #[derive(Drop)]
 pub struct Ways {
-    rows: BTreeMap<u16, Neighbour>,
-    ghost numbers: { AreNumbers rows.entries },
+    items: Vec<Option<Neighbour>>,
 }
 
 impl Model for Ways {
-    ghost use Rattle.std.specs.Prelude.{ℕ, List};
+    ghost use Rattle.std.specs.Prelude.{ℕ, ◌≤◌, ◌^◌, List, vec_len};
     ghost use Rattle.xm_num.specs.declared.Neighbour.{Neighbour};
+    ghost use Rattle.route_learn.specs.Layout.{present};
 
     ghost Value = { List (ℕ × Neighbour) };
 
-    ghost view = { λ w. w.rows.entries };
+    ghost view = { λ w. present 0 w.items.items };
+
+    ghost invariant = { λ w. vec_len w.items ≤ 2 ^ 16 };
 }
 
-#[tactic(auto, unfolding(xm_num::specs::Rows::at, xm_num::specs::Rows::put, xm_num::specs::Rows::less))]
+#[tactic(auto, using(crate::proofs::PresentLemmas::ways))]
 impl Ways {
     // No enclave has a way.
     pub fn new(alloc: Global) -> Ways
         ensures { result ≡ [] }
     {
         Ways {
-            rows: BTreeMap::new(alloc),
+            items: Vec::new(alloc),
         }
     }
 
@@ -101,7 +119,7 @@ impl Ways {
     pub fn get(&self, of: Enclave) -> Option<Neighbour>
         ensures { result ≡ rows.at self.now of.0 }
     {
-        self.rows.get(&of.0).copied()
+        self.items.get(of.0 as usize).copied().flatten()
     }
 
     // Lays the way to an enclave. For want of memory the ways stay as they were.
@@ -109,7 +127,9 @@ impl Ways {
         ensures ok { OnOk result (self.new ≡ rows.put self.old of.0 over) }
         ensures err { OnErr result (self.new ≡ self.old) }
     {
-        self.rows.insert(of.0, over)?;
+        let number = of.0 as usize;
+        make_room(&mut self.items, number)?;
+        self.items[number] = Some(over);
         Ok(())
     }
 
@@ -117,7 +137,10 @@ impl Ways {
     pub fn remove(&mut self, of: Enclave)
         ensures { self.new ≡ rows.less self.old of.0 }
     {
-        let _ = self.rows.remove(&of.0);
+        let number = of.0 as usize;
+        if number < self.items.len() {
+            self.items[number] = None;
+        }
     }
 
     // The least enclave from that number on that has a way, and its way.
@@ -127,7 +150,11 @@ impl Ways {
         ensures ascending { rows.IsAscending self.now }
         ensures numbers { AreNumbers self.now }
     {
-        let (number, over) = self.rows.range(low..).next()?;
-        Some((Enclave(*number), *over))
+        for number in low as usize..self.items.len() {
+            if let Some(over) = self.items[number] {
+                return Some((Enclave(number as u16), over));
+            }
+        }
+        None
     }
 }

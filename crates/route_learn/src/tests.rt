@@ -130,3 +130,22 @@ fn routes_are_given_ascending(rt: HostRuntime) -> Result<(), AllocError> {
     }
     Ok(())
 }
+
+#[test]
+fn numbers_far_apart_have_routes(rt: HostRuntime) -> Result<(), AllocError> {
+    let mut routes = Routes::new(rt.alloc(), false)?;
+    for (number, over) in [(300, down(3)), (65535, Neighbour::Up), (0, down(65535))] {
+        routes.back(Enclave(number), over)?;
+        assert_eq!(rt; routes.learn(Enclave(number))?, Some(over));
+    }
+    assert_eq!(rt; routes.way(Enclave(300)), Way::Over(down(3)));
+    routes.forget(Enclave(300));
+    for (from, want) in [
+        (0, Some((Enclave(0), down(65535)))),
+        (1, Some((Enclave(65535), Neighbour::Up))),
+        (65535, Some((Enclave(65535), Neighbour::Up))),
+    ] {
+        assert_eq!(rt; routes.next_route(from), want, "from {from}");
+    }
+    Ok(())
+}
