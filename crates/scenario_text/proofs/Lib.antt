@@ -8,6 +8,7 @@ pub mod JoinedLemmas
 pub mod LineLemmas
 pub mod Placed
 pub mod ItemLemmas
+pub mod NumberLemmas
 pub mod PieceLemmas
 pub mod NameLemmas
 pub mod BytesLemmas

@@ -1,8 +1,7 @@
 -- Worked scenarios, by which the definitions are compared with what was wanted of them.
 use Rattle.std.specs.Prelude.{◌≡◌, ◌++◌, ℕ, List, [], ◌∷◌, Option, Some, codes}
 use Rattle.std.specs.List.{flat_map}
-use Rattle.scenario_text.specs.Scenario.{Ending, Stop, Faulty, Unbuilt, scenario_of}
-use Rattle.scenario_text.specs.declared.fault.SyntaxFault.TheVariants as faults
+use Rattle.scenario_text.specs.Scenario.{Ending, Stop, scenario_of}
 use Rattle.global_model.specs.Spelling.{text_of}
 use Rattle.global_model.specs.Due.{journal_of}
 

@@ -1,6 +1,6 @@
 -- Rows: the words of a line, as its first word and the items behind it.
 use Rattle.std.specs.Prelude.{◌≡◌, ℕ, List, ◌∷◌, [], ◌++◌, decimal, map, length, take}
-use Rattle.std.specs.List.{join_with_byte, flat_map}
+use Rattle.std.specs.List.{join_with_byte}
 use Rattle.global_model.specs.Spelling.{mode_word, hex_words}
 use Rattle.scenario_text.specs.declared.item.Item.{Item}
 use Rattle.scenario_text.specs.declared.item.Item.TheVariants as items
@@ -14,9 +14,9 @@ item_words (items.Frames frames) = map (λ f. decimal f.0) frames.now
 item_words (items.Blocks blocks) = map (λ b. decimal b.0) blocks.now
 item_words (items.Hex bytes) = hex_words bytes.now
 
--- the first word and the items with one space between, and a line feed
-abbrev pub row_text : List ℕ → List Item → List ℕ
-row_text first behind = join_with_byte 32 (first ∷ flat_map item_words behind) ++ 10 ∷ []
+-- the first word and the words behind it with one space between, and a line feed
+abbrev pub row_text : List ℕ → List (List ℕ) → List ℕ
+row_text first behind = join_with_byte 32 (first ∷ behind) ++ 10 ∷ []
 
 -- the bytes that were there before are still there, with or without others behind them
 pub record IsBegunBy (before after : List ℕ) : Type 0 where

@@ -1,5 +1,5 @@
 -- The commands that a scenario's bytes spell, and what ends them.
-use Rattle.std.specs.Prelude.{◌+◌, ℕ, List, [], ◌∷◌, ◌++◌, length, Bool, true, false, not, ◌==◌, nat_lt, if◌then◌else◌, Option, None, Some, Result, Ok, Err, slice_index}
+use Rattle.std.specs.Prelude.{◌+◌, ℕ, List, [], ◌∷◌, ◌++◌, length, Bool, true, not, ◌==◌, nat_lt, if◌then◌else◌, Option, None, Some, Result, Ok, Err, slice_index}
 use Rattle.std.specs.Option.{option_to_list}
 use Rattle.global_model.specs.declared.command.Command.{Command}
 use Rattle.global_model.specs.Place.{is_in_place, is_built}

@@ -1,6 +1,5 @@
 // The text of a row: a line's words with one space between, and a line feed.
-ghost use Rattle.std.specs.Prelude.{◌≡◌, ◌%◌, ◌∷◌, ◌++◌, [], map, decimal, OnOk, OnErr};
-ghost use Rattle.std.specs.List.{flat_map};
+ghost use Rattle.std.specs.Prelude.{◌≡◌, ◌+◌, ◌%◌, ◌<◌, ◌≤◌, ◌∷◌, ◌++◌, [], map, decimal, vec_len, vec_capacity, OnOk, OnErr};
 ghost use Rattle.hex.specs.Hex.{encode_lower};
 ghost use Rattle.global_model.specs.Spelling.{spaced, digit_of, mode_word, frame_words, hex_words};
 ghost use Rattle.scenario_text.specs.Items.{IsBegunBy, item_words, row_text};
@@ -37,13 +36,57 @@ fn word(out: &mut Vec<u8>, word: &[u8]) -> Result<(), AllocError>
     text(out, word)
 }
 
-// Appends a space and a number.
-fn number(out: &mut Vec<u8>, n: u64) -> Result<(), AllocError>
+// The byte of a digit.
+fn digit(n: u64) -> u8
+    requires { n < 10 }
+    ensures { result ≡ 48 + n }
+{
+    b'0' + n as u8
+}
+
+// Appends the decimal digits of a number of at most three, for which there is room.
+#[tactic(auto, using(crate::proofs::NumberLemmas::short))]
+fn put_digits(out: &mut Vec<u8>, n: u64)
+    requires short { n < 1000 }
+    requires room { vec_len out.old + 3 ≤ vec_capacity out.old }
+    ensures { out.new.items ≡ out.old.items ++ decimal n }
+{
+    if n < 10 {
+        out.push_reserved(digit(n));
+        return;
+    }
+    if n < 100 {
+        out.push_reserved(digit(n / 10));
+        out.push_reserved(digit(n % 10));
+        return;
+    }
+    out.push_reserved(digit(n / 100));
+    out.push_reserved(digit(n / 10 % 10));
+    out.push_reserved(digit(n % 10));
+}
+
+// Appends a space and a number of more than three digits.
+#[inline(never)]
+fn long_number(out: &mut Vec<u8>, n: u64) -> Result<(), AllocError>
     ensures ok { OnOk result (out.new.items ≡ out.old.items ++ spaced (decimal n ∷ [])) }
     ensures err { OnErr result (IsBegunBy out.old.items out.new.items) }
 {
     let mut buffer = Buffer::new();
     word(out, buffer.format(n).as_bytes())
+}
+
+// Appends a space and a number. Most are short, and their digits are put down at once.
+fn number(out: &mut Vec<u8>, n: u64) -> Result<(), AllocError>
+    ensures ok { OnOk result (out.new.items ≡ out.old.items ++ spaced (decimal n ∷ [])) }
+    ensures err { OnErr result (IsBegunBy out.old.items out.new.items) }
+{
+    if n > 999 {
+        return long_number(out, n);
+    }
+    out.reserve(4)?;
+    out.push_reserved(b' ');
+    put_digits(out, n);
+    Ok(())
 }
 
 // The last octal digit of a number.
@@ -124,6 +167,7 @@ fn hex_word(out: &mut Vec<u8>, bytes: &[u8]) -> Result<(), AllocError>
 }
 
 // Appends the words of an item, a space before each.
+#[inline(always)]
 fn item_text(out: &mut Vec<u8>, item: &Item) -> Result<(), AllocError>
     ensures ok { OnOk result (out.new.items ≡ out.old.items ++ spaced (item_words item.now)) }
     ensures err { OnErr result (IsBegunBy out.old.items out.new.items) }
@@ -138,33 +182,56 @@ fn item_text(out: &mut Vec<u8>, item: &Item) -> Result<(), AllocError>
     }
 }
 
-// Appends the words of items, a space before each.
-#[tactic(auto, using(crate::proofs::ItemLemmas::begun))]
-fn items_text(out: &mut Vec<u8>, items: &[Item]) -> Result<(), AllocError>
-    ensures ok { OnOk result (out.new.items ≡ out.old.items ++ spaced (flat_map item_words items.now)) }
-    ensures err { OnErr result (IsBegunBy out.old.items out.new.items) }
-{
-    for item in items {
-        item_text(out, item)?;
+/// What stands in a row behind its first word: nothing, or an item and what stands behind it. The compiler knows which
+/// items a row has, so that it spells them without a loop.
+pub trait Behind {
+    ghost use Rattle.std.specs.Prelude.{ℕ, List};
+
+    ghost words: { Self → List (List ℕ) };
+
+    // Appends the words, a space before each.
+    fn append(&self, out: &mut Vec<u8>) -> Result<(), AllocError>
+        ensures ok { OnOk result (out.new.items ≡ out.old.items ++ spaced (words self.now)) }
+        ensures err { OnErr result (IsBegunBy out.old.items out.new.items) };
+}
+
+impl Behind for () {
+    ghost words = { λ _. [] };
+
+    #[inline(always)]
+    fn append(&self, out: &mut Vec<u8>) -> Result<(), AllocError> {
+        let _ = out;
+        Ok(())
     }
-    Ok(())
+}
+
+impl<B: Behind> Behind for (Item<'_>, B) {
+    ghost words = { λ items. item_words items.0 ++ B.words items.1 };
+
+    #[inline(always)]
+    fn append(&self, out: &mut Vec<u8>) -> Result<(), AllocError> {
+        item_text(out, &self.0)?;
+        self.1.append(out)
+    }
 }
 
 // Appends a row. For want of memory a part of it may stand.
+#[inline(always)]
 #[tactic(auto, using(crate::proofs::ItemLemmas::begun, crate::proofs::ItemLemmas::join_is))]
-fn append_row(out: &mut Vec<u8>, first: &str, behind: &[Item]) -> Result<(), AllocError>
-    ensures ok { OnOk result (out.new.items ≡ out.old.items ++ row_text first.now behind.now) }
+fn append_row<B: Behind>(out: &mut Vec<u8>, first: &str, behind: &B) -> Result<(), AllocError>
+    ensures ok { OnOk result (out.new.items ≡ out.old.items ++ row_text first.now (B.words behind.now)) }
     ensures err { OnErr result (IsBegunBy out.old.items out.new.items) }
 {
     text(out, first.as_bytes())?;
-    items_text(out, behind)?;
+    behind.append(out)?;
     text(out, b"\n")
 }
 
-/// Appends a first word and the items behind it, with one space between, and a line feed. For want of memory nothing
+/// Appends a first word and what stands behind it, with one space between, and a line feed. For want of memory nothing
 /// is appended.
-pub fn print_row(out: &mut Vec<u8>, first: &str, behind: &[Item]) -> Result<(), AllocError>
-    ensures ok { OnOk result (out.new.items ≡ out.old.items ++ row_text first.now behind.now) }
+#[inline(always)]
+pub fn print_row<B: Behind>(out: &mut Vec<u8>, first: &str, behind: &B) -> Result<(), AllocError>
+    ensures ok { OnOk result (out.new.items ≡ out.old.items ++ row_text first.now (B.words behind.now)) }
     ensures err { OnErr result (out.new.items ≡ out.old.items) }
 {
     let start = out.len();
@@ -177,8 +244,14 @@ pub fn print_row(out: &mut Vec<u8>, first: &str, behind: &[Item]) -> Result<(), 
 
 // A row whose items are made of the fields that they spell.
 macro_rules! row {
+    (@behind) => {
+        ()
+    };
+    (@behind $item:expr $(, $more:expr)*) => {
+        ($crate::item::Item::from($item), row!(@behind $($more),*))
+    };
     ($out:expr, $first:literal $(, $item:expr)*) => {
-        $crate::row::print_row($out, $first, &[$($crate::item::Item::from($item)),*])
+        $crate::row::print_row($out, $first, &row!(@behind $($item),*))
     };
 }
 
