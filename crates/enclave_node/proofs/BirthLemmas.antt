@@ -6,10 +6,9 @@ use Rattle.xm_num.specs.declared.Kind.{Kind}
 use Rattle.xm_num.specs.declared.Block.{Block}
 use Rattle.xm_num.specs.Rows.{put}
 use Rattle.xemem_wire.specs.Decoding.{Decoding, nothing_taken}
-use Rattle.global_model.specs.declared.line.Line.{Line}
-use Rattle.global_model.specs.View.{View, no_host, frames_of, own_lines, with_birth}
-use Rattle.global_model.specs.Steps.{told_lines, child_lines, birth_lines}
-use Rattle.global_model.specs.Known.{unborn_view}
+use Rattle.xemem_language.specs.declared.line.Line.{Line}
+use Rattle.enclave_rules.specs.View.{View, no_host, frames_of, own_lines, with_birth, unborn_view}
+use Rattle.enclave_rules.specs.Steps.{told_lines, child_lines, birth_lines}
 use Rattle.enclave_node.specs.declared.state.Birth.{Birth}
 use Rattle.enclave_node.specs.Births.{child_birth, child_told, born_view}
 use Rattle.enclave_node.specs.Nodes.{NodeView, born_node, new_node}

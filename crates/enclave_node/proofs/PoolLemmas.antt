@@ -8,11 +8,10 @@ use Rattle.xm_num.specs.declared.Block.{Block}
 use Rattle.frame_pool.specs.declared.BlockState.{BlockState}
 use Rattle.frame_pool.specs.declared.BlockState.TheVariants as states
 use Rattle.frame_pool.specs.Blocks as pools
-use Rattle.global_model.specs.declared.line.Line.{Line}
-use Rattle.global_model.specs.Facts.{is_listed, Lent, Free}
-use Rattle.global_model.specs.View.{lend_from}
-use Rattle.global_model.specs.Steps.{host, first_blocks, free_from, state_line, state_lines}
-use Rattle.global_model.specs.Known.{free_pool}
+use Rattle.xemem_language.specs.declared.line.Line.{Line}
+use Rattle.enclave_rules.specs.Blocks.{is_listed, Lent, Free}
+use Rattle.enclave_rules.specs.View.{lend_from, host, free_pool}
+use Rattle.enclave_rules.specs.Steps.{first_blocks, free_from, state_line, state_lines}
 use Rattle.enclave_node.specs.Blocks.{fact_of_state, facts_of, free_in, lent_host, born_host}
 
 pub free_same : (k : ℕ) (all : List BlockState) → pools.free_from k all ≡ free_from k (facts_of all)

@@ -2,12 +2,12 @@
 use Rattle.std.proofs.Common.{◌≡◌, List, [], ◌∷◌, ◌++◌, drop, Some, refl, sym, ap, ◌∙◌, append_assoc}
 use Rattle.std.specs.Prelude.{slice_get}
 use Rattle.xm_num.specs.declared.Enclave.{Enclave}
-use Rattle.xemem_wire.specs.declared.format.Record.{Record}
+use Rattle.xemem_language.specs.declared.record.Record.{Record}
 use Rattle.xemem_wire.specs.Decoding.{Decoding}
-use Rattle.global_model.specs.declared.line.Line.{Line}
-use Rattle.global_model.specs.declared.line.Line.TheVariants as lines
-use Rattle.global_model.specs.View.{View, own_line, own_lines}
-use Rattle.global_model.specs.Steps.{record_lines, lines_of_records}
+use Rattle.xemem_language.specs.declared.line.Line.{Line}
+use Rattle.xemem_language.specs.declared.line.Line.TheVariants as lines
+use Rattle.enclave_rules.specs.View.{View, own_line, own_lines}
+use Rattle.enclave_rules.specs.Steps.{record_lines, lines_of_records}
 
 own_lines-append : (v : View) (ls ms : List Line) → own_lines v (ls ++ ms) ≡ own_lines (own_lines v ls) ms
 own_lines-append v [] ms = refl

@@ -6,11 +6,10 @@ use Rattle.xm_num.specs.declared.Enclave.{Enclave}
 use Rattle.xm_num.specs.declared.Neighbour.{Neighbour}
 use Rattle.xm_num.specs.declared.Neighbour.TheVariants as neighbours
 use Rattle.route_learn.specs.Routes.{place_of}
-use Rattle.global_model.specs.declared.line.Line.{Line}
-use Rattle.global_model.specs.Facts.{place_among}
-use Rattle.global_model.specs.View.{View, own_lines}
-use Rattle.global_model.specs.declared.line.Line.TheVariants as lines
-use Rattle.global_model.specs.Steps.{here_of, told_askers}
+use Rattle.xemem_language.specs.declared.line.Line.{Line}
+use Rattle.enclave_rules.specs.View.{place_among, View, own_lines}
+use Rattle.xemem_language.specs.declared.line.Line.TheVariants as lines
+use Rattle.enclave_rules.specs.Steps.{here_of, told_askers}
 use Rattle.enclave_node.specs.Sides.{enclave_of, side_of}
 
 -- a neighbour's place is the same by its side as by its number

@@ -6,11 +6,10 @@ use Rattle.xm_num.specs.declared.Neighbour.{Neighbour}
 use Rattle.xm_num.specs.Rows.{at, put, less, next_from, IsAscending}
 use Rattle.route_learn.specs.Routes as ways
 use Rattle.route_learn.specs.Routes.{RouteView, place_of, AreNumbers}
-use Rattle.global_model.specs.declared.line.Line.{Line}
-use Rattle.global_model.specs.declared.line.Line.TheVariants as lines
-use Rattle.global_model.specs.Facts.{place_among}
-use Rattle.global_model.specs.View.{View, own_line, own_lines}
-use Rattle.global_model.specs.Steps.{register_of, here_lines, knows_way, told_askers, drop_lines}
+use Rattle.xemem_language.specs.declared.line.Line.{Line}
+use Rattle.xemem_language.specs.declared.line.Line.TheVariants as lines
+use Rattle.enclave_rules.specs.View.{place_among, View, own_line, own_lines}
+use Rattle.enclave_rules.specs.Steps.{register_of, here_lines, knows_way, told_askers, drop_lines}
 use Rattle.enclave_node.specs.Sides.{enclave_of, side_of, rows_of, with_way, with_route, learned_lines}
 use Rattle.enclave_node.proofs.RowLemmas.{put_map, less_map, at_map, next_map, ascending_map, numbers_map, rows_from, first_of_rows}
 use Rattle.enclave_node.proofs.SideLemmas.{place_same, number_same, known_same, told_kept}

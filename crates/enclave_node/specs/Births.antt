@@ -4,10 +4,10 @@ use Rattle.xm_num.specs.declared.Enclave.{Enclave}
 use Rattle.xm_num.specs.declared.Block.{Block}
 use Rattle.xm_num.specs.declared.Kind.{Kind}
 use Rattle.xm_num.specs.declared.Kind.TheVariants as kinds
-use Rattle.global_model.specs.declared.line.Line.{Line}
-use Rattle.global_model.specs.declared.line.Line.TheVariants as lines
-use Rattle.global_model.specs.View.{View, HostView, no_host, frames_of}
-use Rattle.global_model.specs.Steps.{host, first_blocks, birth_lines}
+use Rattle.xemem_language.specs.declared.line.Line.{Line}
+use Rattle.xemem_language.specs.declared.line.Line.TheVariants as lines
+use Rattle.enclave_rules.specs.View.{View, HostView, no_host, frames_of, host}
+use Rattle.enclave_rules.specs.Steps.{first_blocks, birth_lines}
 use Rattle.enclave_node.specs.Blocks.{born_host}
 use Rattle.enclave_node.specs.declared.state.Birth.{Birth}
 

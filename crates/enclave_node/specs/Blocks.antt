@@ -4,10 +4,9 @@ use Rattle.xm_num.specs.declared.Enclave.{Enclave}
 use Rattle.xm_num.specs.declared.Block.{Block}
 use Rattle.frame_pool.specs.declared.BlockState.{BlockState}
 use Rattle.frame_pool.specs.declared.BlockState.TheVariants as states
-use Rattle.global_model.specs.Facts.{BlockFact, Free, Lent, Held}
-use Rattle.global_model.specs.View.{HostView, lend_from}
-use Rattle.global_model.specs.Steps.{host, first_blocks, free_from}
-use Rattle.global_model.specs.Known.{free_pool}
+use Rattle.enclave_rules.specs.Blocks.{BlockFact, Free, Lent, Held}
+use Rattle.enclave_rules.specs.View.{HostView, lend_from, host, free_pool}
+use Rattle.enclave_rules.specs.Steps.{first_blocks, free_from}
 
 -- what a block's state says
 abbrev pub fact_of_state : BlockState → BlockFact

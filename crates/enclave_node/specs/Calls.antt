@@ -1,10 +1,10 @@
 -- The calls of processes, and what can be shown of a node.
 use Rattle.std.specs.Prelude.{◌≡◌, List}
 use Rattle.xm_num.specs.declared.Pid.{Pid}
-use Rattle.global_model.specs.declared.line.Line.{Line}
-use Rattle.global_model.specs.Ranges.{IsWithin}
-use Rattle.global_model.specs.View.{View}
-use Rattle.global_model.specs.Steps.{alloc_lines, route_lines, state_lines}
+use Rattle.xemem_language.specs.declared.line.Line.{Line}
+use Rattle.xemem_language.specs.Ranges.{IsWithin}
+use Rattle.enclave_rules.specs.View.{View}
+use Rattle.enclave_rules.specs.Steps.{alloc_lines, route_lines, state_lines}
 use Rattle.enclave_node.specs.declared.call.Call.{Call}
 use Rattle.enclave_node.specs.declared.call.Call.TheVariants as calls
 use Rattle.enclave_node.specs.declared.call.Show.{Show}

@@ -8,14 +8,13 @@ use Rattle.xm_num.specs.declared.Neighbour.{Neighbour}
 use Rattle.xm_num.specs.declared.Neighbour.TheVariants as neighbours
 use Rattle.xm_num.specs.Rows.{at, put, less}
 use Rattle.xemem_wire.specs.Decoding.{Decoding, nothing_taken, after_piece}
-use Rattle.global_model.specs.declared.line.Line.{Line}
-use Rattle.global_model.specs.declared.line.Line.TheVariants as lines
-use Rattle.global_model.specs.Spelling.{words_in}
-use Rattle.global_model.specs.View.{View, own_lines, with_child, with_record}
-use Rattle.global_model.specs.Steps.{host, host_lines, birth_lines, first_blocks, lines_of_records}
+use Rattle.xemem_language.specs.declared.line.Line.{Line}
+use Rattle.xemem_language.specs.declared.line.Line.TheVariants as lines
+use Rattle.xemem_language.specs.Spelling.{words_in}
+use Rattle.enclave_rules.specs.View.{View, own_lines, with_child, with_record, host, unborn_view}
+use Rattle.enclave_rules.specs.Steps.{host_lines, birth_lines, first_blocks, lines_of_records}
 use Rattle.enclave_node.specs.declared.state.Birth.{Birth}
 use Rattle.enclave_node.specs.Births.{born_view}
-use Rattle.global_model.specs.Known.{unborn_view}
 
 -- A node: the view of its enclave; what the decoder of each neighbour's channel has, by the neighbour's number; how many words
 -- its lines have; and whether it failed for want of memory.

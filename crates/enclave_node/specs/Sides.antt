@@ -4,11 +4,10 @@ use Rattle.xm_num.specs.declared.Enclave.{Enclave}
 use Rattle.xm_num.specs.declared.Neighbour.{Neighbour}
 use Rattle.xm_num.specs.declared.Neighbour.TheVariants as neighbours
 use Rattle.xm_num.specs.Rows.{put, less}
-use Rattle.global_model.specs.declared.line.Line.{Line}
-use Rattle.global_model.specs.declared.line.Line.TheVariants as lines
-use Rattle.global_model.specs.Facts.{place_among}
-use Rattle.global_model.specs.View.{View}
-use Rattle.global_model.specs.Steps.{admit_of, drop_lines}
+use Rattle.xemem_language.specs.declared.line.Line.{Line}
+use Rattle.xemem_language.specs.declared.line.Line.TheVariants as lines
+use Rattle.enclave_rules.specs.View.{place_among, View}
+use Rattle.enclave_rules.specs.Steps.{admit_of, drop_lines}
 
 -- the number of a neighbour of an enclave with this parent
 abbrev pub enclave_of : Enclave → Neighbour → Enclave

@@ -1,7 +1,7 @@
 // What an enclave is born with, and the lines that tell its birth.
 ghost use Rattle.std.specs.Prelude.{◌≡◌, ◌<◌, ◌≤◌, ◌↔◌, [], ◌∷◌, ◌++◌, if◌then◌else◌, IfOk, OnOk, IsErrOf};
-ghost use Rattle.global_model.specs.declared.line.Line.TheVariants as lines;
-ghost use Rattle.global_model.specs.Steps as steps;
+ghost use Rattle.xemem_language.specs.declared.line.Line.TheVariants as lines;
+ghost use Rattle.enclave_rules.specs.Steps as steps;
 ghost use Rattle.enclave_node.specs.Births as spec;
 
 use crate::frames::Frames;
@@ -9,7 +9,7 @@ use crate::host::HostPart;
 use crate::lists::list_of;
 use crate::state::{Birth, query};
 use frame_pool::PoolFault;
-use global_model::{Line, Lines};
+use xemem_language::{Line, Lines};
 use std::alloc::{AllocError, Global};
 use xm_num::{Block, Enclave, EnclaveList, Kind};
 

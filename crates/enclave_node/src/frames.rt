@@ -1,8 +1,8 @@
 // The unused frames of an enclave.
 ghost use Rattle.std.specs.Prelude.{◌≡◌, ◌+◌, ◌≤◌, ◌^◌, ◌++◌, length, take, drop, IfOk, OnOk, OnErr};
 ghost use Rattle.std.specs.List.{range_with_len};
-ghost use Rattle.global_model.specs.Space.{frame_list};
-ghost use Rattle.global_model.specs.View.{frames_of};
+ghost use Rattle.enclave_rules.specs.Pages.{frame_list};
+ghost use Rattle.enclave_rules.specs.View.{frames_of};
 
 use crate::lists::list_of;
 use std::alloc::{AllocError, Global};

@@ -1,11 +1,11 @@
 // What the host keeps for the machine: the pool, and the parent of each enclave.
 ghost use Rattle.std.specs.Prelude.{◌≡◌, ◌+◌, ◌<◌, ◌≤◌, ◌↔◌, [], ◌∷◌, ◌++◌, length, take, IfOk, OnOk, OnErr, IsErrOf};
-ghost use Rattle.global_model.specs.View.{lend_from};
-ghost use Rattle.global_model.specs.Steps as steps;
+ghost use Rattle.enclave_rules.specs.View.{lend_from};
+ghost use Rattle.enclave_rules.specs.Steps as steps;
 ghost use Rattle.enclave_node.specs.Blocks.{fact_of_state, facts_of, free_in, born_host, lent_host};
 
 use frame_pool::{BlockState, Pool, PoolFault};
-use global_model::{Line, Lines};
+use xemem_language::{Line, Lines};
 use std::alloc::{AllocError, Global};
 use std::marker::Model;
 use xm_num::{Block, BlockList, Enclave, EnclaveList};
@@ -20,7 +20,7 @@ pub struct HostPart {
 }
 
 impl Model for HostPart {
-    ghost use Rattle.global_model.specs.View.{HostView};
+    ghost use Rattle.enclave_rules.specs.View.{HostView};
     ghost use Rattle.enclave_node.specs.Blocks.{facts_of};
 
     ghost Value = { HostView };

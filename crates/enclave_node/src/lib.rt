@@ -2,7 +2,6 @@
 #![tactic(auto)]
 
 mod births;
-mod call;
 mod children;
 mod feeds;
 mod frames;
@@ -15,5 +14,5 @@ mod state;
 #[cfg(test)]
 mod tests;
 
-pub use call::{Call, Show};
 pub use node::{Node, NodeFault};
+pub use xemem_language::{Call, Show};

@@ -1,8 +1,8 @@
 // An enclave with the ends of its channels.
 ghost use Rattle.std.specs.Prelude.{◌≡◌, ℕ, ◌+◌, ◌<◌, ◌≤◌, ◌≢◌, ◌⊎◌, ◌↔◌, true, false, None, Some, [], ◌∷◌, ◌++◌, length, take, IsSome, IfOk, OnOk, OnErr, IsErr, IsErrOf};
 ghost use Rattle.xm_num.specs.Rows.{at, less};
-ghost use Rattle.global_model.specs.Steps as steps;
-ghost use Rattle.global_model.specs.Spelling.{words_in};
+ghost use Rattle.enclave_rules.specs.Steps as steps;
+ghost use Rattle.xemem_language.specs.Spelling.{words_in};
 ghost use Rattle.enclave_node.specs.Nodes as spec;
 ghost use Rattle.enclave_node.specs.Answers.{handled};
 ghost use Rattle.enclave_node.specs.Calls.{IsCallInRange, call_lines, HasShown, show_lines};
@@ -13,7 +13,7 @@ use crate::call::{Call, Show};
 use crate::feeds::{Feed, Feeds};
 use crate::state::State;
 use frame_pool::PoolFault;
-use global_model::{Line, Lines};
+use xemem_language::{Line, Lines};
 use page_table::AddressSpace;
 use std::alloc::{AllocError, Global};
 use std::marker::Model;

@@ -1,10 +1,10 @@
 // A process: its user and group, and its pages.
 ghost use Rattle.std.specs.Prelude.{◌≡◌, ◌+◌, ◌/◌, ◌≤◌, ◌^◌, false, length, map, IfOk, OnOk, OnErr};
 ghost use Rattle.xm_num.specs.Rows.{at, put_all, any_between};
-ghost use Rattle.global_model.specs.Space.{own_page};
-ghost use Rattle.global_model.specs.Space as spaces;
-ghost use Rattle.global_model.specs.View.{new_process};
-ghost use Rattle.global_model.specs.Steps.{page_answer};
+ghost use Rattle.enclave_rules.specs.Pages.{own_page};
+ghost use Rattle.enclave_rules.specs.Pages as spaces;
+ghost use Rattle.enclave_rules.specs.View.{new_process};
+ghost use Rattle.enclave_rules.specs.Steps.{page_answer};
 
 use page_table::{AddressSpace, MapFault};
 use std::alloc::{AllocError, Global};
@@ -24,7 +24,7 @@ pub struct Process<A: AddressSpace> {
 }
 
 impl<A: AddressSpace> Model for Process<A> {
-    ghost use Rattle.global_model.specs.View.{ProcessView};
+    ghost use Rattle.enclave_rules.specs.View.{ProcessView};
     ghost use Rattle.enclave_node.specs.Layout.{IsSpace};
 
     ghost Value = { ProcessView };

@@ -1,7 +1,7 @@
 // All that an enclave knows, and what it does with a record or a call. It decides from that and its arguments alone.
 ghost use Rattle.std.specs.Prelude.{◌≡◌, ◌<◌, ◌↔◌, ◌++◌, length, take, IfOk, OnOk, IsErrOf};
-ghost use Rattle.global_model.specs.View.{own_lines, with_child, with_record};
-ghost use Rattle.global_model.specs.Steps as steps;
+ghost use Rattle.enclave_rules.specs.View.{own_lines, with_child, with_record};
+ghost use Rattle.enclave_rules.specs.Steps as steps;
 ghost use Rattle.enclave_node.specs.Births.{born_view};
 
 mod calls;
@@ -13,12 +13,12 @@ use crate::frames::Frames;
 use crate::host::HostPart;
 use crate::process::Process;
 use frame_pool::PoolFault;
-use global_model::{Line, Lines};
+use xemem_language::{Line, Lines};
 use page_table::AddressSpace;
 use route_learn::Routes;
 use std::alloc::{AllocError, Global};
 use std::marker::Model;
-use xemem_wire::{Body, Record};
+use xemem_language::{Body, Record};
 use xm_num::{BlockList, Enclave, EnclaveList, Kind};
 
 /// What an enclave is born with.
@@ -52,7 +52,7 @@ pub struct State<A: AddressSpace> {
 }
 
 impl<A: AddressSpace> Model for State<A> {
-    ghost use Rattle.global_model.specs.View.{View};
+    ghost use Rattle.enclave_rules.specs.View.{View};
     ghost use Rattle.std.specs.Prelude.{option_map};
     ghost use Rattle.enclave_node.specs.Births.{host_view};
     ghost use Rattle.enclave_node.specs.Sides.{enclave_of, rows_of};

@@ -7,11 +7,12 @@ mod ways;
 
 use crate::{Call, Node, NodeFault, Show};
 use frame_pool::PoolFault;
-use global_model::{Line, Lines};
+use xemem_language::{Line, Lines};
 use page_table::{AddressSpace, PageTable};
 use std::alloc::{AllocError, Global};
 use std::process::Abort;
-use xemem_wire::{Body, Decoder, WireFault};
+use xemem_language::Body;
+use xemem_wire::{Decoder, WireFault};
 use xm_num::laws::rows;
 use xm_num::{Block, Cause, Enclave, EnclaveList, Frame, Kind, Neighbour, Pid, Vpn, Want};
 

@@ -5,14 +5,14 @@ use Rattle.xm_num.specs.declared.Enclave.{Enclave}
 use Rattle.xm_num.specs.declared.Pid.{Pid}
 use Rattle.xm_num.specs.declared.Vpn.{Vpn}
 use Rattle.xm_num.specs.declared.Cause.{Cause}
-use Rattle.global_model.specs.declared.command.Command.{Command}
-use Rattle.global_model.specs.declared.command.Command.TheVariants as commands
-use Rattle.global_model.specs.declared.line.Line.{Line}
-use Rattle.global_model.specs.declared.line.Line.TheVariants as lines
+use Rattle.xemem_language.specs.declared.command.Command.{Command}
+use Rattle.xemem_language.specs.declared.command.Command.TheVariants as commands
+use Rattle.xemem_language.specs.declared.line.Line.{Line}
+use Rattle.xemem_language.specs.declared.line.Line.TheVariants as lines
 use Rattle.global_model.specs.Facts.{Facts}
 use Rattle.global_model.specs.Space.{Mapping}
-use Rattle.global_model.specs.View.{view_of}
-use Rattle.global_model.specs.Steps.{route_lines}
+use Rattle.global_model.specs.Views.{view_of}
+use Rattle.enclave_rules.specs.Steps.{route_lines}
 use Rattle.global_model.specs.Refusals.{refusal_of}
 use Rattle.global_model.specs.Due.{next_enclave, touched_lines, acts_of, command_lines}
 use Rattle.global_model.proofs.Writes.{EachIs}

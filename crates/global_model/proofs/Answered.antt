@@ -17,14 +17,17 @@ use Rattle.xm_num.specs.declared.Cause.{Cause}
 use Rattle.xm_num.specs.declared.Cause.TheVariants as causes
 use Rattle.xm_num.specs.Rows.{at, any_between}
 use Rattle.xm_num.proofs.RowLemmas.{any_is_at}
-use Rattle.global_model.specs.declared.command.Command.TheVariants as commands
-use Rattle.global_model.specs.declared.line.Line.{Line}
-use Rattle.global_model.specs.declared.line.Line.TheVariants as lines
-use Rattle.global_model.specs.Facts.{Facts, BlockFact, Absent, Free, is_free, is_living_enclave, is_living_process}
-use Rattle.global_model.specs.Space.{mapping_of, pages_of, allows, unused_frames, free_blocks}
+use Rattle.xemem_language.specs.declared.command.Command.TheVariants as commands
+use Rattle.xemem_language.specs.declared.line.Line.{Line}
+use Rattle.xemem_language.specs.declared.line.Line.TheVariants as lines
+use Rattle.global_model.specs.Facts.{Facts, is_living_enclave, is_living_process}
+use Rattle.enclave_rules.specs.Blocks.{BlockFact, Absent, Free, is_free}
+use Rattle.global_model.specs.Space.{mapping_of, pages_of, unused_frames, free_blocks}
+use Rattle.enclave_rules.specs.Pages.{allows}
 use Rattle.global_model.specs.Refusals.{is_taken, denies}
-use Rattle.global_model.specs.View.{ProcessView, process_of, view_of}
-use Rattle.global_model.specs.Steps.{host, refusal, host_lines, process_at, alloc_lines, page_answer, touch_answer, answer_lines, route_lines, state_lines, free_from, first_blocks}
+use Rattle.enclave_rules.specs.View.{ProcessView, host}
+use Rattle.global_model.specs.Views.{process_of, view_of}
+use Rattle.enclave_rules.specs.Steps.{refusal, host_lines, process_at, alloc_lines, page_answer, touch_answer, answer_lines, route_lines, state_lines, free_from, first_blocks}
 use Rattle.global_model.specs.Due.{touched_lines, command_lines}
 use Rattle.global_model.specs.Known.{at_born, start_by, boot_by, IsAnswered}
 use Rattle.global_model.proofs.Runs.{filter_run-same, filter_all}

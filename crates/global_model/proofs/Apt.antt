@@ -10,19 +10,21 @@ use Rattle.xm_num.specs.declared.Vpn.{Vpn}
 use Rattle.xm_num.specs.declared.Kind.{Kind}
 use Rattle.xm_num.specs.declared.Kind.TheVariants as kinds
 use Rattle.xm_num.specs.declared.Cause.{Cause}
-use Rattle.xemem_wire.specs.declared.format.Record.{Record}
-use Rattle.global_model.specs.declared.command.Command.{Command}
-use Rattle.global_model.specs.declared.command.Command.TheVariants as commands
-use Rattle.global_model.specs.declared.line.Line.{Line}
-use Rattle.global_model.specs.declared.line.Line.TheVariants as lines
-use Rattle.global_model.specs.Facts.{Facts, BlockFact, Absent, Free, Lent, Held, is_living_enclave, after_line, after_lines}
+use Rattle.xemem_language.specs.declared.record.Record.{Record}
+use Rattle.xemem_language.specs.declared.command.Command.{Command}
+use Rattle.xemem_language.specs.declared.command.Command.TheVariants as commands
+use Rattle.xemem_language.specs.declared.line.Line.{Line}
+use Rattle.xemem_language.specs.declared.line.Line.TheVariants as lines
+use Rattle.global_model.specs.Facts.{Facts, is_living_enclave, after_line, after_lines}
+use Rattle.enclave_rules.specs.Blocks.{BlockFact, Absent, Free, Lent, Held}
 use Rattle.global_model.specs.Channels.{was_born, waiting_bytes, arriving}
 use Rattle.global_model.specs.Space.{Mapping, space_of, free_blocks}
 use Rattle.global_model.specs.Refusals.{Condition, first_cause, conditions_of, refusal_of}
-use Rattle.global_model.specs.View.{View, view_of}
-use Rattle.global_model.specs.Steps.{host, query_of, child_lines, birth_lines, knows_way, adopt_lines, lines_of_records, route_lines, state_lines}
+use Rattle.enclave_rules.specs.View.{View, host}
+use Rattle.global_model.specs.Views.{view_of}
+use Rattle.enclave_rules.specs.Steps.{query_of, child_lines, birth_lines, knows_way, adopt_lines, lines_of_records, route_lines, state_lines, bytes_lines}
 use Rattle.global_model.specs.Place.{may_stand}
-use Rattle.global_model.specs.Due.{next_enclave, touched_lines, got_lines, took_lines, deliver_lines, next_rest, waits, first_waiting, settle_end, settle_from, bytes_lines, acts_of, command_lines, step_lines}
+use Rattle.global_model.specs.Due.{next_enclave, touched_lines, got_lines, took_lines, deliver_lines, next_rest, waits, first_waiting, settle_end, settle_from, acts_of, command_lines, step_lines}
 use Rattle.global_model.proofs.Tree.{living_born}
 use Rattle.global_model.proofs.Kept.{IsKnown, IsBirth, IsApt, AreApt, apt_append, known_lines}
 use Rattle.global_model.proofs.Views.{IsOf, AreOf, of_records, got_lines-records}

@@ -2,18 +2,19 @@
 use Rattle.std.proofs.Common.{◌≡◌, ◌<◌, ◌≤◌, ℕ, List, [], ◌∷◌, ◌++◌, Bool, true, false, cond, ◌&&◌, eqb, Some, refl, sym, ap, ◌∙◌, subst, arith}
 use Rattle.std.proofs.lemmas.Bool.{eqb-true, eq-eqb, and_parts, le-leb}
 use Rattle.xm_num.specs.declared.Enclave.{Enclave}
-use Rattle.xemem_wire.specs.declared.format.Record.{Record}
+use Rattle.xemem_language.specs.declared.record.Record.{Record}
 use Rattle.xemem_wire.specs.Table.{is_enclave}
 use Rattle.xemem_wire.specs.Spelling.{is_valid, AreValid}
-use Rattle.global_model.specs.declared.line.Line.{Line}
-use Rattle.global_model.specs.declared.line.Line.TheVariants as lines
-use Rattle.global_model.specs.Facts.{Facts, ChannelFact, no_channel, at_pair, with_sent, with_got, place_among, fact_of, after_line, after_lines, facts_at}
+use Rattle.xemem_language.specs.declared.line.Line.{Line}
+use Rattle.xemem_language.specs.declared.line.Line.TheVariants as lines
+use Rattle.global_model.specs.Facts.{Facts, ChannelFact, no_channel, at_pair, with_sent, with_got, fact_of, after_line, after_lines, facts_at}
+use Rattle.enclave_rules.specs.View.{place_among, View}
 use Rattle.global_model.specs.Channels.{is_neighbour, arriving}
-use Rattle.global_model.specs.View.{View, view_of}
-use Rattle.global_model.specs.Steps.{record_lines}
+use Rattle.global_model.specs.Views.{view_of}
+use Rattle.enclave_rules.specs.Steps.{record_lines}
 use Rattle.global_model.specs.Due.{got_lines}
-use Rattle.global_model.specs.Lawful.{CarriedAt}
-use Rattle.global_model.specs.History.{Follows, onto}
+use Rattle.global_model.specs.Carriage.{CarriedAt}
+use Rattle.global_model.specs.Journals.{Follows, onto}
 use Rattle.global_model.specs.Flow.{IsTree, IsFlow, IsFlowing}
 use Rattle.global_model.proofs.Pasts.{onto-append, facts_at-onto, Follows-append}
 use Rattle.global_model.proofs.Flow.{valid_arriving, flow_sent, arriving_sent, IsNext, next_arrives}

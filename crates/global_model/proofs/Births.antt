@@ -9,10 +9,12 @@ use Rattle.xm_num.specs.declared.Enclave.{Enclave}
 use Rattle.xm_num.specs.declared.Kind.{Kind}
 use Rattle.xm_num.specs.declared.Block.{Block}
 use Rattle.xm_num.specs.Rows.{put}
-use Rattle.global_model.specs.declared.line.Line.TheVariants as lines
-use Rattle.global_model.specs.Facts.{Facts, BlockFact, fact_of, with_lent, after_line}
+use Rattle.xemem_language.specs.declared.line.Line.TheVariants as lines
+use Rattle.global_model.specs.Facts.{Facts, fact_of, with_lent, after_line}
+use Rattle.enclave_rules.specs.Blocks.{BlockFact}
 use Rattle.global_model.specs.Channels.{is_child_of}
-use Rattle.global_model.specs.View.{View, HostView, child_row, no_host, host_of, view_of, lend_from, as_born, with_child, with_record, own_line}
+use Rattle.enclave_rules.specs.View.{View, HostView, no_host, lend_from, as_born, with_child, with_record, own_line}
+use Rattle.global_model.specs.Views.{child_row, host_of, view_of}
 use Rattle.global_model.proofs.Runs.{passing_run-same, map_run-same, run-more}
 use Rattle.global_model.proofs.Kept.{IsKnown, IsBirth, no_fact}
 use Rattle.global_model.proofs.Shown.{IsShown, same_view, shown_here}

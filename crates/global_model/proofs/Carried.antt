@@ -14,21 +14,22 @@ use Rattle.xm_num.specs.declared.Cause.{Cause}
 use Rattle.xm_num.specs.declared.Cause.TheVariants as causes
 use Rattle.xemem_wire.specs.Table.{is_enclave}
 use Rattle.xemem_wire.specs.Spelling.{is_valid}
-use Rattle.global_model.specs.declared.command.Command.{Command}
-use Rattle.global_model.specs.declared.command.Command.TheVariants as commands
-use Rattle.global_model.specs.declared.line.Line.{Line}
-use Rattle.global_model.specs.declared.line.Line.TheVariants as lines
+use Rattle.xemem_language.specs.declared.command.Command.{Command}
+use Rattle.xemem_language.specs.declared.command.Command.TheVariants as commands
+use Rattle.xemem_language.specs.declared.line.Line.{Line}
+use Rattle.xemem_language.specs.declared.line.Line.TheVariants as lines
 use Rattle.global_model.specs.Facts.{Facts, after_line, after_lines, facts_at, no_facts, facts_after, is_living_enclave}
 use Rattle.global_model.specs.Channels.{is_neighbour, was_born, waiting_bytes}
-use Rattle.global_model.specs.View.{View, view_of}
-use Rattle.global_model.specs.Steps.{host, knows_way, query_of, child_lines, told_lines, adopt_lines}
+use Rattle.enclave_rules.specs.View.{View, host}
+use Rattle.global_model.specs.Views.{view_of}
+use Rattle.enclave_rules.specs.Steps.{knows_way, query_of, child_lines, told_lines, adopt_lines}
 use Rattle.global_model.specs.Space.{Mapping, space_of, free_blocks}
 use Rattle.global_model.specs.Refusals.{when, refusal_of}
-use Rattle.global_model.specs.Ranges.{IsInRange}
+use Rattle.xemem_language.specs.Ranges.{IsInRange}
 use Rattle.global_model.specs.Place.{may_stand, IsPlacedAfter, IsPlaced}
 use Rattle.global_model.specs.Due.{next_enclave, touched_lines, acts_of, step_lines, journal_from, journal_of}
-use Rattle.global_model.specs.Lawful.{CarriedAt}
-use Rattle.global_model.specs.History.{Follows, IsCarried, onto}
+use Rattle.global_model.specs.Carriage.{CarriedAt, IsCarried}
+use Rattle.global_model.specs.Journals.{Follows, onto}
 use Rattle.global_model.specs.Flow.{IsTree, IsFlowing}
 use Rattle.global_model.proofs.Pasts.{onto-append, facts_at-onto, Follows-append}
 use Rattle.global_model.proofs.Refused.{no_condition, not_false}

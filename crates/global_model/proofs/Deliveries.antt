@@ -3,13 +3,13 @@ use Rattle.std.proofs.Common.{◌≡◌, ◌+◌, ◌≤◌, ℕ, zero, suc, min
 use Rattle.std.specs.Option.{option_map_or}
 use Rattle.std.proofs.lemmas.Bool.{eqb-true, eqb-false, and_parts}
 use Rattle.xm_num.specs.declared.Enclave.{Enclave}
-use Rattle.xemem_wire.specs.declared.format.Record.{Record}
-use Rattle.global_model.specs.declared.line.Line.{Line}
-use Rattle.global_model.specs.declared.line.Line.TheVariants as lines
+use Rattle.xemem_language.specs.declared.record.Record.{Record}
+use Rattle.xemem_language.specs.declared.line.Line.{Line}
+use Rattle.xemem_language.specs.declared.line.Line.TheVariants as lines
 use Rattle.global_model.specs.Facts.{Facts, no_channel, with_taken, after_lines, facts_at}
 use Rattle.global_model.specs.Channels.{is_neighbour, waiting_bytes, arriving}
 use Rattle.global_model.specs.Due.{took_lines, deliver_lines, next_rest, first_waiting, settle_end, settle_from}
-use Rattle.global_model.specs.History.{onto}
+use Rattle.global_model.specs.Journals.{onto}
 use Rattle.global_model.specs.Flow.{IsFlow}
 use Rattle.global_model.proofs.Pasts.{facts_at-onto}
 use Rattle.global_model.proofs.Flow.{flow_taken}

@@ -11,10 +11,11 @@ use Rattle.xm_num.specs.declared.Frame.{Frame}
 use Rattle.xm_num.specs.declared.Block.{Block}
 use Rattle.xm_num.specs.declared.Kind.{Kind}
 use Rattle.xm_num.specs.declared.Vpn.{Vpn}
-use Rattle.global_model.specs.declared.command.Command.TheVariants as commands
-use Rattle.global_model.specs.declared.line.Line.{Line}
-use Rattle.global_model.specs.declared.line.Line.TheVariants as lines
-use Rattle.global_model.specs.Facts.{Facts, EnclaveFact, ChannelFact, BlockFact, Absent, Free, Lent, Held, OwnPage, ProcessFact, is_listed, own_from, is_living_process, at_number, after_line, after_lines}
+use Rattle.xemem_language.specs.declared.command.Command.TheVariants as commands
+use Rattle.xemem_language.specs.declared.line.Line.{Line}
+use Rattle.xemem_language.specs.declared.line.Line.TheVariants as lines
+use Rattle.global_model.specs.Facts.{Facts, EnclaveFact, ChannelFact, OwnPage, ProcessFact, own_from, is_living_process, at_number, after_line, after_lines}
+use Rattle.enclave_rules.specs.Blocks.{BlockFact, Absent, Free, Lent, Held, is_listed}
 use Rattle.global_model.specs.Space.{unused_frames, free_blocks}
 use Rattle.global_model.specs.Flow.{IsTree}
 use Rattle.global_model.proofs.Tree.{tree_born, tree_admitted}

@@ -9,10 +9,12 @@ use Rattle.std.proofs.lemmas.List.Folds.{list_any_none}
 use Rattle.xm_num.specs.declared.Enclave.{Enclave}
 use Rattle.xm_num.specs.declared.Kind.{Kind}
 use Rattle.xm_num.specs.declared.Block.{Block}
-use Rattle.global_model.specs.declared.line.Line.TheVariants as lines
-use Rattle.global_model.specs.Facts.{Facts, BlockFact, Absent, Free, Lent, Held, OwnPage, is_listed, is_free, is_lent_to, after_line}
-use Rattle.global_model.specs.Space.{is_own_frame, is_unused, frame_list, unused_frames}
-use Rattle.global_model.specs.View.{frames_of}
+use Rattle.xemem_language.specs.declared.line.Line.TheVariants as lines
+use Rattle.global_model.specs.Facts.{Facts, OwnPage, after_line}
+use Rattle.enclave_rules.specs.Blocks.{BlockFact, Absent, Free, Lent, Held, is_listed, is_free, is_lent_to}
+use Rattle.global_model.specs.Space.{is_own_frame, is_unused, unused_frames}
+use Rattle.enclave_rules.specs.Pages.{frame_list}
+use Rattle.enclave_rules.specs.View.{frames_of}
 use Rattle.global_model.proofs.Runs.{filter_run-same, filter_groups, is_among, first_of_run, first_taken, first_passes}
 use Rattle.global_model.proofs.Kept.{IsKnown, IsOwner, IsOfPool, IsBirth}
 

@@ -1,4 +1,3 @@
-pub mod CountLemmas
 pub mod Pasts
 pub mod Flow
 pub mod Tree
@@ -7,11 +6,7 @@ pub mod Writes
 pub mod Tells
 pub mod Plain
 pub mod Acts
-pub mod Heard
-pub mod Told
 pub mod Refused
-pub mod Legal
-pub mod Spelled
 pub mod Arriving
 pub mod Waiting
 pub mod Deliveries

@@ -12,9 +12,11 @@ use Rattle.xm_num.specs.declared.Vpn.{Vpn}
 use Rattle.xm_num.specs.declared.Frame.{Frame}
 use Rattle.xm_num.specs.declared.Page.{Page}
 use Rattle.xm_num.specs.Rows.{put, put_all}
-use Rattle.global_model.specs.declared.line.Line.TheVariants as lines
-use Rattle.global_model.specs.Facts.{Facts, OwnPage, own_from, is_lent_to, is_living_enclave, after_line}
-use Rattle.global_model.specs.Space.{is_of, own_page, with_own, pages_of, is_own_frame, is_unused, frame_list, unused_frames}
+use Rattle.xemem_language.specs.declared.line.Line.TheVariants as lines
+use Rattle.global_model.specs.Facts.{Facts, OwnPage, own_from, is_living_enclave, after_line}
+use Rattle.enclave_rules.specs.Blocks.{is_lent_to}
+use Rattle.global_model.specs.Space.{is_of, with_own, pages_of, is_own_frame, is_unused, unused_frames}
+use Rattle.enclave_rules.specs.Pages.{own_page, frame_list}
 use Rattle.global_model.proofs.Runs.{is_among, first_of_run, passes_but, first_left}
 
 -- ---- the pages of a process

@@ -1,10 +1,10 @@
 -- Pasts, and the facts and laws along a journal.
 use Rattle.std.proofs.Common.{◌≡◌, List, [], ◌∷◌, ◌++◌, refl, sym, ap, ◌∙◌}
-use Rattle.global_model.specs.declared.command.Command.{Command}
-use Rattle.global_model.specs.declared.line.Line.{Line}
+use Rattle.xemem_language.specs.declared.command.Command.{Command}
+use Rattle.xemem_language.specs.declared.line.Line.{Line}
 use Rattle.global_model.specs.Facts.{Facts, after_line, after_lines, facts_at}
 use Rattle.global_model.specs.Due.{step_lines, journal_from}
-use Rattle.global_model.specs.History.{Follows, onto}
+use Rattle.global_model.specs.Journals.{Follows, onto}
 
 pub onto-append : (ls ms past : List Line) → onto (ls ++ ms) past ≡ onto ms (onto ls past)
 onto-append [] ms past = refl

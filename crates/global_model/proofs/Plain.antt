@@ -6,14 +6,15 @@ use Rattle.std.specs.List.{range_with_len}
 use Rattle.std.specs.Option.{option_map_or}
 use Rattle.xm_num.specs.declared.Enclave.{Enclave}
 use Rattle.xm_num.specs.Rows.{at}
-use Rattle.xemem_wire.specs.declared.format.Record.{Record}
-use Rattle.global_model.specs.declared.line.Line.{Line}
-use Rattle.global_model.specs.declared.line.Line.TheVariants as lines
-use Rattle.global_model.specs.Ranges.{IsSpelled}
+use Rattle.xemem_language.specs.declared.record.Record.{Record}
+use Rattle.xemem_language.specs.declared.line.Line.{Line}
+use Rattle.xemem_language.specs.declared.line.Line.TheVariants as lines
+use Rattle.xemem_language.specs.Ranges.{IsSpelled}
 use Rattle.global_model.specs.Facts.{Facts, after_line, after_lines}
 use Rattle.global_model.specs.Channels.{waiting_bytes, arriving}
-use Rattle.global_model.specs.View.{View, view_of}
-use Rattle.global_model.specs.Steps.{host, knows_way, query_of, record_lines, child_lines, told_lines, adopt_lines, route_lines, state_lines}
+use Rattle.enclave_rules.specs.View.{View, host}
+use Rattle.global_model.specs.Views.{view_of}
+use Rattle.enclave_rules.specs.Steps.{knows_way, query_of, record_lines, child_lines, told_lines, adopt_lines, route_lines, state_lines}
 use Rattle.global_model.specs.Due.{got_lines, took_lines, deliver_lines, show_lines, next_rest, first_waiting, settle_end, settle_from}
 use Rattle.global_model.proofs.Tells.{MayTell, tells_told, tells_bytes, tells_end, tells_routes, tells_states}
 use Rattle.global_model.proofs.Writes.{EachIs, each-append, each_either, writes_record}

@@ -10,11 +10,13 @@ use Rattle.xm_num.specs.declared.Pid.{Pid}
 use Rattle.xm_num.specs.declared.Vpn.{Vpn}
 use Rattle.xm_num.specs.declared.Frame.{Frame}
 use Rattle.xm_num.specs.Rows.{put_all}
-use Rattle.global_model.specs.declared.line.Line.{Line}
-use Rattle.global_model.specs.declared.line.Line.TheVariants as lines
+use Rattle.xemem_language.specs.declared.line.Line.{Line}
+use Rattle.xemem_language.specs.declared.line.Line.TheVariants as lines
 use Rattle.global_model.specs.Facts.{Facts, OwnPage, after_line}
-use Rattle.global_model.specs.Space.{is_of, own_page, pages_of, unused_frames}
-use Rattle.global_model.specs.View.{ProcessView, user_of, process_of, view_of, new_process, with_pages}
+use Rattle.global_model.specs.Space.{is_of, pages_of, unused_frames}
+use Rattle.enclave_rules.specs.Pages.{own_page}
+use Rattle.enclave_rules.specs.View.{ProcessView, new_process, with_pages}
+use Rattle.global_model.specs.Views.{user_of, process_of, view_of}
 use Rattle.global_model.proofs.Runs.{map_run-same, run-more, set_run}
 use Rattle.global_model.proofs.Kept.{IsKnown, IsOwner, IsOwning}
 use Rattle.global_model.proofs.Shown.{IsShown, shown_here, shown_elsewhere}

@@ -6,9 +6,10 @@ use Rattle.xm_num.specs.declared.Pid.{Pid}
 use Rattle.xm_num.specs.declared.Want.{Want}
 use Rattle.xm_num.specs.declared.Cause.{Cause}
 use Rattle.xm_num.specs.declared.Cause.TheVariants as causes
-use Rattle.global_model.specs.declared.command.Command.TheVariants as commands
+use Rattle.xemem_language.specs.declared.command.Command.TheVariants as commands
 use Rattle.global_model.specs.Facts.{Facts, is_living_enclave, is_living_process}
-use Rattle.global_model.specs.Space.{Mapping, space_of, allows}
+use Rattle.global_model.specs.Space.{Mapping, space_of}
+use Rattle.enclave_rules.specs.Pages.{allows}
 use Rattle.global_model.specs.Refusals.{Condition, when, denies, first_cause, refusal_of}
 
 -- no condition of it holds

@@ -3,15 +3,17 @@ use Rattle.std.proofs.Common.{◌≡◌, ◌+◌, ◌*◌, ◌<◌, ◌≤◌, �
 use Rattle.std.specs.List.{range_with_len}
 use Rattle.std.proofs.lemmas.Bool.{cases_eq, ne_eqb, false_from_ne_true}
 use Rattle.xm_num.specs.declared.Enclave.{Enclave}
-use Rattle.global_model.specs.declared.command.Command.{Command}
-use Rattle.global_model.specs.declared.command.Command.TheVariants as commands
-use Rattle.global_model.specs.declared.line.Line.{Line}
-use Rattle.global_model.specs.declared.line.Line.TheVariants as lines
-use Rattle.global_model.specs.Facts.{Facts, BlockFact, Absent, Free, Lent, Held, no_facts, facts_after, fact_of, is_living_enclave, after_line, after_lines}
+use Rattle.xemem_language.specs.declared.command.Command.{Command}
+use Rattle.xemem_language.specs.declared.command.Command.TheVariants as commands
+use Rattle.xemem_language.specs.declared.line.Line.{Line}
+use Rattle.xemem_language.specs.declared.line.Line.TheVariants as lines
+use Rattle.global_model.specs.Facts.{Facts, no_facts, facts_after, fact_of, is_living_enclave, after_line, after_lines}
+use Rattle.enclave_rules.specs.Blocks.{BlockFact, Absent, Free, Lent, Held}
 use Rattle.global_model.specs.Channels.{is_child_of}
-use Rattle.global_model.specs.Space.{is_unused, frame_list}
-use Rattle.global_model.specs.View.{View, process_of, child_row, no_host, view_of, is_at, seen_lines}
-use Rattle.global_model.specs.Known.{free_pool, unborn_view}
+use Rattle.global_model.specs.Space.{is_unused}
+use Rattle.enclave_rules.specs.Pages.{frame_list}
+use Rattle.enclave_rules.specs.View.{View, no_host, is_at, seen_lines, free_pool, unborn_view}
+use Rattle.global_model.specs.Views.{process_of, child_row, view_of}
 use Rattle.global_model.specs.Place.{may_stand, IsPlacedAfter, IsPlaced}
 use Rattle.global_model.specs.Due.{step_lines, journal_of}
 use Rattle.global_model.proofs.Tree.{child_under, born_living}

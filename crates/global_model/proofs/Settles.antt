@@ -4,20 +4,21 @@ use Rattle.std.specs.Option.{option_map_or}
 use Rattle.std.proofs.lemmas.Bool.{le-leb, lt-ltb, ne_eqb}
 use Rattle.std.proofs.lemmas.List.Elements.{filter-append}
 use Rattle.xm_num.specs.declared.Enclave.{Enclave}
-use Rattle.xemem_wire.specs.declared.format.Record.{Record}
-use Rattle.global_model.specs.declared.command.Command.{Command}
-use Rattle.global_model.specs.declared.command.Command.TheVariants as commands
-use Rattle.global_model.specs.declared.line.Line.{Line}
-use Rattle.global_model.specs.declared.line.Line.TheVariants as lines
+use Rattle.xemem_language.specs.declared.record.Record.{Record}
+use Rattle.xemem_language.specs.declared.command.Command.{Command}
+use Rattle.xemem_language.specs.declared.command.Command.TheVariants as commands
+use Rattle.xemem_language.specs.declared.line.Line.{Line}
+use Rattle.xemem_language.specs.declared.line.Line.TheVariants as lines
 use Rattle.global_model.specs.Facts.{Facts, after_line, after_lines, facts_at, facts_after, no_facts, is_living_enclave}
 use Rattle.global_model.specs.Channels.{is_neighbour, was_born, waiting_bytes, arriving}
-use Rattle.global_model.specs.View.{View, view_of}
-use Rattle.global_model.specs.Steps.{record_lines}
+use Rattle.enclave_rules.specs.View.{View}
+use Rattle.global_model.specs.Views.{view_of}
+use Rattle.enclave_rules.specs.Steps.{record_lines}
 use Rattle.global_model.specs.Refusals.{refusal_of}
-use Rattle.global_model.specs.Ranges.{IsInRange}
+use Rattle.xemem_language.specs.Ranges.{IsInRange}
 use Rattle.global_model.specs.Place.{may_stand, IsPlacedAfter, IsPlaced}
 use Rattle.global_model.specs.Due.{got_lines, deliver_lines, next_rest, first_waiting, settle_end, settle_from, command_lines, step_lines, journal_of}
-use Rattle.global_model.specs.History.{is_delivery, deliveries_in, onto}
+use Rattle.global_model.specs.Journals.{is_delivery, deliveries_in, onto}
 use Rattle.global_model.specs.Flow.{IsTree, IsFlowing}
 use Rattle.global_model.specs.Rest.{IsAtRest, EndsSettle}
 use Rattle.global_model.proofs.Pasts.{after_lines-append, facts_at-onto, facts_by-more}

@@ -3,11 +3,14 @@ use Rattle.std.proofs.Common.{◌≡◌, ◌/◌, ◌*◌, ℕ, map, Bool, true,
 use Rattle.std.specs.List.{filter, range_with_len}
 use Rattle.std.proofs.lemmas.Bool.{cases_eq, eq-eqb, ne_eqb, eqb-true}
 use Rattle.xm_num.specs.declared.Enclave.{Enclave}
-use Rattle.global_model.specs.declared.line.Line.{Line}
-use Rattle.global_model.specs.declared.line.Line.TheVariants as lines
-use Rattle.global_model.specs.Facts.{Facts, EnclaveFact, as_admitted, has_parent, is_lent_to, fact_of, is_living_enclave, after_line}
-use Rattle.global_model.specs.Space.{is_own_frame, frame_list}
-use Rattle.global_model.specs.View.{View, no_host, view_of, own_line, is_at}
+use Rattle.xemem_language.specs.declared.line.Line.{Line}
+use Rattle.xemem_language.specs.declared.line.Line.TheVariants as lines
+use Rattle.global_model.specs.Facts.{Facts, EnclaveFact, as_admitted, has_parent, fact_of, is_living_enclave, after_line}
+use Rattle.enclave_rules.specs.Blocks.{is_lent_to}
+use Rattle.global_model.specs.Space.{is_own_frame}
+use Rattle.enclave_rules.specs.Pages.{frame_list}
+use Rattle.enclave_rules.specs.View.{View, no_host, own_line, is_at}
+use Rattle.global_model.specs.Views.{view_of}
 
 -- ---- views with the same parts
 

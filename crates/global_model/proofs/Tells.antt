@@ -4,12 +4,13 @@ use Rattle.std.specs.Option.{option_map_or}
 use Rattle.std.proofs.lemmas.List.{length-take}
 use Rattle.xm_num.specs.declared.Block.{Block}
 use Rattle.xm_num.specs.declared.Enclave.{Enclave}
-use Rattle.global_model.specs.declared.line.Line.{Line}
-use Rattle.global_model.specs.declared.line.Line.TheVariants as lines
-use Rattle.global_model.specs.Facts.{Facts, BlockFact, Absent, Free, Lent, Held}
-use Rattle.global_model.specs.View.{View}
-use Rattle.global_model.specs.Steps.{told_lines, route_lines, state_line, state_lines}
-use Rattle.global_model.specs.Due.{bytes_lines, first_waiting, settle_end}
+use Rattle.xemem_language.specs.declared.line.Line.{Line}
+use Rattle.xemem_language.specs.declared.line.Line.TheVariants as lines
+use Rattle.global_model.specs.Facts.{Facts}
+use Rattle.enclave_rules.specs.Blocks.{BlockFact, Absent, Free, Lent, Held}
+use Rattle.enclave_rules.specs.View.{View}
+use Rattle.enclave_rules.specs.Steps.{told_lines, route_lines, state_line, state_lines, bytes_lines}
+use Rattle.global_model.specs.Due.{first_waiting, settle_end}
 use Rattle.global_model.proofs.Writes.{EachIs, each-append}
 
 -- the lines that tell of deaths, waiting bytes, ways, blocks and the end of a settle have the property

@@ -2,12 +2,13 @@
 use Rattle.std.proofs.Common.{◌≡◌, ◌≢◌, List, [], ◌∷◌, ◌++◌, true, false, cond, eqb, refl, sym, ap, ◌∙◌, subst}
 use Rattle.std.proofs.lemmas.Bool.{eq-eqb, ne_eqb}
 use Rattle.xm_num.specs.declared.Enclave.{Enclave}
-use Rattle.xemem_wire.specs.declared.format.Record.{Record}
-use Rattle.global_model.specs.declared.line.Line.{Line}
-use Rattle.global_model.specs.declared.line.Line.TheVariants as lines
+use Rattle.xemem_language.specs.declared.record.Record.{Record}
+use Rattle.xemem_language.specs.declared.line.Line.{Line}
+use Rattle.xemem_language.specs.declared.line.Line.TheVariants as lines
 use Rattle.global_model.specs.Facts.{Facts, is_living_enclave, after_line, after_lines}
-use Rattle.global_model.specs.View.{View, view_of, own_line, own_lines, is_at, seen_lines}
-use Rattle.global_model.specs.Steps.{record_lines, lines_of_records}
+use Rattle.enclave_rules.specs.View.{View, own_line, own_lines, is_at, seen_lines}
+use Rattle.global_model.specs.Views.{view_of}
+use Rattle.enclave_rules.specs.Steps.{record_lines, lines_of_records}
 use Rattle.global_model.specs.Due.{got_lines}
 use Rattle.global_model.proofs.Writes.{EachIs, each-append, MayWrite, KnowsNear, MaySend, writes_record}
 use Rattle.global_model.proofs.Shown.{IsShown, shown_admitted, shown_asked, shown_way, shown_back, shown_route, admitted-living}

@@ -3,7 +3,7 @@ use Rattle.std.proofs.Common.{◌≡◌, ◌+◌, ◌-◌, ◌<◌, ◌≤◌, �
 use Rattle.std.specs.List.{AllByRecursion, range_with_len}
 use Rattle.std.proofs.lemmas.Bool.{eqb-true, eqb-false, eq-eqb, and_parts, leb-true, leb-false, ltb-true, ltb-false, lt-ltb, or_cases}
 use Rattle.xm_num.specs.declared.Enclave.{Enclave}
-use Rattle.xemem_wire.specs.declared.format.Record.{Record}
+use Rattle.xemem_language.specs.declared.record.Record.{Record}
 use Rattle.xemem_wire.specs.Spelling.{spelling_of, header_of, spellings_of}
 use Rattle.global_model.specs.Facts.{Facts, EnclaveFact, fact_of, has_parent, is_living_enclave}
 use Rattle.global_model.specs.Channels.{is_child_of, is_neighbour, size_of, waiting_bytes}

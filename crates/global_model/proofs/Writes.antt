@@ -6,14 +6,13 @@ use Rattle.std.specs.Map.{values_of}
 use Rattle.std.proofs.lemmas.List.Elements.{All-head, All-tail}
 use Rattle.xm_num.specs.declared.Enclave.{Enclave}
 use Rattle.xm_num.specs.Rows.{at, less}
-use Rattle.xemem_wire.specs.declared.format.Record.{Record}
-use Rattle.xemem_wire.specs.declared.format.Body.{Body}
-use Rattle.xemem_wire.specs.declared.format.Body.TheVariants as bodies
-use Rattle.global_model.specs.declared.line.Line.{Line}
-use Rattle.global_model.specs.declared.line.Line.TheVariants as lines
-use Rattle.global_model.specs.Facts.{place_among}
-use Rattle.global_model.specs.View.{View}
-use Rattle.global_model.specs.Steps.{knows_way, is_stray, here_of, register_of, admit_of, drop_lines, query_lines, told_askers, here_lines, passed_lines, register_lines, admit_over, admit_to, body_lines, record_lines}
+use Rattle.xemem_language.specs.declared.record.Record.{Record}
+use Rattle.xemem_language.specs.declared.record.Body.{Body}
+use Rattle.xemem_language.specs.declared.record.Body.TheVariants as bodies
+use Rattle.xemem_language.specs.declared.line.Line.{Line}
+use Rattle.xemem_language.specs.declared.line.Line.TheVariants as lines
+use Rattle.enclave_rules.specs.View.{place_among, View}
+use Rattle.enclave_rules.specs.Steps.{knows_way, is_stray, here_of, register_of, admit_of, drop_lines, query_lines, told_askers, here_lines, passed_lines, register_lines, admit_over, admit_to, body_lines, record_lines}
 use Rattle.global_model.proofs.Ways.{AllName, name_less, name_at}
 
 -- ---- lists of lines

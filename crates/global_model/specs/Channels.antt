@@ -1,6 +1,6 @@
 -- The tree of enclaves, and what waits in its channels.
 use Rattle.std.specs.Prelude.{◌-◌, ℕ, List, [], ◌∷◌, length, drop, Bool, not, ◌&&◌, ◌||◌, ◌==◌, nat_le, if◌then◌else◌, is_some}
-use Rattle.xemem_wire.specs.declared.format.Record.{Record}
+use Rattle.xemem_language.specs.declared.record.Record.{Record}
 use Rattle.xemem_wire.specs.Spelling.{spelling_of, spellings_of}
 use Rattle.global_model.specs.Facts.{Facts, ChannelFact, has_parent}
 

@@ -5,14 +5,14 @@ use Rattle.std.specs.Option.{option_map_or}
 use Rattle.xm_num.specs.declared.Enclave.{Enclave}
 use Rattle.xm_num.specs.declared.Pid.{Pid}
 use Rattle.xm_num.specs.declared.Vpn.{Vpn}
-use Rattle.global_model.specs.declared.command.Command.{Command}
-use Rattle.global_model.specs.declared.command.Command.TheVariants as commands
-use Rattle.global_model.specs.declared.line.Line.{Line}
-use Rattle.global_model.specs.declared.line.Line.TheVariants as lines
-use Rattle.xemem_wire.specs.declared.format.Record.{Record}
+use Rattle.xemem_language.specs.declared.command.Command.{Command}
+use Rattle.xemem_language.specs.declared.command.Command.TheVariants as commands
+use Rattle.xemem_language.specs.declared.line.Line.{Line}
+use Rattle.xemem_language.specs.declared.line.Line.TheVariants as lines
+use Rattle.xemem_language.specs.declared.record.Record.{Record}
 use Rattle.global_model.specs.Channels.{waiting_bytes, arriving, size_of}
-use Rattle.global_model.specs.View.{view_of}
-use Rattle.global_model.specs.Steps.{record_lines, host_lines, birth_lines, adopt_lines, route_lines, state_lines}
+use Rattle.global_model.specs.Views.{view_of}
+use Rattle.enclave_rules.specs.Steps.{record_lines, host_lines, birth_lines, adopt_lines, route_lines, state_lines}
 use Rattle.global_model.specs.Facts.{Facts, after_line, after_lines, facts_at, no_facts, fact_of, is_living_enclave}
 use Rattle.global_model.specs.Space.{Mapping, space_of, unused_frames, free_blocks}
 use Rattle.global_model.specs.Refusals.{refusal_of}
@@ -44,13 +44,7 @@ deliver_lines G x y count =
     let waiting = length (waiting_bytes G x.0 y.0) in
     if waiting == 0 then lines.Idle x y ∷ [] else took_lines G x y (min count waiting)
 
--- the bytes from that one on, 32 a line, in at most so many lines
-abbrev pub bytes_lines : Enclave → Enclave → ℕ → ℕ → List ℕ → List Line
-bytes_lines x y zero at bytes = []
-bytes_lines x y (suc most) at [] = []
-bytes_lines x y (suc most) at (byte ∷ bytes) =
-    lines.Bytes x y at (take 32 (byte ∷ bytes)) ∷ bytes_lines x y most (at + 32) (drop 32 (byte ∷ bytes))
-
+-- the bytes that wait, 32 a line
 abbrev pub show_lines : Facts → Enclave → Enclave → List Line
 show_lines G x y = let waiting = waiting_bytes G x.0 y.0 in bytes_lines x y (length waiting) 0 waiting
 

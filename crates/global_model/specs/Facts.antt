@@ -8,17 +8,10 @@ use Rattle.xm_num.specs.declared.Block.{Block}
 use Rattle.xm_num.specs.declared.Kind.{Kind}
 use Rattle.xm_num.specs.declared.Kind.TheVariants as kinds
 use Rattle.xm_num.specs.Rows.{put}
-use Rattle.xemem_wire.specs.declared.format.Record.{Record}
-use Rattle.global_model.specs.declared.command.Command.TheVariants as commands
-use Rattle.global_model.specs.declared.line.Line.{Line}
-use Rattle.global_model.specs.declared.line.Line.TheVariants as lines
-
--- the state of a block: beyond the pool, free, lent to an enclave, or held for a dead one
-pub data BlockFact : Type 0 where
-  Absent : BlockFact
-  Free : BlockFact
-  Lent : (enclave : ℕ) → BlockFact
-  Held : (enclave : ℕ) → BlockFact
+use Rattle.xemem_language.specs.declared.record.Record.{Record}
+use Rattle.xemem_language.specs.declared.command.Command.TheVariants as commands
+use Rattle.xemem_language.specs.declared.line.Line.{Line}
+use Rattle.xemem_language.specs.declared.line.Line.TheVariants as lines
 
 pub record EnclaveFact : Type 0 where
   pub kind : Kind
@@ -99,10 +92,6 @@ abbrev pub fact_of : Option EnclaveFact → EnclaveFact
 fact_of None = unborn_fact
 fact_of (Some fact) = fact
 
--- the place of a neighbour in the order of an enclave's neighbours: its parent, then its children by their numbers
-abbrev pub place_among : Enclave → Enclave → ℕ
-place_among parent x = if x.0 == parent.0 then 0 else x.0 + 1
-
 -- a function with another value at one number
 abbrev pub at_number : {A : Type 0} → ℕ → A → (ℕ → A) → ℕ → A
 at_number k v f j = if j == k then v else f j
@@ -121,9 +110,6 @@ with_taken n channel = record channel { taken = channel.taken + n }
 
 abbrev pub with_got : ChannelFact → ChannelFact
 with_got channel = record channel { got = channel.got + 1 }
-
-abbrev pub is_listed : List Block → ℕ → Bool
-is_listed blocks b = list_any (λ block. block.0 == b) blocks
 
 -- the blocks are lent to the enclave
 abbrev pub with_lent : List Block → Enclave → (ℕ → BlockFact) → ℕ → BlockFact
@@ -203,15 +189,3 @@ is_admitted (Some fact) = fact.admitted
 abbrev pub has_parent : ℕ → Option EnclaveFact → Bool
 has_parent parent None = false
 has_parent parent (Some fact) = fact.parent.0 == parent
-
-abbrev pub is_free : BlockFact → Bool
-is_free Absent = false
-is_free Free = true
-is_free (Lent e) = false
-is_free (Held e) = false
-
-abbrev pub is_lent_to : ℕ → BlockFact → Bool
-is_lent_to e Absent = false
-is_lent_to e Free = false
-is_lent_to e (Lent owner) = owner == e
-is_lent_to e (Held owner) = false

@@ -8,36 +8,14 @@ use Rattle.xm_num.specs.declared.Want.{Want}
 use Rattle.xm_num.specs.declared.Kind.{Kind}
 use Rattle.xm_num.specs.declared.Kind.TheVariants as kinds
 use Rattle.xm_num.specs.declared.Cause.TheVariants as causes
-use Rattle.global_model.specs.declared.command.Command.TheVariants as commands
-use Rattle.global_model.specs.declared.line.Line.{Line}
-use Rattle.global_model.specs.Facts.{Facts, BlockFact, Free}
-use Rattle.global_model.specs.View.{View, no_host, view_of}
-use Rattle.global_model.specs.Steps.{host, refusal, birth_lines, adopt_lines, start_lines, alloc_lines, touch_answer, answer_lines, route_lines, state_lines, free_from}
+use Rattle.xemem_language.specs.declared.command.Command.TheVariants as commands
+use Rattle.xemem_language.specs.declared.line.Line.{Line}
+use Rattle.global_model.specs.Facts.{Facts}
+use Rattle.enclave_rules.specs.Blocks.{BlockFact, Free}
+use Rattle.enclave_rules.specs.View.{View, no_host, host}
+use Rattle.global_model.specs.Views.{view_of}
+use Rattle.enclave_rules.specs.Steps.{refusal, birth_lines, adopt_lines, start_lines, alloc_lines, touch_answer, answer_lines, route_lines, state_lines, free_from}
 use Rattle.global_model.specs.Due.{next_enclave, command_lines}
-
--- a pool of so many blocks, all of them free
-abbrev pub free_pool : ℕ → List BlockFact
-free_pool pool = map (λ b. Free) (range_with_len 0 pool)
-
--- the view of an enclave that isn't born
-abbrev pub unborn_view : ℕ → Enclave → View
-unborn_view pool e = record {
-  me = e;
-  kind = kinds.Host;
-  parent = host;
-  blocks = [];
-  holder = false;
-  admitted = false;
-  heard = [];
-  way = None;
-  askers = [];
-  backs = [];
-  routes = [];
-  free = [];
-  processes = [];
-  children = [];
-  host = if e.0 == 0 then record { states = free_pool pool; parents = [] } else no_host;
-}
 
 -- the lines of a command at an enclave, where it was born
 abbrev pub at_born : ℕ → Enclave → List Line → List Line

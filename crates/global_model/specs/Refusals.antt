@@ -4,14 +4,15 @@ use Rattle.std.specs.List.{range_with_len, list_any}
 use Rattle.std.specs.Option.{option_map_or}
 use Rattle.xm_num.specs.declared.Cause.{Cause}
 use Rattle.xm_num.specs.declared.Cause.TheVariants as causes
-use Rattle.global_model.specs.declared.command.Command.{Command}
-use Rattle.global_model.specs.declared.command.Command.TheVariants as commands
+use Rattle.xemem_language.specs.declared.command.Command.{Command}
+use Rattle.xemem_language.specs.declared.command.Command.TheVariants as commands
 use Rattle.xm_num.specs.declared.Enclave.{Enclave}
 use Rattle.xm_num.specs.declared.Pid.{Pid}
 use Rattle.xm_num.specs.declared.Want.{Want}
 use Rattle.global_model.specs.Facts.{Facts, is_living_enclave, is_living_process}
 use Rattle.global_model.specs.Channels.{was_born, is_neighbour}
-use Rattle.global_model.specs.Space.{Mapping, allows, space_of, unused_frames, free_blocks}
+use Rattle.global_model.specs.Space.{Mapping, space_of, unused_frames, free_blocks}
+use Rattle.enclave_rules.specs.Pages.{allows}
 
 -- one of so many pages from that one on is mapped
 abbrev pub is_taken : Facts → ℕ → ℕ → ℕ → ℕ → Bool

@@ -1,10 +1,10 @@
 -- At rest, and how a settle ends.
 use Rattle.std.specs.Prelude.{◌≡◌, ◌≤◌, ℕ, List, [], ◌∷◌, ◌++◌}
-use Rattle.global_model.specs.declared.line.Line.{Line}
-use Rattle.global_model.specs.declared.line.Line.TheVariants as lines
+use Rattle.xemem_language.specs.declared.line.Line.{Line}
+use Rattle.xemem_language.specs.declared.line.Line.TheVariants as lines
 use Rattle.global_model.specs.Facts.{Facts}
 use Rattle.global_model.specs.Channels.{waiting_bytes}
-use Rattle.global_model.specs.History.{deliveries_in}
+use Rattle.global_model.specs.Journals.{deliveries_in}
 
 -- nothing waits in any channel
 abbrev pub IsAtRest : Facts → Type 0

@@ -10,7 +10,8 @@ use Rattle.xm_num.specs.declared.Access.{Access}
 use Rattle.xm_num.specs.declared.Access.TheVariants as accesses
 use Rattle.xm_num.specs.declared.Want.{Want}
 use Rattle.xm_num.specs.declared.Want.TheVariants as wants
-use Rattle.global_model.specs.Facts.{Facts, OwnPage, lives, is_living_enclave, is_free, is_lent_to}
+use Rattle.global_model.specs.Facts.{Facts, OwnPage, lives, is_living_enclave}
+use Rattle.enclave_rules.specs.Blocks.{is_free, is_lent_to}
 
 -- what a page is mapped to: a machine frame, and what it may be used for
 pub record Mapping : Type 0 where
@@ -19,10 +20,6 @@ pub record Mapping : Type 0 where
 
 abbrev pub is_of : ℕ → ℕ → OwnPage → Bool
 is_of e p own = (own.enclave.0 == e) && (own.pid.0 == p)
-
--- an own page may be read and written
-abbrev pub own_page : Frame → Page
-own_page frame = record { frame = frame; access = accesses.ReadWrite; own = true }
 
 -- the rows with these own pages put in, by their numbers
 abbrev pub with_own : List (ℕ × Page) → List OwnPage → List (ℕ × Page)
@@ -39,12 +36,6 @@ mapping_of page = record { frame = page.frame; access = page.access }
 -- the space of a process: what each page is mapped to
 abbrev pub space_of : Facts → ℕ → ℕ → ℕ → Option Mapping
 space_of G e p page = option_map mapping_of (at (pages_of G e p) page)
-
--- the access allows what is wanted
-abbrev pub allows : Access → Want → Bool
-allows accesses.ReadOnly wants.Read = true
-allows accesses.ReadOnly wants.Write = false
-allows accesses.ReadWrite want = true
 
 -- some living process maps the frame
 pub record IsMapped (G : Facts) (frame : Frame) : Type 0 where
@@ -66,16 +57,9 @@ is_own_frame G e frame = list_any (λ own. (own.enclave.0 == e) && (own.frame.0 
 abbrev pub is_unused : Facts → ℕ → ℕ → Bool
 is_unused G e frame = is_living_enclave (G.enclave e) && is_lent_to e (G.block (frame / 64)) && not (is_own_frame G e frame)
 
-abbrev pub frame_list : List ℕ → List Frame
-frame_list frames = map (λ f. record { 0 = f }) frames
-
 -- the unused frames of an enclave, ascending
 abbrev pub unused_frames : Facts → ℕ → List Frame
 unused_frames G e = frame_list (filter (is_unused G e) (range_with_len 0 (64 * G.pool)))
-
--- the frames of a block
-abbrev pub block_frames : Block → List Frame
-block_frames block = frame_list (range_with_len (64 * block.0) 64)
 
 -- the free blocks, ascending
 abbrev pub free_blocks : Facts → List Block

@@ -1,45 +1,34 @@
 // Laws of the definitions: each is the contract of a function with an empty body, which a crate above calls to have it.
 ghost use Rattle.std.specs.Prelude.{◌≡◌, ◌≢◌, ◌≤◌, ◌-◌, ℕ, List, [], ◌∷◌, ◌++◌, length, take, drop, Bool, true, nat_lt, if◌then◌else◌, Some, All};
 ghost use Rattle.xm_num.specs.declared.Enclave.{Enclave as Enclaves};
-ghost use Rattle.xemem_wire.specs.declared.format.Record.{Record as WireRecord};
+ghost use Rattle.xemem_language.specs.declared.record.Record.{Record as WireRecord};
 ghost use Rattle.xemem_wire.specs.Spelling.{spellings_of};
-ghost use Rattle.global_model.specs.declared.command.Command.{Command as Commands};
-ghost use Rattle.global_model.specs.declared.line.Line.{Line as JournalLine};
+ghost use Rattle.xemem_language.specs.declared.command.Command.{Command as Commands};
+ghost use Rattle.xemem_language.specs.declared.line.Line.{Line as JournalLine};
 ghost use Rattle.xm_num.specs.Rows.{at};
 ghost use Rattle.global_model.specs.Place.{IsPlaced};
-ghost use Rattle.global_model.specs.Ranges.{IsSpelled};
+ghost use Rattle.xemem_language.specs.Ranges.{IsSpelled};
 ghost use Rattle.global_model.specs.Facts.{Facts, after_lines, facts_at, facts_after, is_living_enclave};
 ghost use Rattle.global_model.specs.Channels.{whole_records};
 ghost use Rattle.xm_num.specs.declared.Cause.TheVariants as causes;
-ghost use Rattle.global_model.specs.declared.command.Command.TheVariants as command;
-ghost use Rattle.global_model.specs.View.{View, view_of, own_lines, seen_lines};
-ghost use Rattle.global_model.specs.Steps.{refusal, host_lines, first_blocks, lines_of_records};
-ghost use Rattle.global_model.specs.Known.{IsAnswered, unborn_view};
+ghost use Rattle.xemem_language.specs.declared.command.Command.TheVariants as command;
+ghost use Rattle.enclave_rules.specs.View.{View, own_lines, seen_lines, unborn_view};
+ghost use Rattle.global_model.specs.Views.{view_of};
+ghost use Rattle.enclave_rules.specs.Steps.{refusal, host_lines, first_blocks, lines_of_records};
+ghost use Rattle.global_model.specs.Known.{IsAnswered};
 ghost use Rattle.global_model.specs.Due.{got_lines, deliver_lines, next_rest, first_waiting, command_lines, journal_of, step_lines};
 ghost use Rattle.global_model.specs.Flow.{IsFlowing};
-ghost use Rattle.global_model.specs.History.{do_commands, IsCarried, IsLegal, IsTold, IsWhole};
+ghost use Rattle.global_model.specs.Journals.{do_commands};
+ghost use Rattle.global_model.specs.Carriage.{IsCarried};
+ghost use Rattle.history_laws.specs.History.{IsLegal, IsTold, IsWhole};
 ghost use Rattle.global_model.specs.Rest.{EndsSettle};
-ghost use Rattle.global_model.specs.Ways.{way_heard, back_heard, route_heard};
-
-/// Exactly one journal is told and whole and has given commands in its `do` lines.
-pub fn one_journal()
-    ensures told { (commands : List Commands) → IsTold (journal_of commands) }
-    ensures whole { (commands : List Commands) → IsWhole (journal_of commands) }
-    ensures commands { (commands : List Commands) → do_commands (journal_of commands) ≡ commands }
-    ensures only { (journal : List JournalLine) → IsTold journal → IsWhole journal
-        → journal ≡ journal_of (do_commands journal) }
-{}
+ghost use Rattle.history_laws.specs.Ways.{way_heard, back_heard, route_heard};
 
 /// The journal of one command more goes on by that command's lines, and the facts after it by what they change.
 pub fn journals_grow()
     ensures journal { (commands : List Commands) (command : Commands)
         → journal_of (commands ++ command ∷ []) ≡ journal_of commands ++ step_lines (facts_after (journal_of commands)) command }
     ensures facts { (journal lines : List JournalLine) → facts_after (journal ++ lines) ≡ after_lines (facts_after journal) lines }
-{}
-
-/// The journal of commands, each of which may stand after those before it, is legal.
-pub fn journals_are_legal()
-    ensures { (commands : List Commands) → IsPlaced commands → IsLegal (journal_of commands) }
 {}
 
 /// The journal of commands, each of which may stand after those before it, is carried. Wherever a command has ended the
@@ -91,13 +80,6 @@ pub fn views_follow()
         ≡ seen_lines (view_of (facts_after (journal_of commands)) e) (step_lines (facts_after (journal_of commands)) one) }
 {}
 
-/// The neighbours over which an enclave's ways go are those of which it heard last.
-pub fn ways_are_heard()
-    ensures way { (e : ℕ) (past : List JournalLine) → (facts_at past).way e ≡ way_heard e past }
-    ensures backs { (e d : ℕ) (past : List JournalLine) → at ((facts_at past).backs e) d ≡ back_heard e d past }
-    ensures routes { (e d : ℕ) (past : List JournalLine) → at ((facts_at past).routes e) d ≡ route_heard e d past }
-{}
-
 /// A delivery of a settle is that of a `deliver` of the same bytes, which isn't refused. A settle ends with `settled`
 /// exactly where nothing waits any more, and with `waiting` exactly where something does after all its deliveries.
 pub fn settles_deliver()
@@ -111,9 +93,4 @@ pub fn settles_deliver()
     ensures ends { (commands : List Commands) (most : ℕ) → IsPlaced commands
         → EndsSettle most (command_lines (facts_after (journal_of commands)) (command.Settle most))
         (facts_after (journal_of (commands ++ command.Settle most ∷ []))) }
-{}
-
-/// Each line of a journal has a spelling.
-pub fn journals_are_spelled()
-    ensures { (commands : List Commands) → IsPlaced commands → All IsSpelled (journal_of commands) }
 {}

@@ -1,17 +1,15 @@
-//! Commands, journal lines, and what a lawful history is.
+//! The facts of the machine after a journal, the line that is due, and what holds of channels.
+//!
+//! Each law is the contract of a function with an empty body, which a crate above calls to have it. The types, functions and
+//! definitions of the language and of the rules of an enclave are given again.
 #![tactic(auto)]
 
-mod command;
-mod count;
 mod laws;
-mod line;
-mod lines;
 
-pub use command::Command;
-pub use count::{word_count, words};
 pub use laws::{
-    journals_are_carried, journals_are_legal, journals_are_spelled, journals_grow, one_journal,
-    settles_deliver, view_step, views_answer, views_follow, ways_are_heard, whole_records_stay,
+    journals_are_carried, journals_grow, settles_deliver, view_step, views_answer, views_follow,
+    whole_records_stay,
 };
-pub use line::{ByteList, Line};
-pub use lines::Lines;
+pub use xemem_language::{
+    Body, ByteList, Call, Command, Line, Lines, Record, Show, word_count, words,
+};

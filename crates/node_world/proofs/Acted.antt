@@ -2,7 +2,7 @@
 use Rattle.std.proofs.Common.{◌≡◌, ◌+◌, ◌-◌, ◌<◌, ◌≤◌, ℕ, List, length, None, Some, sym, ap, ◌∙◌, subst, arith}
 use Rattle.xm_num.specs.declared.Enclave.{Enclave}
 use Rattle.xm_num.specs.Rows.{at}
-use Rattle.global_model.specs.declared.line.Line.{Line}
+use Rattle.xemem_language.specs.declared.line.Line.{Line}
 use Rattle.global_model.specs.Facts.{Facts, ChannelFact, after_lines}
 use Rattle.global_model.specs.Flow.{IsFlowing}
 use Rattle.enclave_node.specs.Nodes.{NodeView}

@@ -3,16 +3,15 @@ use Rattle.std.proofs.Common.{◌≡◌, ◌+◌, ◌-◌, ◌<◌, ◌≤◌, �
 use Rattle.std.specs.Prelude.{is_some}
 use Rattle.xm_num.specs.declared.Enclave.{Enclave}
 use Rattle.xemem_wire.specs.Spelling.{AreValid}
-use Rattle.global_model.specs.declared.command.Command.{Command}
-use Rattle.global_model.specs.declared.command.Command.TheVariants as commands
-use Rattle.global_model.specs.declared.line.Line.{Line}
-use Rattle.global_model.specs.declared.line.Line.TheVariants as lines
+use Rattle.xemem_language.specs.declared.command.Command.{Command}
+use Rattle.xemem_language.specs.declared.command.Command.TheVariants as commands
+use Rattle.xemem_language.specs.declared.line.Line.{Line}
+use Rattle.xemem_language.specs.declared.line.Line.TheVariants as lines
 use Rattle.global_model.specs.Facts.{Facts, facts_after, after_line, after_lines}
 use Rattle.global_model.specs.Flow.{IsFlowing}
-use Rattle.global_model.specs.Spelling.{words_in}
+use Rattle.xemem_language.specs.Spelling.{words_in}
 use Rattle.global_model.specs.Due.{command_lines, deliver_lines, next_rest, first_waiting, settle_from, step_lines, journal_of}
-use Rattle.global_model.specs.History.{onto}
-use Rattle.global_model.specs.Lawful.{command_at}
+use Rattle.global_model.specs.Journals.{onto, command_at}
 use Rattle.global_model.specs.Place.{IsPlaced}
 use Rattle.node_world.specs.declared.world.Which.{Which}
 use Rattle.node_world.specs.Appended.{is_by}

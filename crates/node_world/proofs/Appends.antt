@@ -9,16 +9,15 @@ use Rattle.xm_num.specs.declared.Vpn.{Vpn}
 use Rattle.xm_num.specs.declared.Cause.{Cause}
 use Rattle.xm_num.specs.declared.Cause.TheVariants as causes
 use Rattle.xm_num.specs.Rows.{any_between}
-use Rattle.xemem_wire.specs.declared.format.Record.{Record}
-use Rattle.global_model.specs.declared.command.Command.{Command}
-use Rattle.global_model.specs.declared.command.Command.TheVariants as commands
-use Rattle.global_model.specs.declared.line.Line.{Line}
-use Rattle.global_model.specs.declared.line.Line.TheVariants as lines
-use Rattle.global_model.specs.Spelling.{line_words, words_in}
-use Rattle.global_model.specs.Lawful.{command_at}
-use Rattle.global_model.specs.History.{onto}
-use Rattle.global_model.specs.View.{View, ProcessView}
-use Rattle.global_model.specs.Steps.{refusal, host, host_lines, told_lines, child_lines, birth_lines, query_of, knows_way, adopt_lines, process_at, own_lines_of, alloc_lines, lines_of_records}
+use Rattle.xemem_language.specs.declared.record.Record.{Record}
+use Rattle.xemem_language.specs.declared.command.Command.{Command}
+use Rattle.xemem_language.specs.declared.command.Command.TheVariants as commands
+use Rattle.xemem_language.specs.declared.line.Line.{Line}
+use Rattle.xemem_language.specs.declared.line.Line.TheVariants as lines
+use Rattle.xemem_language.specs.Spelling.{line_words, words_in}
+use Rattle.global_model.specs.Journals.{command_at, onto}
+use Rattle.enclave_rules.specs.View.{View, ProcessView, host}
+use Rattle.enclave_rules.specs.Steps.{refusal, host_lines, told_lines, child_lines, birth_lines, query_of, knows_way, adopt_lines, process_at, own_lines_of, alloc_lines, lines_of_records}
 use Rattle.global_model.proofs.Pasts.{onto-append}
 use Rattle.global_model.proofs.Views.{AreOf, of_records}
 use Rattle.node_world.specs.Appended.{refuses, is_by, words_by}

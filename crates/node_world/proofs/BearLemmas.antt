@@ -7,8 +7,9 @@ use Rattle.xm_num.specs.declared.Enclave.{Enclave}
 use Rattle.xm_num.specs.declared.Kind.{Kind}
 use Rattle.xm_num.specs.declared.Block.{Block}
 use Rattle.byte_link.specs.Channel.{Channel, fresh}
-use Rattle.global_model.specs.declared.line.Line.{Line}
-use Rattle.global_model.specs.Steps.{host, birth_lines, adopt_lines}
+use Rattle.xemem_language.specs.declared.line.Line.{Line}
+use Rattle.enclave_rules.specs.View.{host}
+use Rattle.enclave_rules.specs.Steps.{birth_lines, adopt_lines}
 use Rattle.enclave_node.specs.Nodes.{NodeView, unborn_node, wrote, adopted, new_node}
 use Rattle.node_world.specs.declared.pair.Pair.{Pair}
 use Rattle.node_world.specs.Machine.{MachineView, node_at, borne_lines, after_birth}

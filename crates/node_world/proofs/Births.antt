@@ -3,14 +3,14 @@ use Rattle.std.proofs.Common.{◌≡◌, ◌+◌, ℕ, zero, suc, List, [], ◌�
 use Rattle.xm_num.specs.declared.Kind.TheVariants as kinds
 use Rattle.xm_num.specs.declared.Cause.TheVariants as causes
 use Rattle.xm_num.specs.Rows.{at}
-use Rattle.global_model.specs.declared.command.Command.{Command}
-use Rattle.global_model.specs.declared.command.Command.TheVariants as commands
-use Rattle.global_model.specs.declared.line.Line.{Line}
-use Rattle.global_model.specs.declared.line.Line.TheVariants as lines
+use Rattle.xemem_language.specs.declared.command.Command.{Command}
+use Rattle.xemem_language.specs.declared.command.Command.TheVariants as commands
+use Rattle.xemem_language.specs.declared.line.Line.{Line}
+use Rattle.xemem_language.specs.declared.line.Line.TheVariants as lines
 use Rattle.global_model.specs.Facts.{Facts, after_line, after_lines}
-use Rattle.global_model.specs.View.{view_of, own_lines, seen_lines}
-use Rattle.global_model.specs.Steps.{host, refusal, host_lines, first_blocks}
-use Rattle.global_model.specs.Known.{unborn_view}
+use Rattle.global_model.specs.Views.{view_of}
+use Rattle.enclave_rules.specs.View.{own_lines, seen_lines, host, unborn_view}
+use Rattle.enclave_rules.specs.Steps.{refusal, host_lines, first_blocks}
 use Rattle.global_model.specs.Due.{command_lines}
 use Rattle.enclave_node.specs.Nodes.{new_host}
 use Rattle.node_world.specs.Machine.{MachineView, node_at, lines_by, acted, with_carried, after_command}

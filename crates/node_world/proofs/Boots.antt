@@ -14,16 +14,16 @@ use Rattle.xm_num.specs.Rows.{at}
 use Rattle.xm_num.proofs.RowLemmas.{at_put}
 use Rattle.byte_link.specs.Channel.{fresh}
 use Rattle.xemem_wire.specs.Decoding.{Decoding, nothing_taken}
-use Rattle.global_model.specs.declared.command.Command.{Command}
-use Rattle.global_model.specs.declared.command.Command.TheVariants as commands
-use Rattle.global_model.specs.declared.line.Line.{Line}
-use Rattle.global_model.specs.declared.line.Line.TheVariants as lines
+use Rattle.xemem_language.specs.declared.command.Command.{Command}
+use Rattle.xemem_language.specs.declared.command.Command.TheVariants as commands
+use Rattle.xemem_language.specs.declared.line.Line.{Line}
+use Rattle.xemem_language.specs.declared.line.Line.TheVariants as lines
 use Rattle.global_model.specs.Facts.{Facts, EnclaveFact, no_channel, has_parent, after_line, after_lines, fact_of}
 use Rattle.global_model.specs.Channels.{is_child_of}
 use Rattle.global_model.specs.Flow.{IsFlowing}
-use Rattle.global_model.specs.View.{View, view_of, own_line, own_lines, is_at, seen_lines, with_child, with_record, as_born}
-use Rattle.global_model.specs.Steps.{host, refusal, query_of, told_lines, child_lines, birth_lines, knows_way, adopt_lines, free_from}
-use Rattle.global_model.specs.Known.{unborn_view}
+use Rattle.enclave_rules.specs.View.{View, own_line, own_lines, is_at, seen_lines, with_child, with_record, as_born, host, unborn_view}
+use Rattle.global_model.specs.Views.{view_of}
+use Rattle.enclave_rules.specs.Steps.{refusal, query_of, told_lines, child_lines, birth_lines, knows_way, adopt_lines, free_from}
 use Rattle.global_model.specs.Due.{command_lines}
 use Rattle.enclave_node.specs.Nodes.{NodeView, unborn_node, wrote, new_node, lent, adopted}
 use Rattle.node_world.specs.declared.pair.Pair.{Pair}

@@ -3,9 +3,9 @@ use Rattle.std.proofs.Common.{min, ◌≡◌, ◌+◌, ◌-◌, ◌^◌, ◌<◌
 use Rattle.std.proofs.lemmas.List.{drop_all, drop-drop, take_all, take_min}
 use Rattle.std.proofs.lemmas.Bool.{leb-true, leb-false}
 use Rattle.xm_num.specs.declared.Enclave.{Enclave}
-use Rattle.global_model.specs.declared.line.Line.{Line}
-use Rattle.global_model.specs.declared.line.Line.TheVariants as lines
-use Rattle.global_model.specs.Due.{bytes_lines}
+use Rattle.xemem_language.specs.declared.line.Line.{Line}
+use Rattle.xemem_language.specs.declared.line.Line.TheVariants as lines
+use Rattle.enclave_rules.specs.Steps.{bytes_lines}
 
 -- no bytes have no lines
 pub no_bytes-lines : (x y : Enclave) (most at : ℕ) → bytes_lines x y most at [] ≡ []

@@ -14,15 +14,14 @@ use Rattle.xm_num.specs.declared.Want.{Want}
 use Rattle.xm_num.specs.declared.Cause.{Cause}
 use Rattle.xm_num.specs.declared.Cause.TheVariants as causes
 use Rattle.byte_link.specs.Channel.{fresh, taken, waiting_bytes}
-use Rattle.global_model.specs.declared.command.Command.{Command}
-use Rattle.global_model.specs.declared.command.Command.TheVariants as commands
-use Rattle.global_model.specs.declared.line.Line.{Line}
-use Rattle.global_model.specs.declared.line.Line.TheVariants as lines
-use Rattle.global_model.specs.Spelling.{line_words, words_in}
-use Rattle.global_model.specs.History.{onto}
-use Rattle.global_model.specs.Lawful.{command_at}
-use Rattle.global_model.specs.View.{View}
-use Rattle.global_model.specs.Steps.{host, refusal, host_lines, first_blocks, start_lines, alloc_lines, touch_answer, route_lines, state_lines, birth_lines, adopt_lines}
+use Rattle.xemem_language.specs.declared.command.Command.{Command}
+use Rattle.xemem_language.specs.declared.command.Command.TheVariants as commands
+use Rattle.xemem_language.specs.declared.line.Line.{Line}
+use Rattle.xemem_language.specs.declared.line.Line.TheVariants as lines
+use Rattle.xemem_language.specs.Spelling.{line_words, words_in}
+use Rattle.global_model.specs.Journals.{onto, command_at}
+use Rattle.enclave_rules.specs.View.{View, host}
+use Rattle.enclave_rules.specs.Steps.{refusal, host_lines, first_blocks, start_lines, alloc_lines, touch_answer, route_lines, state_lines, birth_lines, adopt_lines}
 use Rattle.global_model.proofs.Pasts.{onto-append}
 use Rattle.enclave_node.specs.Nodes.{NodeView, unborn_node, raised, wrote, new_host, new_node, lent, adopted, fed, fed_lines, after_feed}
 use Rattle.node_world.specs.declared.pair.Hop.{Hop}

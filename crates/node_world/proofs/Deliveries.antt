@@ -8,19 +8,20 @@ use Rattle.xm_num.specs.declared.Cause.TheVariants as causes
 use Rattle.xm_num.specs.Rows.{at, less}
 use Rattle.xm_num.proofs.RowLemmas.{at_put}
 use Rattle.byte_link.specs.Channel.{Channel, taken, waiting_bytes}
-use Rattle.xemem_wire.specs.declared.format.Record.{Record}
-use Rattle.xemem_wire.specs.declared.format.Body.{Body}
-use Rattle.xemem_wire.specs.declared.format.Body.TheVariants as bodies
+use Rattle.xemem_language.specs.declared.record.Record.{Record}
+use Rattle.xemem_language.specs.declared.record.Body.{Body}
+use Rattle.xemem_language.specs.declared.record.Body.TheVariants as bodies
 use Rattle.xemem_wire.specs.Spelling.{spellings_of}
 use Rattle.xemem_wire.specs.Decoding.{Decoding, nothing_taken, after_piece}
-use Rattle.global_model.specs.declared.command.Command.{Command}
-use Rattle.global_model.specs.declared.command.Command.TheVariants as commands
-use Rattle.global_model.specs.declared.line.Line.{Line}
-use Rattle.global_model.specs.declared.line.Line.TheVariants as lines
-use Rattle.global_model.specs.Facts.{Facts, ChannelFact, place_among, with_taken, after_line, after_lines}
+use Rattle.xemem_language.specs.declared.command.Command.{Command}
+use Rattle.xemem_language.specs.declared.command.Command.TheVariants as commands
+use Rattle.xemem_language.specs.declared.line.Line.{Line}
+use Rattle.xemem_language.specs.declared.line.Line.TheVariants as lines
+use Rattle.global_model.specs.Facts.{Facts, ChannelFact, with_taken, after_line, after_lines}
+use Rattle.enclave_rules.specs.View.{place_among, View, own_lines, seen_lines, host}
 use Rattle.global_model.specs.Channels.{whole_records, arriving}
-use Rattle.global_model.specs.View.{View, view_of, own_lines, seen_lines}
-use Rattle.global_model.specs.Steps.{host, refusal, knows_way, here_of, register_of, admit_of, told_askers, passed_lines, admit_over, admit_to, is_stray, drop_lines, body_lines, record_lines, lines_of_records}
+use Rattle.global_model.specs.Views.{view_of}
+use Rattle.enclave_rules.specs.Steps.{refusal, knows_way, here_of, register_of, admit_of, told_askers, passed_lines, admit_over, admit_to, is_stray, drop_lines, body_lines, record_lines, lines_of_records}
 use Rattle.global_model.specs.Refusals.{link_conditions, first_cause}
 use Rattle.global_model.specs.Due.{command_lines, got_lines, took_lines, deliver_lines}
 use Rattle.enclave_node.specs.Nodes.{NodeView, unborn_node, feed_at, fed, fed_lines, after_feed}

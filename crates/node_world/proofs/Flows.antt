@@ -6,7 +6,7 @@ use Rattle.std.proofs.lemmas.List.{drop_at, drop-append-le, take-append-le, take
 use Rattle.byte_link.specs.Channel.{Channel, fresh, waiting_bytes, taken, sent}
 use Rattle.byte_link.specs.Passage.{left_of}
 use Rattle.byte_link.proofs.LawLemmas.{waiting-taken, waiting-sent, pieces-sent, pieces-taken}
-use Rattle.xemem_wire.specs.declared.format.Record.{Record}
+use Rattle.xemem_language.specs.declared.record.Record.{Record}
 use Rattle.xemem_wire.specs.Spelling.{spelling_of, spellings_of, AreValid}
 use Rattle.xemem_wire.specs.Stream.{Reading, reading_of, first_bad}
 use Rattle.xemem_wire.specs.Decoding.{Decoding, after_piece}

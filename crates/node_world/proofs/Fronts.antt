@@ -5,7 +5,7 @@ use Rattle.std.proofs.lemmas.Bool.{leb-true, leb-false, le-leb, lt-leb}
 use Rattle.std.proofs.Math.Seq.{take-append-add, drop-append-add}
 use Rattle.std.proofs.lemmas.List.{take-append-le, take-append-drop, length-take-le}
 use Rattle.std.proofs.lemmas.Grind.{flat_map-append}
-use Rattle.xemem_wire.specs.declared.format.Record.{Record}
+use Rattle.xemem_language.specs.declared.record.Record.{Record}
 use Rattle.xemem_wire.specs.Spelling.{spelling_of, header_of, spellings_of, is_valid, AreValid}
 use Rattle.xemem_wire.specs.Faults.{fault_of, first_failed}
 use Rattle.xemem_wire.specs.Stream.{reading_of, reading_within, onto, nothing_read, first_bad, moved}

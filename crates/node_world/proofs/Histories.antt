@@ -1,17 +1,16 @@
 -- A step of the world goes on with its history, or is cut where a line would pass a limit.
 use Rattle.std.proofs.Common.{◌≡◌, ◌+◌, ◌≤◌, ℕ, List, [], ◌∷◌, ◌++◌, length, true, Some, refl, sym, ap, ◌∙◌, subst, arith, append_assoc}
 use Rattle.xemem_wire.specs.Spelling.{AreValid}
-use Rattle.global_model.specs.declared.command.Command.{Command}
-use Rattle.global_model.specs.declared.command.Command.TheVariants as commands
-use Rattle.global_model.specs.declared.line.Line.{Line}
-use Rattle.global_model.specs.declared.line.Line.TheVariants as lines
-use Rattle.global_model.specs.Ranges.{IsInRange}
+use Rattle.xemem_language.specs.declared.command.Command.{Command}
+use Rattle.xemem_language.specs.declared.command.Command.TheVariants as commands
+use Rattle.xemem_language.specs.declared.line.Line.{Line}
+use Rattle.xemem_language.specs.declared.line.Line.TheVariants as lines
+use Rattle.xemem_language.specs.Ranges.{IsInRange}
 use Rattle.global_model.specs.Place.{may_stand, IsPlacedAfter, IsPlaced}
-use Rattle.global_model.specs.Spelling.{words_in}
+use Rattle.xemem_language.specs.Spelling.{words_in}
 use Rattle.global_model.specs.Facts.{facts_after, after_line}
 use Rattle.global_model.specs.Due.{command_lines, journal_of, settle_from, step_lines}
-use Rattle.global_model.specs.History.{do_commands, onto}
-use Rattle.global_model.specs.Lawful.{command_at}
+use Rattle.global_model.specs.Journals.{do_commands, onto, command_at}
 use Rattle.global_model.proofs.Pasts.{onto-append}
 use Rattle.node_world.specs.declared.world.Which.{Which}
 use Rattle.node_world.specs.Laws.{Laws}

@@ -5,13 +5,13 @@ use Rattle.std.proofs.lemmas.Bool.{and_parts, ltb-true, ltb-false, lt-ltb, eqb-f
 use Rattle.std.proofs.lemmas.Option.{slice_get-get_or, slice_get_within, slice_get_past, get_or_from_slice_get}
 use Rattle.xm_num.specs.declared.Enclave.{Enclave}
 use Rattle.byte_link.specs.Channel.{Channel, waiting_bytes}
-use Rattle.global_model.specs.declared.line.Line.{Line}
+use Rattle.xemem_language.specs.declared.line.Line.{Line}
 use Rattle.global_model.specs.Facts.{Facts, EnclaveFact, facts_after, is_living_enclave, has_parent}
 use Rattle.global_model.specs.Channels.{is_child_of, is_neighbour, waiting_bytes as waiting_in}
 use Rattle.global_model.specs.Flow.{IsFlowing}
 use Rattle.global_model.specs.Refusals.{link_conditions, first_cause}
 use Rattle.enclave_node.specs.Nodes.{NodeView, unborn_node}
-use Rattle.global_model.specs.Steps.{host}
+use Rattle.enclave_rules.specs.View.{host}
 use Rattle.node_world.specs.declared.pair.Hop.{Hop}
 use Rattle.node_world.specs.declared.pair.Hop.TheVariants as hops
 use Rattle.node_world.specs.Appended.{words_by}
@@ -21,7 +21,7 @@ use Rattle.node_world.specs.Shown.{IsNodeOf, Feeds, IsFedBy, IsShown}
 use Rattle.node_world.specs.World.{IsHistoryOf}
 use Rattle.node_world.proofs.Flows.{feed_is}
 use Rattle.node_world.proofs.Neighbours.{cause_of, refused_is, over_up, over_down}
-use Rattle.global_model.specs.History.{do_commands, onto}
+use Rattle.global_model.specs.Journals.{do_commands, onto}
 
 -- ---- what is lent
 

@@ -6,14 +6,14 @@ use Rattle.std.proofs.lemmas.Option.{slice_get-get_or}
 use Rattle.xm_num.specs.declared.Enclave.{Enclave}
 use Rattle.xm_num.specs.declared.Cause.{Cause}
 use Rattle.xm_num.specs.declared.Cause.TheVariants as causes
-use Rattle.global_model.specs.declared.command.Command.TheVariants as commands
-use Rattle.global_model.specs.declared.line.Line.{Line}
+use Rattle.xemem_language.specs.declared.command.Command.TheVariants as commands
+use Rattle.xemem_language.specs.declared.line.Line.{Line}
 use Rattle.global_model.specs.Facts.{Facts, EnclaveFact, has_parent, fact_of}
 use Rattle.global_model.specs.Channels.{is_child_of, is_neighbour}
 use Rattle.global_model.specs.Flow.{IsFlowing}
 use Rattle.global_model.specs.Refusals.{when, link_conditions, first_cause}
-use Rattle.global_model.specs.Steps.{refusal}
-use Rattle.global_model.specs.Due.{command_lines, bytes_lines, show_lines}
+use Rattle.enclave_rules.specs.Steps.{refusal, bytes_lines}
+use Rattle.global_model.specs.Due.{command_lines, show_lines}
 use Rattle.byte_link.specs.Channel.{waiting_bytes}
 use Rattle.node_world.specs.declared.pair.Hop.{Hop}
 use Rattle.node_world.specs.declared.pair.Hop.TheVariants as hops

@@ -12,13 +12,14 @@ use Rattle.xm_num.specs.declared.Cause.{Cause}
 use Rattle.xm_num.specs.declared.Cause.TheVariants as causes
 use Rattle.xm_num.specs.Rows.{at, any_between}
 use Rattle.xemem_wire.specs.Decoding.{Decoding}
-use Rattle.global_model.specs.declared.command.Command.{Command}
-use Rattle.global_model.specs.declared.command.Command.TheVariants as commands
-use Rattle.global_model.specs.declared.line.Line.{Line}
-use Rattle.global_model.specs.declared.line.Line.TheVariants as lines
+use Rattle.xemem_language.specs.declared.command.Command.{Command}
+use Rattle.xemem_language.specs.declared.command.Command.TheVariants as commands
+use Rattle.xemem_language.specs.declared.line.Line.{Line}
+use Rattle.xemem_language.specs.declared.line.Line.TheVariants as lines
 use Rattle.global_model.specs.Facts.{Facts, ProcessFact, after_lines}
-use Rattle.global_model.specs.View.{View, ProcessView, view_of, own_line, own_lines, seen_lines}
-use Rattle.global_model.specs.Steps.{refusal, start_lines, process_at, own_lines_of, alloc_lines}
+use Rattle.enclave_rules.specs.View.{View, ProcessView, own_line, own_lines, seen_lines}
+use Rattle.global_model.specs.Views.{view_of}
+use Rattle.enclave_rules.specs.Steps.{refusal, start_lines, process_at, own_lines_of, alloc_lines}
 use Rattle.global_model.specs.Known.{at_born}
 use Rattle.global_model.specs.Due.{command_lines}
 use Rattle.enclave_node.specs.Nodes.{NodeView, unborn_node, wrote}

@@ -14,8 +14,8 @@ use Rattle.xemem_wire.specs.Decoding.{Decoding, nothing_taken}
 use Rattle.global_model.specs.Facts.{Facts, fact_of}
 use Rattle.global_model.specs.Channels.{is_child_of}
 use Rattle.global_model.specs.Flow.{IsFlowing}
-use Rattle.global_model.specs.View.{View, child_row}
-use Rattle.global_model.specs.Steps.{host}
+use Rattle.enclave_rules.specs.View.{View, host}
+use Rattle.global_model.specs.Views.{child_row}
 use Rattle.enclave_node.specs.Nodes.{NodeView, unborn_node, feed_at}
 use Rattle.byte_link.specs.Channel.{Channel}
 use Rattle.node_world.specs.Links as links

@@ -5,17 +5,18 @@ use Rattle.xm_num.specs.declared.Kind.{Kind}
 use Rattle.xm_num.specs.declared.Kind.TheVariants as kinds
 use Rattle.xm_num.specs.declared.Cause.TheVariants as causes
 use Rattle.xemem_wire.specs.Spelling.{AreValid}
-use Rattle.global_model.specs.declared.command.Command.{Command}
-use Rattle.global_model.specs.declared.command.Command.TheVariants as commands
-use Rattle.global_model.specs.declared.line.Line.{Line}
-use Rattle.global_model.specs.declared.line.Line.TheVariants as lines
+use Rattle.xemem_language.specs.declared.command.Command.{Command}
+use Rattle.xemem_language.specs.declared.command.Command.TheVariants as commands
+use Rattle.xemem_language.specs.declared.line.Line.{Line}
+use Rattle.xemem_language.specs.declared.line.Line.TheVariants as lines
 use Rattle.global_model.specs.Facts.{no_facts, facts_after}
-use Rattle.global_model.specs.Steps.{refusal, host_lines, first_blocks}
+use Rattle.enclave_rules.specs.Steps.{refusal, host_lines, first_blocks}
 use Rattle.global_model.specs.Due.{command_lines, step_lines, journal_of}
-use Rattle.global_model.specs.History.{Follows}
-use Rattle.global_model.specs.Lawful.{CarriedAt}
-use Rattle.global_model.specs.Ranges.{IsWithin, IsInRange}
-use Rattle.global_model.specs.Place.{is_cokernel, may_stand, IsPlaced, IsPlacedAfter}
+use Rattle.global_model.specs.Journals.{Follows}
+use Rattle.global_model.specs.Carriage.{CarriedAt}
+use Rattle.xemem_language.specs.Ranges.{IsWithin, IsInRange}
+use Rattle.enclave_rules.specs.Built.{is_cokernel}
+use Rattle.global_model.specs.Place.{may_stand, IsPlaced, IsPlacedAfter}
 use Rattle.node_world.specs.Links.{sent_in}
 use Rattle.node_world.specs.Machine.{MachineView, no_machine, lines_by, after_command}
 use Rattle.node_world.specs.Shown.{IsShown}

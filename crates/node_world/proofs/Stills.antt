@@ -9,16 +9,18 @@ use Rattle.xm_num.specs.declared.Frame.{Frame}
 use Rattle.xm_num.specs.declared.Want.{Want}
 use Rattle.xm_num.specs.declared.Cause.{Cause}
 use Rattle.xm_num.specs.declared.Cause.TheVariants as causes
-use Rattle.global_model.specs.declared.command.Command.{Command}
-use Rattle.global_model.specs.declared.command.Command.TheVariants as commands
-use Rattle.global_model.specs.declared.line.Line.{Line}
-use Rattle.global_model.specs.declared.line.Line.TheVariants as lines
-use Rattle.global_model.specs.Facts.{Facts, BlockFact, Absent, Free, Lent, Held, facts_after, after_line, after_lines}
+use Rattle.xemem_language.specs.declared.command.Command.{Command}
+use Rattle.xemem_language.specs.declared.command.Command.TheVariants as commands
+use Rattle.xemem_language.specs.declared.line.Line.{Line}
+use Rattle.xemem_language.specs.declared.line.Line.TheVariants as lines
+use Rattle.global_model.specs.Facts.{Facts, facts_after, after_line, after_lines}
+use Rattle.enclave_rules.specs.Blocks.{BlockFact, Absent, Free, Lent, Held}
 use Rattle.global_model.specs.Flow.{IsFlowing}
-use Rattle.global_model.specs.View.{View, view_of, seen_lines}
-use Rattle.global_model.specs.Steps.{host, refusal, answer_lines, touch_answer, way_line, route_lines, state_line, state_lines}
-use Rattle.global_model.specs.Known.{IsAnswered, at_born, unborn_view}
-use Rattle.global_model.specs.Due.{command_lines, step_lines, journal_of, bytes_lines}
+use Rattle.enclave_rules.specs.View.{View, seen_lines, host, unborn_view}
+use Rattle.global_model.specs.Views.{view_of}
+use Rattle.enclave_rules.specs.Steps.{refusal, answer_lines, touch_answer, way_line, route_lines, state_line, state_lines, bytes_lines}
+use Rattle.global_model.specs.Known.{IsAnswered, at_born}
+use Rattle.global_model.specs.Due.{command_lines, step_lines, journal_of}
 use Rattle.global_model.specs.Place.{IsPlaced, IsPlacedAfter}
 use Rattle.node_world.specs.declared.pair.Pair.{Pair}
 use Rattle.node_world.specs.Machine.{MachineView, node_at, at_node, lines_by, acted, carried, with_carried, after_command}

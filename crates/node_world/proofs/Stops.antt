@@ -1,9 +1,9 @@
 -- Lines that were written up to a limit.
 use Rattle.std.proofs.Common.{◌≡◌, ◌+◌, ◌≤◌, ℕ, List, [], ◌∷◌, ◌++◌, length, take, false, cond, refl, sym, ap, ◌∙◌, subst, arith, append-nil, append_assoc}
 use Rattle.std.proofs.lemmas.List.{take-append-drop}
-use Rattle.global_model.specs.declared.line.Line.{Line}
-use Rattle.global_model.specs.Spelling.{line_words, words_in}
-use Rattle.global_model.specs.History.{is_delivery, deliveries_in}
+use Rattle.xemem_language.specs.declared.line.Line.{Line}
+use Rattle.xemem_language.specs.Spelling.{line_words, words_in}
+use Rattle.global_model.specs.Journals.{is_delivery, deliveries_in}
 use Rattle.node_world.specs.declared.world.Which.{Which}
 use Rattle.node_world.specs.declared.world.Which.TheVariants as whiches
 use Rattle.node_world.specs.declared.world.Progress.{Progress}

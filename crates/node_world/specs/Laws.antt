@@ -3,19 +3,22 @@ use Rattle.std.specs.Prelude.{◌≡◌, ◌≢◌, ◌<◌, ◌≤◌, ◌++◌
 use Rattle.std.specs.Option.{option_map}
 use Rattle.xm_num.specs.declared.Enclave.{Enclave}
 use Rattle.xm_num.specs.declared.Cause.TheVariants as causes
-use Rattle.xemem_wire.specs.declared.format.Record.{Record}
+use Rattle.xemem_language.specs.declared.record.Record.{Record}
 use Rattle.xemem_wire.specs.Spelling.{spelling_of, spellings_of, is_valid, AreValid}
 use Rattle.xemem_wire.specs.Stream.{reading_of, onto, after_records, nothing_read, first_bad, moved}
-use Rattle.global_model.specs.declared.command.Command.{Command}
-use Rattle.global_model.specs.declared.command.Command.TheVariants as commands
-use Rattle.global_model.specs.declared.line.Line.{Line}
+use Rattle.xemem_language.specs.declared.command.Command.{Command}
+use Rattle.xemem_language.specs.declared.command.Command.TheVariants as commands
+use Rattle.xemem_language.specs.declared.line.Line.{Line}
 use Rattle.global_model.specs.Facts.{Facts, facts_after, after_lines, is_living_enclave}
-use Rattle.global_model.specs.View.{View, view_of, own_lines, seen_lines}
-use Rattle.global_model.specs.Steps.{refusal, host_lines, first_blocks, lines_of_records}
-use Rattle.global_model.specs.Known.{IsAnswered, unborn_view}
+use Rattle.enclave_rules.specs.View.{View, own_lines, seen_lines, unborn_view}
+use Rattle.global_model.specs.Views.{view_of}
+use Rattle.enclave_rules.specs.Steps.{refusal, host_lines, first_blocks, lines_of_records}
+use Rattle.global_model.specs.Known.{IsAnswered}
 use Rattle.global_model.specs.Due.{got_lines, deliver_lines, next_rest, first_waiting, command_lines, journal_of, step_lines}
 use Rattle.global_model.specs.Flow.{IsFlowing}
-use Rattle.global_model.specs.History.{do_commands, IsCarried, IsLegal, IsTold, IsWhole}
+use Rattle.global_model.specs.Journals.{do_commands}
+use Rattle.global_model.specs.Carriage.{IsCarried}
+use Rattle.history_laws.specs.History.{IsLegal, IsTold, IsWhole}
 use Rattle.global_model.specs.Place.{IsPlaced}
 use Rattle.global_model.specs.Rest.{EndsSettle}
 

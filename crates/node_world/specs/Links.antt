@@ -2,11 +2,11 @@
 use Rattle.std.specs.Prelude.{◌≡◌, ◌+◌, ℕ, List, [], ◌∷◌, ◌++◌, false, None, length, map, take, drop}
 use Rattle.byte_link.specs.Channel.{Channel, waiting_bytes}
 use Rattle.byte_link.specs.Passage.{left_of}
-use Rattle.xemem_wire.specs.declared.format.Record.{Record}
+use Rattle.xemem_language.specs.declared.record.Record.{Record}
 use Rattle.xemem_wire.specs.Spelling.{spelling_of, spellings_of, AreValid}
 use Rattle.xemem_wire.specs.Decoding.{Decoding}
-use Rattle.global_model.specs.declared.line.Line.{Line}
-use Rattle.global_model.specs.declared.line.Line.TheVariants as lines
+use Rattle.xemem_language.specs.declared.line.Line.{Line}
+use Rattle.xemem_language.specs.declared.line.Line.TheVariants as lines
 use Rattle.global_model.specs.Facts.{ChannelFact}
 
 -- What isn't decoded yet are the spellings of valid records, no field is bad, every whole record was given, and the link goes

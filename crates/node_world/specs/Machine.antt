@@ -10,14 +10,14 @@ use Rattle.xm_num.specs.declared.Block.{Block}
 use Rattle.xm_num.specs.declared.Kind.{Kind}
 use Rattle.xm_num.specs.declared.Cause.TheVariants as causes
 use Rattle.byte_link.specs.Channel.{Channel, fresh, sent, taken, waiting_bytes, boundary_of}
-use Rattle.xemem_wire.specs.declared.format.Record.{Record}
+use Rattle.xemem_language.specs.declared.record.Record.{Record}
 use Rattle.xemem_wire.specs.Spelling.{spelling_of}
-use Rattle.global_model.specs.declared.command.Command.{Command}
-use Rattle.global_model.specs.declared.command.Command.TheVariants as commands
-use Rattle.global_model.specs.declared.line.Line.{Line}
-use Rattle.global_model.specs.declared.line.Line.TheVariants as lines
-use Rattle.global_model.specs.Steps.{host, refusal, birth_lines, adopt_lines, host_lines, first_blocks, start_lines, alloc_lines, touch_answer, answer_lines, route_lines, state_lines, free_from}
-use Rattle.global_model.specs.Due.{bytes_lines}
+use Rattle.xemem_language.specs.declared.command.Command.{Command}
+use Rattle.xemem_language.specs.declared.command.Command.TheVariants as commands
+use Rattle.xemem_language.specs.declared.line.Line.{Line}
+use Rattle.xemem_language.specs.declared.line.Line.TheVariants as lines
+use Rattle.enclave_rules.specs.View.{host}
+use Rattle.enclave_rules.specs.Steps.{refusal, birth_lines, adopt_lines, host_lines, first_blocks, start_lines, alloc_lines, touch_answer, answer_lines, route_lines, state_lines, free_from, bytes_lines}
 use Rattle.enclave_node.specs.Nodes.{NodeView, unborn_node, wrote, new_host, new_node, lent, adopted, fed_lines, after_feed}
 use Rattle.node_world.specs.declared.pair.Pair.{Pair}
 use Rattle.node_world.specs.declared.pair.Hop.{Hop}

@@ -4,7 +4,7 @@ use Rattle.xm_num.specs.declared.Enclave.{Enclave}
 use Rattle.xm_num.specs.Rows.{at}
 use Rattle.global_model.specs.Facts.{Facts, fact_of}
 use Rattle.global_model.specs.Channels.{is_neighbour}
-use Rattle.global_model.specs.View.{view_of}
+use Rattle.global_model.specs.Views.{view_of}
 use Rattle.enclave_node.specs.Nodes.{NodeView}
 use Rattle.node_world.specs.declared.pair.Pair.{Pair}
 use Rattle.node_world.specs.Links.{IsChannel, feed_of}

@@ -1,11 +1,11 @@
 -- The world: its machine and its journal.
 use Rattle.std.specs.Prelude.{◌≡◌, ◌+◌, ◌<◌, ◌≤◌, ℕ, List, [], ◌∷◌, ◌++◌, length, drop, true}
-use Rattle.global_model.specs.declared.command.Command.{Command}
-use Rattle.global_model.specs.declared.line.Line.{Line}
-use Rattle.global_model.specs.Spelling.{line_words, words_in}
+use Rattle.xemem_language.specs.declared.command.Command.{Command}
+use Rattle.xemem_language.specs.declared.line.Line.{Line}
+use Rattle.xemem_language.specs.Spelling.{line_words, words_in}
 use Rattle.global_model.specs.Facts.{facts_after}
 use Rattle.global_model.specs.Due.{journal_of}
-use Rattle.global_model.specs.History.{do_commands, onto, is_delivery, deliveries_in}
+use Rattle.global_model.specs.Journals.{do_commands, onto, is_delivery, deliveries_in}
 use Rattle.global_model.specs.Place.{IsPlaced}
 use Rattle.node_world.specs.declared.world.Which.{Which}
 use Rattle.node_world.specs.declared.world.Which.TheVariants as whiches

@@ -12,7 +12,7 @@ use byte_link::Link;
 use std::alloc::{AllocError, Global};
 use std::collections::BTreeSet;
 use std::marker::Model;
-use xemem_wire::Record;
+use xemem_language::Record;
 use xm_num::Enclave;
 
 /// The channels of each child, the first for enclave 1. Those in which something waits are kept in their order, so that the

@@ -1,12 +1,12 @@
 // How many lines pass no limit.
 ghost use Rattle.std.specs.Prelude.{◌≡◌, ◌+◌, ◌≤◌, ◌<◌, ◌^◌, length, take, true, None, Some};
-ghost use Rattle.global_model.specs.Spelling.{line_words, words_in};
-ghost use Rattle.global_model.specs.History as history;
+ghost use Rattle.xemem_language.specs.Spelling.{line_words, words_in};
+ghost use Rattle.history_laws.specs.History as history;
 ghost use Rattle.node_world.specs.World.{PassesBy, most_words, most_deliveries};
 ghost use Rattle.node_world.specs.World as spec;
 
 use crate::world::Which;
-use global_model::{Line, word_count};
+use xemem_language::{Line, word_count};
 
 /// How many of some lines pass no limit, how many words and deliveries there are with them, and the limit that the next
 /// one would pass.

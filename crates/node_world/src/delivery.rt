@@ -2,13 +2,13 @@
 ghost use Rattle.std.specs.Prelude.{◌≡◌, ◌≤◌, ◌++◌, length, take, drop, false, IsTrue, OnOk, OnErr, IfOk};
 ghost use Rattle.byte_link.specs.Channel.{waiting_bytes, sent, taken};
 ghost use Rattle.xemem_wire.specs.Spelling.{is_valid, spelling_of};
-ghost use Rattle.global_model.specs.Steps.{refusal};
-ghost use Rattle.global_model.specs.Due.{bytes_lines};
+ghost use Rattle.enclave_rules.specs.Steps.{refusal, bytes_lines};
 
 use byte_link::Link;
-use global_model::{ByteList, Line, Lines};
+use xemem_language::{ByteList, Line, Lines};
 use std::alloc::{AllocError, Global};
-use xemem_wire::{Record, encode};
+use xemem_language::Record;
+use xemem_wire::encode;
 use xm_num::{Cause, Enclave};
 
 /// Writes a refusal.

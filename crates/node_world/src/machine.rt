@@ -2,9 +2,9 @@
 ghost use Rattle.std.specs.Prelude.{◌≡◌, ◌+◌, ◌-◌, ◌≤◌, ◌<◌, ◌∷◌, ◌++◌, [], length, false, option_copied, slice_get, IsTrue, IsSome, OnOk, IfOk};
 ghost use Rattle.xm_num.specs.declared.Kind.TheVariants as kinds;
 ghost use Rattle.xemem_wire.specs.Spelling.{AreValid, is_valid};
-ghost use Rattle.global_model.specs.declared.line.Line.TheVariants as lines;
-ghost use Rattle.global_model.specs.Ranges.{IsInRange};
-ghost use Rattle.global_model.specs.declared.command.Command.TheVariants as commands;
+ghost use Rattle.xemem_language.specs.declared.line.Line.TheVariants as lines;
+ghost use Rattle.xemem_language.specs.Ranges.{IsInRange};
+ghost use Rattle.xemem_language.specs.declared.command.Command.TheVariants as commands;
 ghost use Rattle.xm_num.specs.Rows.{at};
 ghost use Rattle.enclave_node.specs.Nodes.{feed_at, number_of};
 ghost use Rattle.node_world.specs.Links.{IsFlowing, sent_in};
@@ -18,12 +18,12 @@ use crate::pair::{Hop, new_pair};
 use byte_link::Link;
 use enclave_node::{Call, Node, NodeFault, Show};
 use frame_pool::PoolFault;
-use global_model::{Command, Line, Lines};
+use xemem_language::{Command, Line, Lines};
 use page_table::PageTable;
 use std::alloc::{AllocError, Global};
 use std::marker::Model;
 use std::mem;
-use xemem_wire::Record;
+use xemem_language::Record;
 use xm_num::{BlockList, Cause, Enclave, Kind, Neighbour, Pid, Vpn, Want};
 
 // The most enclaves of a run, and the most processes.

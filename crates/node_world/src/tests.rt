@@ -1,8 +1,8 @@
 // Worlds by worked runs: births, memory, records on their way, and what is refused.
 ghost use Rattle.std.specs.Prelude.{◌≡◌, ◌≤◌, ◌++◌, ◌∷◌, [], length, true, false};
 ghost use Rattle.global_model.specs.Place.{may_stand};
-ghost use Rattle.global_model.specs.Ranges.{IsInRange};
-ghost use Rattle.global_model.specs.History.{do_commands};
+ghost use Rattle.xemem_language.specs.Ranges.{IsInRange};
+ghost use Rattle.global_model.specs.Journals.{do_commands};
 ghost use Rattle.node_world.specs.World.{no_world};
 
 mod limits;
@@ -10,10 +10,10 @@ mod settling;
 
 use crate::laws::laws;
 use crate::{Progress, Which, World, WorldFault};
-use global_model::{Command, Line};
+use xemem_language::{Command, Line};
 use std::alloc::{AllocError, Global};
 use std::process::Abort;
-use xemem_wire::Body;
+use xemem_language::Body;
 use xm_num::{Block, Cause, Enclave, Frame, Kind, Pid, Vpn, Want};
 
 const HOST: Enclave = Enclave(0);

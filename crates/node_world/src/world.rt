@@ -1,15 +1,14 @@
 // The world: its machine and its journal.
 ghost use Rattle.std.specs.Prelude.{◌≡◌, ◌≤◌, ◌<◌, ◌^◌, ◌∷◌, ◌++◌, ◌↔◌, [], ℕ, ◌+◌, ◌-◌, length, true, false, None, Some, Ok, Err, OnOk, IfOk, IfSome};
 ghost use Rattle.byte_link.specs.Channel.{waiting_bytes};
-ghost use Rattle.global_model.specs.Ranges.{IsInRange};
+ghost use Rattle.xemem_language.specs.Ranges.{IsInRange};
 ghost use Rattle.global_model.specs.Place.{may_stand};
-ghost use Rattle.global_model.specs.declared.command.Command.TheVariants as commands;
+ghost use Rattle.xemem_language.specs.declared.command.Command.TheVariants as commands;
 ghost use Rattle.global_model.specs.Rest.{EndsSettle};
 ghost use Rattle.global_model.specs.Facts.{facts_after, is_living_enclave};
 ghost use Rattle.global_model.specs.Channels.{is_neighbour, waiting_bytes as waiting_in};
 ghost use Rattle.global_model.specs.Due.{command_lines, journal_of, settle_from};
-ghost use Rattle.global_model.specs.History.{deliveries_in, do_commands, is_delivery, onto};
-ghost use Rattle.global_model.specs.Lawful.{command_at};
+ghost use Rattle.global_model.specs.Journals.{deliveries_in, do_commands, is_delivery, onto, command_at};
 ghost use Rattle.xemem_wire.specs.Spelling.{AreValid};
 ghost use Rattle.node_world.specs.Appended.{words_by};
 ghost use Rattle.node_world.specs.Links.{sent_in};
@@ -24,7 +23,7 @@ use crate::laws::laws;
 use crate::machine::Machine;
 use byte_link::Link;
 use enclave_node::Node;
-use global_model::{Command, Line, Lines, word_count};
+use xemem_language::{Command, Line, Lines, word_count};
 use page_table::PageTable;
 use std::alloc::{AllocError, Global};
 use std::marker::Model;

@@ -3,14 +3,14 @@ use Rattle.std.proofs.Common.{◌≡◌, ◌+◌, ◌≤◌, ℕ, List, [], ◌�
 use Rattle.std.proofs.lemmas.List.Elements.{filter-append}
 use Rattle.std.specs.List.{filter}
 use Rattle.std.proofs.lemmas.List.Concat.{flat_map-append}
-use Rattle.global_model.specs.declared.command.Command.{Command}
-use Rattle.global_model.specs.declared.line.Line.{Line}
-use Rattle.global_model.specs.Spelling.{line_words, words_in, line_text, text_of}
+use Rattle.xemem_language.specs.declared.command.Command.{Command}
+use Rattle.xemem_language.specs.declared.line.Line.{Line}
+use Rattle.xemem_language.specs.Spelling.{line_words, words_in, line_text, text_of}
 use Rattle.global_model.specs.Facts.{Facts, no_facts, after_lines}
 use Rattle.global_model.specs.Due.{journal_from, journal_of, step_lines}
-use Rattle.global_model.specs.History.{Follows, deliveries_in, is_delivery}
+use Rattle.global_model.specs.Journals.{Follows, deliveries_in, is_delivery}
 use Rattle.global_model.specs.Place.{may_stand, IsPlacedAfter}
-use Rattle.global_model.specs.Ranges.{IsInRange}
+use Rattle.xemem_language.specs.Ranges.{IsInRange}
 
 -- a front of lines, each of which may follow those before it
 pub Follows-front : (Law : List Line → Line → Type 0) (ls ms past : List Line) → Follows Law past (ls ++ ms) → Follows Law past ls

@@ -3,14 +3,16 @@ use Rattle.std.proofs.Common.{◌≡◌, ◌+◌, ℕ, List, [], ◌∷◌, ◌+
 use Rattle.std.specs.Io.KnownBytes.{Appends}
 use Rattle.std.proofs.KnownBytes.{Appends-trans}
 use Rattle.std.proofs.Math.Seq.{take-append-add}
-use Rattle.global_model.specs.declared.command.Command.{Command}
-use Rattle.global_model.specs.declared.line.Line.{Line}
-use Rattle.global_model.specs.Ranges.{IsInRange}
+use Rattle.xemem_language.specs.declared.command.Command.{Command}
+use Rattle.xemem_language.specs.declared.line.Line.{Line}
+use Rattle.xemem_language.specs.Ranges.{IsInRange}
 use Rattle.global_model.specs.Place.{may_stand, IsPlaced}
 use Rattle.global_model.specs.Due.{journal_of}
-use Rattle.global_model.specs.Spelling.{text_of}
-use Rattle.global_model.specs.History.{do_commands, IsHistory, IsDueAt}
-use Rattle.global_model.specs.Lawful.{IsLegalAt, CarriedAt}
+use Rattle.xemem_language.specs.Spelling.{text_of}
+use Rattle.global_model.specs.Journals.{do_commands}
+use Rattle.history_laws.specs.History.{IsHistory, IsDueAt}
+use Rattle.history_laws.specs.Lawful.{IsLegalAt}
+use Rattle.global_model.specs.Carriage.{CarriedAt}
 use Rattle.global_model.proofs.Told.{do_commands-append}
 use Rattle.scenario_text.specs.Words.{lines_of}
 use Rattle.scenario_text.specs.Scenario.{Ending, Stop, TooMany, TooLong, Faulty, Unbuilt, Scenario, scenario_of, scenario_from, said, onto_scenario}

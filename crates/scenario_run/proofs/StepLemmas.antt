@@ -4,12 +4,12 @@ use Rattle.std.specs.Io.KnownBytes.{Appends}
 use Rattle.std.proofs.Math.Seq.{drop-append_seam}
 use Rattle.std.proofs.lemmas.List.{take-append-le}
 use Rattle.xm_edge.specs.Whole.{AppendsFront}
-use Rattle.global_model.specs.declared.command.Command.{Command}
-use Rattle.global_model.specs.declared.line.Line.{Line}
+use Rattle.xemem_language.specs.declared.command.Command.{Command}
+use Rattle.xemem_language.specs.declared.line.Line.{Line}
 use Rattle.global_model.specs.Facts.{facts_after}
 use Rattle.global_model.specs.Due.{journal_of, step_lines}
-use Rattle.global_model.specs.History.{do_commands}
-use Rattle.global_model.specs.Spelling.{text_of}
+use Rattle.global_model.specs.Journals.{do_commands}
+use Rattle.xemem_language.specs.Spelling.{text_of}
 use Rattle.node_world.specs.declared.world.Progress.TheVariants as progresses
 use Rattle.node_world.specs.declared.world.Which.{Which}
 use Rattle.node_world.specs.World.{WorldView, IsCut, IsShort}

@@ -1,9 +1,11 @@
 -- The laws on which a run rests, as the functions of global_model ensure them.
 use Rattle.std.specs.Prelude.{◌≡◌, ◌++◌, ◌∷◌, [], ℕ, List}
-use Rattle.global_model.specs.declared.command.Command.{Command}
+use Rattle.xemem_language.specs.declared.command.Command.{Command}
 use Rattle.global_model.specs.Facts.{facts_after}
 use Rattle.global_model.specs.Due.{journal_of, step_lines}
-use Rattle.global_model.specs.History.{do_commands, IsCarried, IsLegal, IsTold, IsWhole}
+use Rattle.global_model.specs.Journals.{do_commands}
+use Rattle.global_model.specs.Carriage.{IsCarried}
+use Rattle.history_laws.specs.History.{IsLegal, IsTold, IsWhole}
 use Rattle.global_model.specs.Place.{IsPlaced}
 use Rattle.scenario_text.specs.Scenario.{scenario_of}
 

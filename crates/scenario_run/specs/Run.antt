@@ -2,12 +2,13 @@
 use Rattle.std.specs.Prelude.{◌≡◌, ◌++◌, ◌∷◌, [], ℕ, List, take, Option, None, Some, Result, Ok, Err}
 use Rattle.std.specs.Io.KnownBytes.{Appends}
 use Rattle.xm_edge.specs.Whole.{AppendsFront}
-use Rattle.global_model.specs.declared.command.Command.{Command}
-use Rattle.global_model.specs.declared.line.Line.{Line}
+use Rattle.xemem_language.specs.declared.command.Command.{Command}
+use Rattle.xemem_language.specs.declared.line.Line.{Line}
 use Rattle.scenario_text.specs.Scenario.{Ending, Stop, TooMany, TooLong, Faulty, Unbuilt, scenario_of}
-use Rattle.global_model.specs.Spelling.{text_of}
+use Rattle.xemem_language.specs.Spelling.{text_of}
 use Rattle.global_model.specs.Due.{journal_of}
-use Rattle.global_model.specs.History.{do_commands, IsHistory, IsWhole}
+use Rattle.global_model.specs.Journals.{do_commands}
+use Rattle.history_laws.specs.History.{IsHistory, IsWhole}
 use Rattle.node_world.specs.declared.world.Which.{Which}
 use Rattle.node_world.specs.declared.world.Which.TheVariants as whiches
 use Rattle.node_world.specs.declared.world.Progress.TheVariants as progresses

@@ -4,14 +4,14 @@ ghost use Rattle.std.specs.Io.KnownBytes.{Appends};
 ghost use Rattle.xm_edge.specs.Faults.{HasCause, Rose};
 ghost use Rattle.xm_edge.specs.Whole.{AppendsFront};
 ghost use Rattle.global_model.specs.Place.{may_stand};
-ghost use Rattle.global_model.specs.Ranges.{IsInRange};
-ghost use Rattle.global_model.specs.History.{do_commands};
-ghost use Rattle.global_model.specs.Spelling.{text_of};
+ghost use Rattle.xemem_language.specs.Ranges.{IsInRange};
+ghost use Rattle.global_model.specs.Journals.{do_commands};
+ghost use Rattle.xemem_language.specs.Spelling.{text_of};
 ghost use Rattle.scenario_run.specs.Run.{IsGoing, Writes, FaultLeaves, LinesLeave};
 
 use crate::laws::laws;
 use crate::print::print_lines;
-use global_model::{Command, Lines};
+use xemem_language::{Command, Lines};
 use memchr::memchr;
 use node_world::{Which, World, WorldFault};
 use xm_edge::{Sink, WriteFailed, write_all};

@@ -1,7 +1,8 @@
 // The laws on which a run rests.
 ghost use Rattle.scenario_run.specs.Laws.{Laws};
 
-use global_model::{journals_are_carried, journals_are_legal, journals_grow, one_journal};
+use global_model::{journals_are_carried, journals_grow};
+use history_laws::{journals_are_legal, one_journal};
 use scenario_text::scenarios_are_placed;
 
 /// All of them at once.

@@ -2,7 +2,7 @@
 ghost use Rattle.std.specs.Prelude.{◌≡◌};
 ghost use Rattle.global_model.specs.Place as spec;
 
-use global_model::Command;
+use xemem_language::Command;
 use xm_num::Kind;
 
 /// Whether the command's form is built.

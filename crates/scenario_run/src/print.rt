@@ -1,8 +1,8 @@
 // The text of lines.
 ghost use Rattle.std.specs.Prelude.{◌≡◌, ◌++◌, OnOk};
-ghost use Rattle.global_model.specs.Spelling.{text_of};
+ghost use Rattle.xemem_language.specs.Spelling.{text_of};
 
-use global_model::Line;
+use xemem_language::Line;
 use scenario_text::print_line;
 use std::alloc::AllocError;
 

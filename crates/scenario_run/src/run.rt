@@ -10,7 +10,7 @@ use crate::Status;
 use crate::execute::{Fault, execute};
 use crate::laws::laws;
 use crate::place::is_built;
-use global_model::Command;
+use xemem_language::Command;
 use node_world::{Which, World};
 use scenario_text::{SyntaxFault, first_line, place_ok, read_command};
 use std::alloc::Global;

@@ -1,9 +1,9 @@
 // The forms at the ends of their ranges, and the texts of all lines.
 use crate::print::print_lines;
-use global_model::{ByteList, Command, Line};
+use xemem_language::{ByteList, Command, Line};
 use scenario_text::{SyntaxFault, first_line, read_command};
 use std::alloc::{AllocError, Global};
-use xemem_wire::{Body, Record};
+use xemem_language::{Body, Record};
 use xm_num::{Block, BlockList, Cause, Enclave, Frame, FrameList, Kind, Pid, Vpn, Want};
 
 fn pool(blocks: u16) -> Command {

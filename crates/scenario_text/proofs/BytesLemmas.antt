@@ -7,7 +7,7 @@ use Rattle.std.specs.Result.{result_ok, is_ok}
 use Rattle.hex.proofs.HexLemmas.{decode_of-encode_lower, decode_of-ok, decode_of-even, decode_of-odd, decode_sized-odd, decode_sized-twice, length-encode_with, IsDigits-lower_digits}
 use Rattle.hex.specs.Hex.{encode_lower, encode_with, lower_digits, IsBytes, decode_of, decode_pairs, decode_sized, hex_digit_value, digit_or_error, value_at, pair_value, ◌>>=◌}
 use Rattle.hex.specs.declared.error.FromHexError.{FromHexError}
-use Rattle.global_model.specs.Ranges.{IsWithin}
+use Rattle.xemem_language.specs.Ranges.{IsWithin}
 use Rattle.scenario_text.specs.Slots.{bytes_of, is_upper}
 use Rattle.scenario_text.specs.Typed.{Is8}
 

@@ -4,10 +4,10 @@ use Rattle.std.proofs.Math.IntN.{nat_abs}
 use Rattle.xm_num.specs.declared.Access.TheVariants as accesses
 use Rattle.xm_num.specs.declared.Kind.TheVariants as kinds
 use Rattle.xm_num.specs.declared.Want.TheVariants as wants
-use Rattle.global_model.specs.declared.command.Command.{Command}
-use Rattle.global_model.specs.declared.command.Command.TheVariants as commands
-use Rattle.global_model.specs.Ranges.{IsInRange, IsWithin, IsName, most16, most32, most64}
-use Rattle.global_model.specs.Spelling.{command_words, signed_word}
+use Rattle.xemem_language.specs.declared.command.Command.{Command}
+use Rattle.xemem_language.specs.declared.command.Command.TheVariants as commands
+use Rattle.xemem_language.specs.Ranges.{IsInRange, IsWithin, IsName, most16, most32, most64}
+use Rattle.xemem_language.specs.Spelling.{command_words, signed_word}
 use Rattle.scenario_text.specs.Words.{number_in}
 use Rattle.scenario_text.specs.Forms.{command_of, number, keyword, either, mode, pool_form, host_form, host_ns_form, boot_form, boot_ns_form, proc_form, alloc_form, free_form, make_form, remove_form, get_form, release_form, attach_form, detach_form, exit_form, touch_form, deliver_form, settle_form, kill_form, stop_form, maps_form, link_form, show_four, routes_form, pins_form, show_three, show_two}
 use Rattle.scenario_text.proofs.SlotLemmas.{read_number, name_within, name_is, mode_is_one, mode_value}

@@ -10,10 +10,10 @@ use Rattle.xm_num.specs.declared.Kind.{Kind}
 use Rattle.xm_num.specs.declared.Kind.TheVariants as kinds
 use Rattle.xm_num.specs.declared.Want.{Want}
 use Rattle.xm_num.specs.declared.Want.TheVariants as wants
-use Rattle.global_model.specs.declared.command.Command.{Command}
-use Rattle.global_model.specs.declared.command.Command.TheVariants as commands
-use Rattle.global_model.specs.Ranges.{IsInRange, IsName, IsBootable, most16, most32, most64}
-use Rattle.global_model.specs.Spelling.{command_words, kind_word, access_word, want_word}
+use Rattle.xemem_language.specs.declared.command.Command.{Command}
+use Rattle.xemem_language.specs.declared.command.Command.TheVariants as commands
+use Rattle.xemem_language.specs.Ranges.{IsInRange, IsName, IsBootable, most16, most32, most64}
+use Rattle.xemem_language.specs.Spelling.{command_words, kind_word, access_word, want_word}
 use Rattle.scenario_text.specs.declared.fault.SyntaxFault.{SyntaxFault}
 use Rattle.scenario_text.specs.Forms.{Form, forms, form_of, fits, command_of, word, either, enclave, id, wide, name, kind, access, want, misfit, ◌>>=◌, pool_form, host_form, host_ns_form, boot_form, boot_ns_form, proc_form, alloc_form, free_form, make_form, remove_form, get_form, release_form, attach_form, detach_form, exit_form, touch_form, deliver_form, settle_form, kill_form, stop_form, maps_form, link_form, routes_form, pins_form, show_four, show_three, show_two}
 use Rattle.scenario_text.proofs.SlotLemmas.{Made, a_number, a_keyword, a_mode, an_either, IsNumberAt, IsEither, either_spells}

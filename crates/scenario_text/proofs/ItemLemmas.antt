@@ -5,7 +5,7 @@ use Rattle.std.proofs.Math.Seq.{take-append_seam}
 use Rattle.std.specs.List.{join_with_byte}
 use Rattle.std.specs.Prelude.{slice_index}
 use Rattle.hex.specs.Hex.{encode_lower, encode_with, lower_digits}
-use Rattle.global_model.specs.Spelling.{spaced}
+use Rattle.xemem_language.specs.Spelling.{spaced}
 use Rattle.scenario_text.specs.Items.{IsBegunBy}
 
 -- joining by a space is a space before each word but the first

@@ -12,14 +12,14 @@ use Rattle.xm_num.specs.declared.Cause.TheVariants as causes
 use Rattle.xm_num.specs.declared.Frame.{Frame}
 use Rattle.xm_num.specs.declared.Kind.{Kind}
 use Rattle.xm_num.specs.declared.Kind.TheVariants as kinds
-use Rattle.xemem_wire.specs.Table.{destination_number}
-use Rattle.xemem_wire.specs.declared.format.Body.{Body}
-use Rattle.xemem_wire.specs.declared.format.Body.TheVariants as bodies
-use Rattle.xemem_wire.specs.declared.format.Record.{Record}
-use Rattle.global_model.specs.declared.line.Line.{Line}
-use Rattle.global_model.specs.declared.line.Line.TheVariants as lines
-use Rattle.global_model.specs.Ranges.{IsSpelled}
-use Rattle.global_model.specs.Spelling.{access_word, kind_word, cause_word, name_word, body_words, record_words, hex_words, line_words, text_of}
+use Rattle.xemem_language.specs.Destinations.{destination_number}
+use Rattle.xemem_language.specs.declared.record.Body.{Body}
+use Rattle.xemem_language.specs.declared.record.Body.TheVariants as bodies
+use Rattle.xemem_language.specs.declared.record.Record.{Record}
+use Rattle.xemem_language.specs.declared.line.Line.{Line}
+use Rattle.xemem_language.specs.declared.line.Line.TheVariants as lines
+use Rattle.xemem_language.specs.Ranges.{IsSpelled}
+use Rattle.xemem_language.specs.Spelling.{access_word, kind_word, cause_word, name_word, body_words, record_words, hex_words, line_words, text_of}
 use Rattle.scenario_text.specs.Words.{lines_of, words_of}
 use Rattle.scenario_text.specs.Slots.{pieces, is_done, whole, Read, row_read}
 use Rattle.scenario_text.specs.Lines.{line_of, line_rows, text_line}

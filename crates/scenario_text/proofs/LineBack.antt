@@ -7,12 +7,12 @@ use Rattle.std.specs.Str.{bytes_eq}
 use Rattle.xm_num.specs.declared.Enclave.{Enclave}
 use Rattle.std.specs.Result.{result_ok}
 use Rattle.hex.specs.Hex.{encode_lower}
-use Rattle.xemem_wire.specs.declared.format.Body.{Body}
-use Rattle.xemem_wire.specs.declared.format.Body.TheVariants as bodies
-use Rattle.global_model.specs.declared.line.Line.{Line}
-use Rattle.global_model.specs.declared.line.Line.TheVariants as lines
-use Rattle.global_model.specs.Ranges.{IsSpelled, IsSpelledBody}
-use Rattle.global_model.specs.Spelling.{line_words, name_word, body_words, hex_words}
+use Rattle.xemem_language.specs.declared.record.Body.{Body}
+use Rattle.xemem_language.specs.declared.record.Body.TheVariants as bodies
+use Rattle.xemem_language.specs.declared.line.Line.{Line}
+use Rattle.xemem_language.specs.declared.line.Line.TheVariants as lines
+use Rattle.xemem_language.specs.Ranges.{IsSpelled, IsSpelledBody}
+use Rattle.xemem_language.specs.Spelling.{line_words, name_word, body_words, hex_words}
 use Rattle.scenario_text.specs.Words.{number_in}
 use Rattle.scenario_text.specs.Slots.{made, listed, chosen, whole, row_read, next_word, enclave, destination, pid, call, segid, apid, page, frame, block, word32, word64, access, cause, kind, mark, hex, text, keyword}
 use Rattle.scenario_text.specs.Lines.{line_of, attached_form, counted, ended_body_rows, call_body_rows, fixed_body_rows, body_rows, sent, with_body, sent_form, answer_rows, answer_form, way_line, at_rows, at_form, block_rows, block_form, shown_rows, death_rows, kill_rows, way_rows, channel_rows, exit_rows, end_rows, grant_rows, call_rows, do_form, fixed_rows, born_form, alloc_form, bytes_form, line_rows}

@@ -8,10 +8,10 @@ use Rattle.xm_num.specs.declared.Kind.{Kind}
 use Rattle.xm_num.specs.declared.Kind.TheVariants as kinds
 use Rattle.xm_num.specs.declared.Want.{Want}
 use Rattle.xm_num.specs.declared.Want.TheVariants as wants
-use Rattle.global_model.specs.declared.command.Command.{Command}
-use Rattle.global_model.specs.declared.command.Command.TheVariants as commands
-use Rattle.global_model.specs.Ranges.{IsInRange}
-use Rattle.global_model.specs.Spelling.{ns_word, want_word, access_word, kind_word, mode_word, digit_of, command_words}
+use Rattle.xemem_language.specs.declared.command.Command.{Command}
+use Rattle.xemem_language.specs.declared.command.Command.TheVariants as commands
+use Rattle.xemem_language.specs.Ranges.{IsInRange}
+use Rattle.xemem_language.specs.Spelling.{ns_word, want_word, access_word, kind_word, mode_word, digit_of, command_words}
 use Rattle.scenario_text.specs.Scenario.{is_comment, line_command}
 use Rattle.scenario_text.proofs.CommandLemmas.{command_of-words}
 use Rattle.scenario_text.proofs.JoinedLemmas.{IsSolidByte, IsWord, AreWords, printed_solid, decimal_word, name, words_of-joined}

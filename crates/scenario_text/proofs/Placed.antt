@@ -1,9 +1,11 @@
 -- The commands of a scenario stand where they may, their numbers in their ranges.
 use Rattle.std.proofs.Common.{◌≡◌, ◌+◌, ℕ, List, [], ◌∷◌, length, true, Option, None, Some, Result, Ok, Err, ltb, refl, ap, ◌∙◌, inl, inr, arith}
 use Rattle.std.proofs.lemmas.Bool.{cases_Bool, and_from}
-use Rattle.global_model.specs.declared.command.Command.{Command}
-use Rattle.global_model.specs.Place.{IsPlacedAfter, may_stand, is_in_place, is_built}
-use Rattle.global_model.specs.Ranges.{IsInRange}
+use Rattle.xemem_language.specs.declared.command.Command.{Command}
+use Rattle.global_model.specs.Place.{IsPlacedAfter, may_stand}
+use Rattle.xemem_language.specs.Place.{is_in_place}
+use Rattle.enclave_rules.specs.Built.{is_built}
+use Rattle.xemem_language.specs.Ranges.{IsInRange}
 use Rattle.scenario_text.specs.declared.fault.SyntaxFault.{SyntaxFault}
 use Rattle.scenario_text.specs.declared.fault.SyntaxFault.TheVariants as faults
 use Rattle.scenario_text.specs.Words.{words_of}

@@ -5,7 +5,7 @@ use Rattle.std.proofs.lemmas.List.{length-take-le, take_all}
 use Rattle.std.proofs.lemmas.List.Folds.{list_all_at}
 use Rattle.std.specs.List.{list_all}
 use Rattle.std.specs.Option.{option_map}
-use Rattle.global_model.specs.declared.command.Command.{Command}
+use Rattle.xemem_language.specs.declared.command.Command.{Command}
 use Rattle.scenario_text.specs.declared.fault.SyntaxFault.{SyntaxFault}
 use Rattle.scenario_text.specs.Forms.{Form, forms, form_of, begins, misfit, command_of}
 use Rattle.scenario_text.specs.Rows.{Entry, count_of, is_counted}

@@ -10,8 +10,8 @@ use Rattle.std.specs.List.{list_all}
 use Rattle.std.specs.Option.{option_map_or}
 use Rattle.std.specs.Str.{bytes_eq}
 use Rattle.std.specs.Str.Parse.{digits_value}
-use Rattle.global_model.specs.Ranges.{IsWithin, IsName}
-use Rattle.global_model.specs.Spelling.{mode_word, digit_of}
+use Rattle.xemem_language.specs.Ranges.{IsWithin, IsName}
+use Rattle.xemem_language.specs.Spelling.{mode_word, digit_of}
 use Rattle.scenario_text.specs.declared.fault.SyntaxFault.{SyntaxFault}
 use Rattle.scenario_text.specs.declared.fault.SyntaxFault.TheVariants as faults
 use Rattle.scenario_text.specs.Words.{number_in}

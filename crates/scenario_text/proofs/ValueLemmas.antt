@@ -12,9 +12,9 @@ use Rattle.xm_num.specs.declared.Cause.TheVariants as causes
 use Rattle.xm_num.specs.declared.Enclave.{Enclave}
 use Rattle.xm_num.specs.declared.Kind.{Kind}
 use Rattle.xm_num.specs.declared.Kind.TheVariants as kinds
-use Rattle.xemem_wire.specs.Table.{destination_number}
-use Rattle.global_model.specs.Ranges.{IsName, IsPlainOption, IsWithin}
-use Rattle.global_model.specs.Spelling.{access_word, cause_word, kind_word, signed_word}
+use Rattle.xemem_language.specs.Destinations.{destination_number}
+use Rattle.xemem_language.specs.Ranges.{IsName, IsPlainOption, IsWithin}
+use Rattle.xemem_language.specs.Spelling.{access_word, cause_word, kind_word, signed_word}
 use Rattle.scenario_text.specs.Words.{number_in}
 use Rattle.scenario_text.specs.Slots.{Slot, Value, Read, made, named, next, next_word, next_number, next_named, bytes_of, destination_of, access_names, kind_names, mark_names, cause_names, enclave, destination, pid, call, segid, apid, page, frame, block, word32, word64, access, cause, kind, mark, hex, text, keyword}
 use Rattle.scenario_text.proofs.BytesLemmas.{bytes_of-spells, bytes_of-back}

@@ -2,7 +2,7 @@
 use Rattle.std.specs.Prelude.{◌≡◌, ◌++◌, ℕ, List, [], ◌∷◌, Option, Some, codes}
 use Rattle.std.specs.List.{flat_map}
 use Rattle.scenario_text.specs.Scenario.{Ending, Stop, scenario_of}
-use Rattle.global_model.specs.Spelling.{text_of}
+use Rattle.xemem_language.specs.Spelling.{text_of}
 use Rattle.global_model.specs.Due.{journal_of}
 
 -- the pieces, each ended by a line feed

@@ -1,7 +1,7 @@
 -- Rows: the words of a line, as its first word and the items behind it.
 use Rattle.std.specs.Prelude.{◌≡◌, ℕ, List, ◌∷◌, [], ◌++◌, decimal, map, length, take}
 use Rattle.std.specs.List.{join_with_byte}
-use Rattle.global_model.specs.Spelling.{mode_word, hex_words}
+use Rattle.xemem_language.specs.Spelling.{mode_word, hex_words}
 use Rattle.scenario_text.specs.declared.item.Item.{Item}
 use Rattle.scenario_text.specs.declared.item.Item.TheVariants as items
 

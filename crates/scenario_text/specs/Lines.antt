@@ -6,10 +6,10 @@ use Rattle.xm_num.specs.declared.Block.{Block}
 use Rattle.xm_num.specs.declared.CallNo.{CallNo}
 use Rattle.xm_num.specs.declared.Enclave.{Enclave}
 use Rattle.xm_num.specs.declared.Pid.{Pid}
-use Rattle.xemem_wire.specs.declared.format.Body.{Body}
-use Rattle.xemem_wire.specs.declared.format.Body.TheVariants as bodies
-use Rattle.global_model.specs.declared.line.Line.{Line}
-use Rattle.global_model.specs.declared.line.Line.TheVariants as lines
+use Rattle.xemem_language.specs.declared.record.Body.{Body}
+use Rattle.xemem_language.specs.declared.record.Body.TheVariants as bodies
+use Rattle.xemem_language.specs.declared.line.Line.{Line}
+use Rattle.xemem_language.specs.declared.line.Line.TheVariants as lines
 use Rattle.scenario_text.specs.Words.{number_in}
 use Rattle.scenario_text.specs.Forms.{command_of}
 use Rattle.scenario_text.specs.Slots.{pieces, Row, row, row_read, Read, made, filled, listed, chosen, whole, next, next_word, all_read, enclave, destination, pid, call, segid, apid, page, frame, block, word32, word64, access, cause, kind, mark, hex, text, keyword}

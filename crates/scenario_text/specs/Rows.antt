@@ -2,7 +2,7 @@
 use Rattle.std.specs.Prelude.{ℕ, List, map, Bool, ◌==◌, Result, if◌then◌else◌}
 use Rattle.std.specs.Borrow.{Bor}
 use Rattle.std.specs.List.{list_any, list_all}
-use Rattle.global_model.specs.declared.command.Command.{Command}
+use Rattle.xemem_language.specs.declared.command.Command.{Command}
 use Rattle.scenario_text.specs.declared.fault.SyntaxFault.{SyntaxFault}
 use Rattle.scenario_text.specs.declared.read.Form.{Form as Row}
 use Rattle.scenario_text.specs.declared.read.Form.TheVariants as rows

@@ -1,8 +1,9 @@
 -- The commands that a scenario's bytes spell, and what ends them.
 use Rattle.std.specs.Prelude.{◌+◌, ℕ, List, [], ◌∷◌, ◌++◌, length, Bool, true, not, ◌==◌, nat_lt, if◌then◌else◌, Option, None, Some, Result, Ok, Err, slice_index}
 use Rattle.std.specs.Option.{option_to_list}
-use Rattle.global_model.specs.declared.command.Command.{Command}
-use Rattle.global_model.specs.Place.{is_in_place, is_built}
+use Rattle.xemem_language.specs.declared.command.Command.{Command}
+use Rattle.xemem_language.specs.Place.{is_in_place}
+use Rattle.enclave_rules.specs.Built.{is_built}
 use Rattle.scenario_text.specs.declared.fault.SyntaxFault.{SyntaxFault}
 use Rattle.scenario_text.specs.declared.fault.SyntaxFault.TheVariants as faults
 use Rattle.scenario_text.specs.Words.{words_of, lines_of}

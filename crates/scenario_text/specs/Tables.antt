@@ -1,9 +1,9 @@
 -- Which table of the printer has the row of a line or of a command.
 use Rattle.std.specs.Prelude.{ℕ}
-use Rattle.global_model.specs.declared.command.Command.{Command}
-use Rattle.global_model.specs.declared.command.Command.TheVariants as commands
-use Rattle.global_model.specs.declared.line.Line.{Line}
-use Rattle.global_model.specs.declared.line.Line.TheVariants as lines
+use Rattle.xemem_language.specs.declared.command.Command.{Command}
+use Rattle.xemem_language.specs.declared.command.Command.TheVariants as commands
+use Rattle.xemem_language.specs.declared.line.Line.{Line}
+use Rattle.xemem_language.specs.declared.line.Line.TheVariants as lines
 
 -- the tables stand in this order, and each passes on what the later ones have
 abbrev pub table_of : Line → ℕ

@@ -5,7 +5,7 @@ ghost use Rattle.scenario_text.specs.Slots as slot;
 
 use crate::cursor::Words;
 use crate::number::number_of;
-use global_model::Line;
+use xemem_language::Line;
 use xm_num::{CallNo, Enclave, Pid};
 
 // What a call is answered, by the word that says so.

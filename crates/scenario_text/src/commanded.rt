@@ -5,7 +5,7 @@ ghost use Rattle.scenario_text.specs.Lines as spec;
 use crate::cursor::Words;
 use crate::read::command;
 use arrayvec::ArrayVec;
-use global_model::Line;
+use xemem_language::Line;
 
 // The first eight words that are left: no command has as many.
 fn first_words<'a>(words: &mut Words<'a>) -> ArrayVec<&'a [u8], 8>

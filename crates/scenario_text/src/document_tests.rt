@@ -1,6 +1,6 @@
 // The examples of the documents: each is read, and printed again as it stands.
 use crate::{print_line, read_command, read_line};
-use global_model::{Line, word_count};
+use xemem_language::{Line, word_count};
 use std::alloc::{AllocError, AllocGlobal};
 use std::process::Abort;
 

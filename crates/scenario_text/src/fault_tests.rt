@@ -1,6 +1,6 @@
 // What is said of lines that spell no command.
 use crate::{SyntaxFault, first_line, place_ok, read_command};
-use global_model::Command;
+use xemem_language::Command;
 use std::process::Abort;
 use xm_num::{Enclave, Kind};
 

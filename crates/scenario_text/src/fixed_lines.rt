@@ -6,7 +6,7 @@ ghost use Rattle.scenario_text.specs.Slots as slot;
 use crate::choices::{answer, block, known};
 use crate::commanded::commanded;
 use crate::cursor::Words;
-use global_model::Line;
+use xemem_language::Line;
 
 /// The lines that begin a command, and those of births, and those behind them in the table.
 #[tactic(auto, unfolding(crate::specs::Lines::fixed_rows))]

@@ -8,7 +8,7 @@ use crate::slots::{
     access, blocks, count, either, enclave, id, is_word, keyword, kind, mode, name, own_page,
     pages, want, wide,
 };
-use global_model::Command;
+use xemem_language::Command;
 use xm_num::{Apid, Enclave, Pid, Segid, Vpn};
 
 /// `pool BLOCKS`.

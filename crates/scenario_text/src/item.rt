@@ -1,7 +1,7 @@
 // What stands in a row behind its first word.
 ghost use Rattle.std.specs.Prelude.{◌≡◌, ◌∷◌, [], nat_abs};
-ghost use Rattle.xemem_wire.specs.Table.{destination_number};
-ghost use Rattle.global_model.specs.Spelling.{cause_word, kind_word, want_word, access_word};
+ghost use Rattle.xemem_language.specs.Destinations.{destination_number};
+ghost use Rattle.xemem_language.specs.Spelling.{cause_word, kind_word, want_word, access_word};
 ghost use Rattle.scenario_text.specs.Items.{item_words};
 ghost use Rattle.scenario_text.specs.declared.item.Item.TheVariants as items;
 

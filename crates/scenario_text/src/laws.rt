@@ -1,10 +1,10 @@
 // Laws of scenarios: each is the contract of a function with an empty body, which a crate above calls to have it.
 ghost use Rattle.std.specs.Prelude.{◌≡◌, ℕ, List, Some, Ok};
 ghost use Rattle.std.specs.List.{join_with_byte};
-ghost use Rattle.global_model.specs.declared.command.Command.{Command as Commands};
+ghost use Rattle.xemem_language.specs.declared.command.Command.{Command as Commands};
 ghost use Rattle.global_model.specs.Place.{IsPlaced};
-ghost use Rattle.global_model.specs.Ranges.{IsInRange};
-ghost use Rattle.global_model.specs.Spelling.{command_words};
+ghost use Rattle.xemem_language.specs.Ranges.{IsInRange};
+ghost use Rattle.xemem_language.specs.Spelling.{command_words};
 ghost use Rattle.scenario_text.specs.Forms.{command_of};
 ghost use Rattle.scenario_text.specs.Scenario.{line_command, scenario_of};
 

@@ -6,7 +6,7 @@ ghost use Rattle.scenario_text.specs.Slots as slot;
 use crate::cursor::Words;
 use crate::fixed_lines::fixed_line;
 use crate::records::sent;
-use global_model::Line;
+use xemem_language::Line;
 use std::alloc::{AllocError, Global};
 
 // An enclave is born with the blocks that stand to the end.

@@ -1,9 +1,9 @@
 // Laws of journal lines: each is the contract of a function with an empty body, which a crate above calls to have it.
 ghost use Rattle.std.specs.Prelude.{◌≡◌, ℕ, List, Some, map};
 ghost use Rattle.std.specs.List.{join_with_byte, All};
-ghost use Rattle.global_model.specs.declared.line.Line.{Line as JournalLine};
-ghost use Rattle.global_model.specs.Ranges.{IsSpelled};
-ghost use Rattle.global_model.specs.Spelling.{line_words, text_of};
+ghost use Rattle.xemem_language.specs.declared.line.Line.{Line as JournalLine};
+ghost use Rattle.xemem_language.specs.Ranges.{IsSpelled};
+ghost use Rattle.xemem_language.specs.Spelling.{line_words, text_of};
 ghost use Rattle.scenario_text.specs.Lines.{text_line};
 ghost use Rattle.scenario_text.specs.Typed.{IsTyped};
 ghost use Rattle.scenario_text.specs.Words.{lines_of, words_of};

@@ -1,9 +1,9 @@
 // Journal lines as texts: the ends of each number's range, what is no line, and the order of the fields.
 use crate::document_tests::is_printed;
 use crate::read_line;
-use global_model::Line;
+use xemem_language::Line;
 use std::alloc::AllocError;
-use xemem_wire::{Body, Record};
+use xemem_language::{Body, Record};
 use xm_num::{Access, Apid, CallNo, Cause, Enclave, Frame, Pid, Segid, Vpn};
 
 // One text a line.

@@ -6,7 +6,7 @@ ghost use Rattle.hex.specs.Hex.{decode_of};
 ghost use Rattle.scenario_text.specs.Slots as slot;
 
 use crate::cursor::Words;
-use global_model::ByteList;
+use xemem_language::ByteList;
 use std::alloc::{AllocError, Global};
 use xm_num::{BlockList, FrameList};
 

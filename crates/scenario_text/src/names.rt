@@ -1,6 +1,6 @@
 // The words that stand for values of the machine's small types.
 ghost use Rattle.std.specs.Prelude.{◌≡◌, codes, if◌then◌else◌};
-ghost use Rattle.global_model.specs.Spelling.{cause_word, kind_word, want_word, access_word};
+ghost use Rattle.xemem_language.specs.Spelling.{cause_word, kind_word, want_word, access_word};
 
 use xm_num::{Access, Cause, Kind, Want};
 

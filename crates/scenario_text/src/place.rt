@@ -1,8 +1,8 @@
 // Where a command may stand.
 ghost use Rattle.std.specs.Prelude.{◌≡◌};
-ghost use Rattle.global_model.specs.Place.{is_in_place};
+ghost use Rattle.xemem_language.specs.Place.{is_in_place};
 
-use global_model::Command;
+use xemem_language::Command;
 
 /// Whether a command may stand after so many others: the first is `pool`, the second `host`, and neither stands later.
 pub fn place_ok(before: u32, cmd: &Command) -> bool

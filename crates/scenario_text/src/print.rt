@@ -1,6 +1,6 @@
 // Journal lines as text, by a table for each kind of line.
 ghost use Rattle.std.specs.Prelude.{◌≡◌, ◌≤◌, ◌++◌, OnOk, OnErr};
-ghost use Rattle.global_model.specs.Spelling.{line_text};
+ghost use Rattle.xemem_language.specs.Spelling.{line_text};
 ghost use Rattle.scenario_text.specs.Tables.{table_of};
 
 use crate::item::Item;
@@ -8,7 +8,7 @@ use crate::names::ns_mark;
 use crate::print_command::print_command;
 use crate::print_record::sent;
 use crate::row::row;
-use global_model::Line;
+use xemem_language::Line;
 use std::alloc::AllocError;
 
 /// Appends the text of a line, with its line feed. For want of memory the buffer stays as it was.

@@ -1,12 +1,12 @@
 // The lines on which commands begin, by a table for each kind of command.
 ghost use Rattle.std.specs.Prelude.{◌≡◌, ◌≤◌, ◌++◌, OnOk, OnErr};
-ghost use Rattle.global_model.specs.declared.line.Line.TheVariants as lines;
-ghost use Rattle.global_model.specs.Spelling.{line_text};
+ghost use Rattle.xemem_language.specs.declared.line.Line.TheVariants as lines;
+ghost use Rattle.xemem_language.specs.Spelling.{line_text};
 ghost use Rattle.scenario_text.specs.Tables.{command_table_of};
 
 use crate::item::Item;
 use crate::row::row;
-use global_model::Command;
+use xemem_language::Command;
 use std::alloc::AllocError;
 
 // The row on which a command with these words begins.

@@ -1,11 +1,11 @@
 // The lines of records that go over a channel.
 ghost use Rattle.std.specs.Prelude.{◌≡◌, ◌++◌, OnOk, OnErr};
-ghost use Rattle.global_model.specs.declared.line.Line.TheVariants as lines;
-ghost use Rattle.global_model.specs.Spelling.{line_text};
+ghost use Rattle.xemem_language.specs.declared.line.Line.TheVariants as lines;
+ghost use Rattle.xemem_language.specs.Spelling.{line_text};
 
 use crate::row::row;
 use std::alloc::AllocError;
-use xemem_wire::{Body, Record};
+use xemem_language::{Body, Record};
 use xm_num::Enclave;
 
 // The row of a record: its channel, its name and its header, and the items that its body has.

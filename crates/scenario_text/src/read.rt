@@ -11,7 +11,7 @@ ghost use Rattle.scenario_text.specs.Scenario.{line_command};
 use crate::slots::is_word;
 use crate::split::words;
 use crate::{SyntaxFault, forms};
-use global_model::Command;
+use xemem_language::Command;
 
 // The forms of commands. `show` has one for each number of its words.
 #[derive(Clone, Copy)]

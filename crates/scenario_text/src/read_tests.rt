@@ -1,6 +1,6 @@
 // Each form at the ends of its ranges.
 use crate::read_command;
-use global_model::Command;
+use xemem_language::Command;
 use xm_num::{Access, Apid, Enclave, Kind, Pid, Segid, Vpn, Want};
 
 fn pool(blocks: u16) -> Command {

@@ -4,9 +4,9 @@ ghost use Rattle.scenario_text.specs.Lines as spec;
 ghost use Rattle.scenario_text.specs.Slots as slot;
 
 use crate::cursor::Words;
-use global_model::Line;
+use xemem_language::Line;
 use std::alloc::{AllocError, Global};
-use xemem_wire::{Body, Record};
+use xemem_language::{Body, Record};
 
 // The kinds that end something.
 #[tactic(auto, unfolding(crate::specs::Lines::ended_body_rows))]

@@ -1,7 +1,7 @@
 // The text of a row: a line's words with one space between, and a line feed.
 ghost use Rattle.std.specs.Prelude.{◌≡◌, ◌+◌, ◌%◌, ◌<◌, ◌≤◌, ◌∷◌, ◌++◌, [], map, decimal, vec_len, vec_capacity, OnOk, OnErr};
 ghost use Rattle.hex.specs.Hex.{encode_lower};
-ghost use Rattle.global_model.specs.Spelling.{spaced, digit_of, mode_word, frame_words, hex_words};
+ghost use Rattle.xemem_language.specs.Spelling.{spaced, digit_of, mode_word, frame_words, hex_words};
 ghost use Rattle.scenario_text.specs.Items.{IsBegunBy, item_words, row_text};
 
 use crate::item::Item;

@@ -2,7 +2,7 @@
 ghost use Rattle.std.specs.Prelude.{◌≡◌, ◌^◌, ◌-◌, ◌<◌, ◌≤◌, length, true, Some, None, IfOk, if◌then◌else◌};
 ghost use Rattle.std.specs.Str.{bytes_eq};
 ghost use Rattle.std.specs.Str.Parse.{digits_value};
-ghost use Rattle.global_model.specs.Ranges.{most32};
+ghost use Rattle.xemem_language.specs.Ranges.{most32};
 ghost use Rattle.scenario_text.specs.Forms as form;
 ghost use Rattle.scenario_text.specs.Rows.{texts};
 

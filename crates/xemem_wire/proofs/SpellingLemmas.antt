@@ -6,10 +6,11 @@ use Rattle.std.proofs.lemmas.Bool.Decides.{nat_tests}
 use borrow.Author.Tests.{leb-true, ltb-true}
 use Rattle.std.specs.List.{AllByRecursion}
 use Rattle.xm_num.specs.declared.Enclave.{Enclave}
-use Rattle.xemem_wire.specs.declared.format.Record.{Record}
-use Rattle.xemem_wire.specs.declared.format.Body.{Body}
-use Rattle.xemem_wire.specs.declared.format.Body.TheVariants as bodies
-use Rattle.xemem_wire.specs.Table.{kind_of, is_built, body_of, is_enclave, has_call, is_undirected, is_destination, is_call, destination_of, destination_number, u32_at}
+use Rattle.xemem_language.specs.declared.record.Record.{Record}
+use Rattle.xemem_language.specs.declared.record.Body.{Body}
+use Rattle.xemem_language.specs.declared.record.Body.TheVariants as bodies
+use Rattle.xemem_wire.specs.Table.{kind_of, is_built, body_of, is_enclave, has_call, is_undirected, is_destination, is_call, u32_at}
+use Rattle.xemem_language.specs.Destinations.{destination_of, destination_number}
 use Rattle.xemem_wire.specs.Spelling.{header_of, spelling_of, is_valid}
 use Rattle.xemem_wire.specs.Faults.{checks, fault_of}
 use Rattle.xemem_wire.specs.Stream.{record_at}

@@ -1,7 +1,7 @@
 -- What a decoder has of its stream.
 use Rattle.std.specs.Prelude.{◌≡◌, ℕ, ◌+◌, ◌-◌, Option, Some, None, List, [], ◌++◌, length, is_some, if◌then◌else◌}
 use Rattle.std.specs.Option.{option_map}
-use Rattle.xemem_wire.specs.declared.format.Record.{Record}
+use Rattle.xemem_language.specs.declared.record.Record.{Record}
 use Rattle.xemem_wire.specs.declared.format.BadField.{BadField}
 use Rattle.xemem_wire.specs.declared.format.FeedFault.{FeedFault}
 use Rattle.xemem_wire.specs.declared.format.FeedFault.TheVariants as feeds

@@ -3,7 +3,8 @@ use Rattle.std.specs.Prelude.{ℕ, ◌==◌, ◌&&◌, not, nat_le, Bool, Option
 use Rattle.xemem_wire.specs.declared.format.WireFault.{WireFault}
 use Rattle.xemem_wire.specs.declared.format.WireFault.TheVariants as faults
 use Rattle.xemem_wire.specs.declared.format.BadField.{BadField}
-use Rattle.xemem_wire.specs.Table.{is_built, is_length, is_enclave, is_destination, is_call, destination_of, u8_at, u16_at, u32_at}
+use Rattle.xemem_wire.specs.Table.{is_built, is_length, is_enclave, is_destination, is_call, u8_at, u16_at, u32_at}
+use Rattle.xemem_language.specs.Destinations.{destination_of}
 
 -- a field is judged as soon as that many bytes of the record are there, by these bytes
 pub record Check : Type 0 where

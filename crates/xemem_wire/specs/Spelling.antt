@@ -2,8 +2,9 @@
 use Rattle.std.specs.Prelude.{ℕ, ◌≡◌, ◌&&◌, Bool, true, List, [], ◌∷◌, ◌++◌}
 use Rattle.std.specs.List.{AllByRecursion, flat_map}
 use Rattle.std.specs.Int.{w16, w32, to_le_bytes}
-use Rattle.xemem_wire.specs.declared.format.Record.{Record}
-use Rattle.xemem_wire.specs.Table.{kind_of, is_built, is_enclave, is_destination, is_call, destination_number}
+use Rattle.xemem_language.specs.declared.record.Record.{Record}
+use Rattle.xemem_wire.specs.Table.{kind_of, is_built, is_enclave, is_destination, is_call}
+use Rattle.xemem_language.specs.Destinations.{destination_number}
 
 -- length, version, kind, origin, destination, zero, call
 unfoldable pub header_of : ℕ → Record → List ℕ

@@ -2,9 +2,10 @@
 use Rattle.std.specs.Prelude.{◌≡◌, ◌≢◌, ℕ, zero, suc, ◌+◌, ◌-◌, ◌&&◌, nat_eq, true, Option, Some, None, List, [], ◌∷◌, ◌++◌, length, drop, if◌then◌else◌}
 use Rattle.std.specs.Option.{option_map, option_map_or}
 use Rattle.std.specs.List.{starts_with}
-use Rattle.xemem_wire.specs.declared.format.Record.{Record}
+use Rattle.xemem_language.specs.declared.record.Record.{Record}
 use Rattle.xemem_wire.specs.declared.format.BadField.{BadField}
-use Rattle.xemem_wire.specs.Table.{body_of, destination_of, u16_at, u32_at}
+use Rattle.xemem_wire.specs.Table.{body_of, u16_at, u32_at}
+use Rattle.xemem_language.specs.Destinations.{destination_of}
 use Rattle.xemem_wire.specs.Spelling.{spelling_of, is_valid, AreValid, spellings_of}
 use Rattle.xemem_wire.specs.Faults.{kind_at, fault_of}
 

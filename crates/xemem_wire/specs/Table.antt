@@ -2,8 +2,8 @@
 use Rattle.std.specs.Prelude.{ℕ, ◌+◌, ◌*◌, ◌^◌, ◌==◌, ◌&&◌, not, nat_le, nat_lt, Bool, Option, Some, None, List, [], ◌∷◌, slice_index, if◌then◌else◌}
 use Rattle.std.specs.List.{list_any}
 use Rattle.xm_num.specs.declared.Enclave.{Enclave}
-use Rattle.xemem_wire.specs.declared.format.Body.{Body}
-use Rattle.xemem_wire.specs.declared.format.Body.TheVariants as bodies
+use Rattle.xemem_language.specs.declared.record.Body.{Body}
+use Rattle.xemem_language.specs.declared.record.Body.TheVariants as bodies
 
 -- the number of a kind
 abbrev pub kind_of : Body → ℕ
@@ -63,14 +63,6 @@ is_destination kind (Some enclave) = not (is_undirected kind) && is_enclave encl
 -- the call that a record of that kind may carry
 abbrev pub is_call : ℕ → ℕ → Bool
 is_call kind call = if has_call kind then nat_le 1 call && nat_lt call (2 ^ 32) else (call == 0)
-
--- a destination in two bytes
-abbrev pub destination_number : Option Enclave → ℕ
-destination_number None = 65535
-destination_number (Some enclave) = enclave.0
-
-abbrev pub destination_of : ℕ → Option Enclave
-destination_of number = if number == 65535 then None else Some (record { 0 = number })
 
 -- the numbers of one, two and four bytes from a place on, the lowest byte first
 abbrev pub u8_at : List ℕ → ℕ → ℕ

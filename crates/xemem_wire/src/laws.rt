@@ -6,7 +6,7 @@ ghost use Rattle.xemem_wire.specs.Table.{u32_at};
 ghost use Rattle.xemem_wire.specs.Spelling.{spelling_of, spellings_of, is_valid, AreValid};
 ghost use Rattle.xemem_wire.specs.Stream.{reading_of, records_of, rest_of, onto, after_records, nothing_read, first_bad, moved, IsSplit};
 ghost use Rattle.xemem_wire.specs.Decoding.{Decoding, nothing_taken, after_piece, from_the_start};
-ghost use Rattle.xemem_wire.specs.declared.format.Record.{Record};
+ghost use Rattle.xemem_language.specs.declared.record.Record.{Record};
 ghost use Rattle.xemem_wire.specs.declared.format.BadField.{BadField};
 
 /// No spelling is a proper front of another, and no two valid records share one.

@@ -14,5 +14,6 @@ mod spell;
 mod tests;
 
 pub use decoder::Decoder;
-pub use format::{BadField, Body, FeedFault, Record, WireFault};
+pub use format::{BadField, FeedFault, WireFault};
 pub use spell::{encode, valid};
+pub use xemem_language::{Body, Record};

@@ -1,6 +1,7 @@
 // A record as bytes.
 ghost use Rattle.std.specs.Prelude.{◌≡◌, ◌++◌, IsTrue, OnOk, OnErr};
-ghost use Rattle.xemem_wire.specs.Table.{kind_of, destination_number};
+ghost use Rattle.xemem_wire.specs.Table.{kind_of};
+ghost use Rattle.xemem_language.specs.Destinations.{destination_number};
 ghost use Rattle.xemem_wire.specs.Spelling.{header_of, spelling_of, is_valid};
 
 use crate::judge::{is_built, is_call, is_destination, is_enclave};

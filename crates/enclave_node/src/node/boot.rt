@@ -2,7 +2,7 @@
 ghost use Rattle.std.specs.Prelude.{◌≡◌, ◌<◌, ◌≤◌, ◌≢◌, ◌↔◌, [], ◌++◌, IfOk, OnOk, OnErr, IsErrOf};
 ghost use Rattle.xemem_wire.specs.Decoding.{nothing_taken};
 ghost use Rattle.xm_num.specs.Rows.{put};
-ghost use Rattle.global_model.specs.Steps as steps;
+ghost use Rattle.enclave_rules.specs.Steps as steps;
 ghost use Rattle.enclave_node.specs.Births.{host_told, child_told};
 ghost use Rattle.enclave_node.specs.Nodes as spec;
 
@@ -11,7 +11,7 @@ use crate::births::{child_birth, host_birth, tell_child, tell_host};
 use crate::feeds::{Feed, Feeds};
 use crate::state::{Birth, State};
 use frame_pool::PoolFault;
-use global_model::Lines;
+use xemem_language::Lines;
 use page_table::AddressSpace;
 use std::alloc::{AllocError, Global};
 use xm_num::{Block, Enclave, EnclaveList, Kind};

@@ -1,16 +1,16 @@
 // The calls of processes.
 ghost use Rattle.std.specs.Prelude.{◌≡◌, ◌+◌, ◌-◌, ◌/◌, ◌<◌, ◌≤◌, ◌^◌, ◌++◌, false, length, take, ◌∷◌, [], slice_index_or, option_copied, IfOk, OnOk};
 ghost use Rattle.xm_num.specs.Rows.{any_between};
-ghost use Rattle.global_model.specs.Ranges.{IsWithin};
-ghost use Rattle.global_model.specs.declared.line.Line.TheVariants as lines;
-ghost use Rattle.global_model.specs.View.{own_line, own_lines, new_process};
-ghost use Rattle.global_model.specs.Steps as steps;
+ghost use Rattle.xemem_language.specs.Ranges.{IsWithin};
+ghost use Rattle.xemem_language.specs.declared.line.Line.TheVariants as lines;
+ghost use Rattle.enclave_rules.specs.View.{own_line, own_lines, new_process};
+ghost use Rattle.enclave_rules.specs.Steps as steps;
 ghost use Rattle.enclave_node.specs.Calls.{IsCallInRange, call_lines};
 
 use super::State;
 use crate::call::Call;
 use crate::process::Process;
-use global_model::{Line, Lines};
+use xemem_language::{Line, Lines};
 use page_table::AddressSpace;
 use std::alloc::AllocError;
 use xm_num::{Cause, Frame, Pid, Vpn, Want};

@@ -1,17 +1,17 @@
 // What an enclave does with a record.
 ghost use Rattle.std.specs.Prelude.{◌≡◌, [], ◌∷◌, ◌++◌, Some, OnOk};
 ghost use Rattle.xm_num.specs.Rows.{at};
-ghost use Rattle.global_model.specs.declared.line.Line.TheVariants as lines;
-ghost use Rattle.global_model.specs.View.{own_lines};
-ghost use Rattle.global_model.specs.Steps as steps;
+ghost use Rattle.xemem_language.specs.declared.line.Line.TheVariants as lines;
+ghost use Rattle.enclave_rules.specs.View.{own_lines};
+ghost use Rattle.enclave_rules.specs.Steps as steps;
 ghost use Rattle.enclave_node.specs.Sides as spec;
 
 use super::{State, plain};
 use crate::feeds::Feed;
-use global_model::{Line, Lines};
+use xemem_language::{Line, Lines};
 use page_table::AddressSpace;
 use std::alloc::AllocError;
-use xemem_wire::{Body, Record};
+use xemem_language::{Body, Record};
 use xm_num::Enclave;
 use xm_num::laws::rows;
 

@@ -2,18 +2,18 @@
 ghost use Rattle.std.specs.Prelude.{◌≡◌, [], ◌∷◌, ◌++◌, false, not, if◌then◌else◌, drop, slice_get, option_map, Some, IfSome, IfOk, OnOk};
 ghost use Rattle.xm_num.specs.Rows.{at, next_from, IsAscending};
 ghost use Rattle.route_learn.specs.Routes.{AreNumbers};
-ghost use Rattle.global_model.specs.declared.line.Line.TheVariants as lines;
-ghost use Rattle.global_model.specs.View.{own_line, own_lines};
-ghost use Rattle.global_model.specs.Steps as steps;
+ghost use Rattle.xemem_language.specs.declared.line.Line.TheVariants as lines;
+ghost use Rattle.enclave_rules.specs.View.{own_line, own_lines};
+ghost use Rattle.enclave_rules.specs.Steps as steps;
 ghost use Rattle.enclave_node.specs.Sides as spec;
 
 use super::{State, plain};
 use crate::sides::{enclave_of, side_of};
-use global_model::{Line, Lines};
+use xemem_language::{Line, Lines};
 use page_table::AddressSpace;
 use route_learn::Way;
 use std::alloc::AllocError;
-use xemem_wire::Body;
+use xemem_language::Body;
 use xm_num::Enclave;
 
 impl<A: AddressSpace> State<A> {

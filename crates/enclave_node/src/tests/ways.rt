@@ -2,7 +2,7 @@
 use super::*;
 use crate::births::child_birth;
 use crate::state::State;
-use xemem_wire::Record;
+use xemem_language::Record;
 
 // A record of a kind, of an enclave and for another.
 fn record(body: Body, origin: u16, dest: Option<Enclave>) -> Record {

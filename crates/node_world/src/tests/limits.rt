@@ -1,7 +1,7 @@
 // The limits on deliveries and on words.
 ghost use Rattle.std.specs.Prelude.{◌≡◌, ◌≤◌, ℕ, true};
 ghost use Rattle.global_model.specs.Place.{may_stand};
-ghost use Rattle.global_model.specs.Ranges.{IsInRange};
+ghost use Rattle.xemem_language.specs.Ranges.{IsInRange};
 
 use super::*;
 

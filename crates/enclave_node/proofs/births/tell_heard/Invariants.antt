@@ -1,5 +1,5 @@
 use Rattle.std.proofs.Common.{◌≡◌, ◌++◌, drop}
-use Rattle.global_model.specs.Steps.{told_lines}
+use Rattle.enclave_rules.specs.Steps.{told_lines}
 use Rattle.enclave_node.proofs.births.tell_heard.Given as goal
 
 abbrev pub invariant-loop-of : goal.invariant-loop-of

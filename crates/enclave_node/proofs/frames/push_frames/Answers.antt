@@ -2,7 +2,7 @@ use Rattle.std.proofs.Common.{◌+◌, ℕ, ◌∙◌, sym, refl, ap, ◌++◌, 
 use Rattle.std.proofs.lemmas.List.FromFn.{map-range_with_len_more}
 use Rattle.std.specs.List.{range_with_len}
 use Rattle.xm_num.specs.declared.Frame.{Frame}
-use Rattle.global_model.specs.Space.{frame_list}
+use Rattle.enclave_rules.specs.Pages.{frame_list}
 use Rattle.enclave_node.proofs.frames.push_frames.Goals as goal
 
 pub loop-i-preserved : goal.loop-i-preserved

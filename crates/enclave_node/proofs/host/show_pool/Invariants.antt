@@ -1,5 +1,5 @@
 use Rattle.std.proofs.Common.{◌≡◌, ◌++◌, drop}
-use Rattle.global_model.specs.Steps as steps
+use Rattle.enclave_rules.specs.Steps as steps
 use Rattle.enclave_node.specs.Blocks.{facts_of}
 use Rattle.enclave_node.proofs.host.show_pool.Given as goal
 

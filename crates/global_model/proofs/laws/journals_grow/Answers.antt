@@ -1,6 +1,6 @@
 use Rattle.global_model.specs.Facts.{no_facts}
 use Rattle.global_model.proofs.Pasts.{after_lines-append}
-use Rattle.global_model.proofs.Told.{journal_from-more}
+use Rattle.history_laws.proofs.Told.{journal_from-more}
 use Rattle.global_model.proofs.laws.journals_grow.Goals as goal
 
 pub returns : goal.returns

@@ -1,6 +1,6 @@
 use mir.Val.{bool_byte}
 use Rattle.std.proofs.Common.{◌≡◌, ◌+◌, ◌<◌, ◌≤◌, ℕ, Bool, true, false, refl, ap, ◌∙◌, arith}
-use Rattle.global_model.specs.History.{is_delivery}
+use Rattle.global_model.specs.Journals.{is_delivery}
 use Rattle.node_world.specs.World.{most_deliveries}
 use Rattle.node_world.proofs.Words.{made_by, words-more, deliveries-more}
 use Rattle.node_world.proofs.count.fitting.Goals as goal

@@ -1,6 +1,6 @@
 use Rattle.std.proofs.Common.{◌≡◌, ◌≤◌, ◌+◌, take}
-use Rattle.global_model.specs.Spelling.{words_in}
-use Rattle.global_model.specs.History.{deliveries_in}
+use Rattle.xemem_language.specs.Spelling.{words_in}
+use Rattle.global_model.specs.Journals.{deliveries_in}
 use Rattle.node_world.specs.World.{most_words, most_deliveries}
 use Rattle.node_world.proofs.count.fitting.Given as goal
 

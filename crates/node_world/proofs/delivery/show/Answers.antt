@@ -1,6 +1,6 @@
 use Rattle.std.proofs.Common.{◌≡◌, ◌∙◌, ◌++◌, ◌∷◌, [], ap, sym, take, drop, append_assoc, arith}
 use Rattle.byte_link.specs.Channel.{waiting_bytes}
-use Rattle.global_model.specs.declared.line.Line.TheVariants as lines
+use Rattle.xemem_language.specs.declared.line.Line.TheVariants as lines
 use Rattle.node_world.proofs.ByteLemmas.{lines_from, lines_from-more}
 use Rattle.node_world.proofs.delivery.show.Goals as goal
 

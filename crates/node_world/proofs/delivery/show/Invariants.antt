@@ -1,6 +1,6 @@
 use Rattle.std.proofs.Common.{◌≡◌, ◌++◌, ◌-◌, length}
 use Rattle.byte_link.specs.Channel.{waiting_bytes}
-use Rattle.global_model.specs.Due.{bytes_lines}
+use Rattle.enclave_rules.specs.Steps.{bytes_lines}
 use Rattle.node_world.proofs.ByteLemmas.{lines_from}
 use Rattle.node_world.proofs.delivery.show.Given as goal
 

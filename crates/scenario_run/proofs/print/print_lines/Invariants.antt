@@ -1,5 +1,5 @@
 use Rattle.std.proofs.Common.{◌≡◌, ◌++◌, take}
-use Rattle.global_model.specs.Spelling.{text_of}
+use Rattle.xemem_language.specs.Spelling.{text_of}
 use Rattle.scenario_run.proofs.print.print_lines.Given as goal
 
 abbrev pub invariant-loop-line : goal.invariant-loop-line

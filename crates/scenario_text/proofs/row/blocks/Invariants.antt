@@ -1,5 +1,5 @@
 use Rattle.std.proofs.Common.{◌≡◌, ◌++◌, map, take, decimal}
-use Rattle.global_model.specs.Spelling.{spaced}
+use Rattle.xemem_language.specs.Spelling.{spaced}
 use Rattle.scenario_text.proofs.row.blocks.Given as goal
 
 abbrev pub invariant-loop-block : goal.invariant-loop-block

@@ -1,5 +1,5 @@
 use Rattle.std.proofs.Common.{◌≡◌, ◌++◌, take}
-use Rattle.global_model.specs.Spelling.{spaced, frame_words}
+use Rattle.xemem_language.specs.Spelling.{spaced, frame_words}
 use Rattle.scenario_text.proofs.row.frames.Given as goal
 
 abbrev pub invariant-loop-frame : goal.invariant-loop-frame

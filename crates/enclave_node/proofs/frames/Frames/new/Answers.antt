@@ -1,6 +1,6 @@
 use Rattle.std.proofs.Common.{ap, ◌∙◌, ◌++◌, ◌*◌}
 use Rattle.std.specs.List.{range_with_len}
-use Rattle.global_model.specs.Space.{block_frames, frame_list}
+use Rattle.enclave_rules.specs.Pages.{block_frames, frame_list}
 use Rattle.enclave_node.proofs.ListLemmas.{flat_map-step}
 use Rattle.enclave_node.proofs.frames.Frames.new.Goals as goal
 

@@ -1,5 +1,5 @@
 use Rattle.std.proofs.Common.{◌≡◌, ◌≤◌, ◌^◌, ◌∙◌, ◌+◌, ◌++◌, ◌∷◌, [], sym, ap, append-nil, arith}
-use Rattle.global_model.specs.declared.line.Line.TheVariants as lines
+use Rattle.xemem_language.specs.declared.line.Line.TheVariants as lines
 use Rattle.enclave_node.specs.Sides.{learned_lines}
 use Rattle.enclave_node.proofs.RowLemmas.{from_zero, none_from, none_above, next_is_above}
 use Rattle.enclave_node.proofs.WayLemmas.{route_told}

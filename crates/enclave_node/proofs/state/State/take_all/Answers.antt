@@ -1,5 +1,5 @@
 use Rattle.std.proofs.Common.{sym, ◌∙◌, ◌++◌}
-use Rattle.global_model.specs.Steps.{lines_of_records}
+use Rattle.enclave_rules.specs.Steps.{lines_of_records}
 use Rattle.enclave_node.proofs.ReceiveLemmas.{first_is, has_given, more_lines, more_view}
 use Rattle.enclave_node.proofs.state.State.take_all.Goals as goal
 

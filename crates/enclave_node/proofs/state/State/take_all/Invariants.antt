@@ -1,6 +1,6 @@
 use Rattle.std.proofs.Common.{◌≡◌, ◌++◌, length}
-use Rattle.global_model.specs.View.{own_lines}
-use Rattle.global_model.specs.Steps.{lines_of_records}
+use Rattle.enclave_rules.specs.View.{own_lines}
+use Rattle.enclave_rules.specs.Steps.{lines_of_records}
 use Rattle.enclave_node.proofs.ReceiveLemmas.{given}
 use Rattle.enclave_node.proofs.state.State.take_all.Given as goal
 

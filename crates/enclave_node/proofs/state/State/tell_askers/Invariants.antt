@@ -1,5 +1,5 @@
 use Rattle.std.proofs.Common.{◌≡◌, ◌++◌, length}
-use Rattle.global_model.specs.Steps.{told_askers}
+use Rattle.enclave_rules.specs.Steps.{told_askers}
 use Rattle.enclave_node.proofs.SideLemmas.{unasked}
 use Rattle.enclave_node.proofs.state.State.tell_askers.Given as goal
 

@@ -2,7 +2,7 @@ use Rattle.std.proofs.Common.{◌≡◌, ◌++◌, ◌∷◌, [], ◌||◌, ◌�
 use Rattle.std.specs.Prelude.{List, is_ok, slice_index_or, slice_set}
 use Rattle.std.proofs.lemmas.Grind.{common_steps}
 use Rattle.std.proofs.lemmas.Result.{on_ok_weaker}
-use Rattle.global_model.specs.Steps.{birth_lines}
+use Rattle.enclave_rules.specs.Steps.{birth_lines}
 use Rattle.enclave_node.specs.Nodes.{NodeView, new_node}
 use Rattle.node_world.specs.declared.pair.Pair.{Pair}
 use Rattle.node_world.specs.Machine.{MachineView}

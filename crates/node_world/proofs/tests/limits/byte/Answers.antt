@@ -1,5 +1,5 @@
 use Rattle.std.proofs.Common.{sym, subst, arith}
-use Rattle.global_model.specs.Ranges.{IsInRange}
+use Rattle.xemem_language.specs.Ranges.{IsInRange}
 use Rattle.node_world.proofs.tests.limits.byte.Goals as goal
 
 pub returns-clause-range : goal.returns-clause-range

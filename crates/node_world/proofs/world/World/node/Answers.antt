@@ -1,8 +1,8 @@
 use Rattle.std.proofs.Common.{◌≡◌, List, [], ap, sym, ◌∙◌, subst}
 use Rattle.std.specs.Prelude.{IfSome}
 use Rattle.global_model.specs.Facts.{facts_after, is_living_enclave}
-use Rattle.global_model.specs.declared.line.Line.{Line}
-use Rattle.global_model.specs.History.{onto}
+use Rattle.xemem_language.specs.declared.line.Line.{Line}
+use Rattle.global_model.specs.Journals.{onto}
 use Rattle.enclave_node.specs.Nodes.{NodeView}
 use Rattle.node_world.specs.Appended.{words_by}
 use Rattle.node_world.specs.Shown.{IsNodeOf, IsFedBy}

@@ -1,6 +1,6 @@
 use Rattle.std.proofs.Common.{◌≡◌, Some, ap, sym, ◌∙◌, subst, arith}
-use Rattle.global_model.specs.Spelling.{words_in}
-use Rattle.global_model.specs.History.{deliveries_in}
+use Rattle.xemem_language.specs.Spelling.{words_in}
+use Rattle.global_model.specs.Journals.{deliveries_in}
 use Rattle.node_world.specs.World.{IsNext, IsShort, IsStopped}
 use Rattle.node_world.proofs.Stops.{stopped_at, counted_more, failed_keeps}
 use Rattle.node_world.proofs.world.World.write.Goals as goal

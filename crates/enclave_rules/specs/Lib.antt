@@ -1,0 +1,5 @@
+pub mod Built
+pub mod Blocks
+pub mod Pages
+pub mod View
+pub mod Steps

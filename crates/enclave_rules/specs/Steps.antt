@@ -1,0 +1,203 @@
+-- What an enclave writes, for a record or for a call: a function of its view and of the record or the call alone.
+use Rattle.std.specs.Prelude.{◌+◌, ◌-◌, ◌/◌, ℕ, List, [], ◌∷◌, ◌++◌, length, take, map, Bool, ◌||◌, ◌==◌, nat_lt, if◌then◌else◌, Option, None, Some, is_some, slice_get, false, Result, Ok, Err}
+use Rattle.std.specs.List.{list_any, range_with_len}
+use Rattle.std.specs.Option.{option_map_or}
+use Rattle.xm_num.specs.declared.Enclave.{Enclave}
+use Rattle.xm_num.specs.declared.Pid.{Pid}
+use Rattle.xm_num.specs.declared.Vpn.{Vpn}
+use Rattle.xm_num.specs.declared.Frame.{Frame}
+use Rattle.xm_num.specs.declared.Block.{Block}
+use Rattle.xm_num.specs.declared.Kind.{Kind}
+use Rattle.xm_num.specs.declared.Kind.TheVariants as kinds
+use Rattle.xm_num.specs.declared.Page.{Page}
+use Rattle.xm_num.specs.declared.Want.{Want}
+use Rattle.xm_num.specs.declared.Cause.{Cause}
+use Rattle.xm_num.specs.declared.Cause.TheVariants as causes
+use Rattle.xm_num.specs.Rows.{at, less, any_between}
+use Rattle.xemem_language.specs.declared.record.Record.{Record}
+use Rattle.xemem_language.specs.declared.record.Body.{Body}
+use Rattle.xemem_language.specs.declared.record.Body.TheVariants as bodies
+use Rattle.xemem_language.specs.declared.line.Line.{Line}
+use Rattle.xemem_language.specs.declared.line.Line.TheVariants as lines
+use Rattle.enclave_rules.specs.Blocks.{BlockFact, Absent, Free, Lent, Held, is_free}
+use Rattle.enclave_rules.specs.View.{place_among, View, ProcessView, own_lines}
+use Rattle.enclave_rules.specs.Pages.{allows}
+
+abbrev pub refusal : Cause → List Line
+refusal cause = lines.Refused cause ∷ []
+
+-- ---- births
+
+-- a child without the name server asks its parent for the way
+abbrev pub query_of : Enclave → Record
+query_of e = record { origin = e; dest = None; call = 0; body = bodies.Query }
+
+abbrev pub child_lines : Enclave → Enclave → Bool → List Line
+child_lines child parent ns = if ns then lines.Admitted child ∷ [] else lines.Sent child parent (query_of child) ∷ []
+
+-- it is born knowing the deaths of which its parent heard
+abbrev pub told_lines : Enclave → List Enclave → List Line
+told_lines child heard = map (λ d. lines.Told child d) heard
+
+-- what an enclave writes at its birth
+abbrev pub birth_lines : Enclave → Kind → Enclave → List Block → Bool → List Enclave → List Line
+birth_lines child kind parent blocks ns heard = lines.Born child kind parent ns blocks ∷ told_lines child heard ++ child_lines child parent ns
+
+abbrev pub host_lines : List Block → Bool → List Line
+host_lines blocks ns = lines.Born host kinds.Host host ns blocks ∷ (if ns then lines.Admitted host ∷ [] else [])
+
+abbrev pub knows_way : View → Bool
+knows_way v = v.holder || is_some v.way
+
+-- a parent that doesn't know the way asks the child
+abbrev pub adopt_lines : View → Enclave → List Line
+adopt_lines v child = if knows_way v then [] else lines.Sent v.me child (query_of v.me) ∷ []
+
+-- ---- records
+
+abbrev pub here_of : Enclave → Record
+here_of e = record { origin = e; dest = None; call = 0; body = bodies.Here }
+
+abbrev pub register_of : Enclave → Record
+register_of e = record { origin = e; dest = None; call = 0; body = bodies.Register }
+
+abbrev pub admit_of : Enclave → Enclave → Record
+admit_of e d = record { origin = e; dest = Some d; call = 0; body = bodies.Admit }
+
+abbrev pub drop_lines : View → List Line
+drop_lines v = lines.Dropped v.me ∷ []
+
+-- a query is answered where the way is known, and else its sender is remembered
+abbrev pub query_lines : View → Enclave → List Line
+query_lines v from = if knows_way v then lines.Sent v.me from (here_of v.me) ∷ [] else lines.Asked v.me from ∷ []
+
+-- those that asked are told, in their order
+abbrev pub told_askers : View → List (ℕ × Enclave) → List Line
+told_askers v askers = map (λ row. lines.Sent v.me row.1 (here_of v.me)) askers
+
+-- The first here fixes the way. The enclave tells those that asked, but not the one that told it, and registers over the way.
+abbrev pub here_lines : View → Enclave → List Line
+here_lines v from =
+    if knows_way v then drop_lines v
+    else lines.Way v.me from ∷ told_askers v (less v.askers (place_among v.parent from)) ++ lines.Sent v.me from (register_of v.me) ∷ []
+
+-- a record is passed on over a neighbour, where there is one and it isn't the one over which it came
+abbrev pub passed_lines : View → Enclave → Option Enclave → Record → List Line
+passed_lines v from None r = drop_lines v
+passed_lines v from (Some over) r = if over.0 == from.0 then drop_lines v else lines.Sent v.me over r ∷ []
+
+-- Who takes a register remembers the way back. The holder of the name server learns it as the route and admits over it, and
+-- another enclave passes the register on toward the name server.
+abbrev pub register_lines : View → Enclave → Record → List Line
+register_lines v from r =
+    lines.Back v.me r.origin from
+    ∷ (if v.holder then lines.Route v.me r.origin from ∷ lines.Sent v.me from (admit_of v.me r.origin) ∷ []
+    else passed_lines v from v.way r)
+
+-- an admit for another enclave goes over the way back to it, which becomes the route
+abbrev pub admit_over : View → Enclave → Enclave → Record → Option Enclave → List Line
+admit_over v from d r None = drop_lines v
+admit_over v from d r (Some over) = lines.Route v.me d over ∷ passed_lines v from (Some over) r
+
+-- an admit for the enclave itself makes it ready
+abbrev pub admit_to : View → Enclave → Record → Option Enclave → List Line
+admit_to v from r None = drop_lines v
+admit_to v from r (Some d) =
+    if d.0 == v.me.0 then (if v.admitted then drop_lines v else lines.Admitted v.me ∷ [])
+    else admit_over v from d r (at v.backs d.0)
+
+abbrev pub body_lines : View → Enclave → Record → Body → List Line
+body_lines v from r bodies.Query = query_lines v from
+body_lines v from r bodies.Here = here_lines v from
+body_lines v from r bodies.Register = register_lines v from r
+body_lines v from r bodies.Admit = admit_to v from r r.dest
+body_lines v from r body = drop_lines v
+
+abbrev pub knows_dead : View → Enclave → Bool
+knows_dead v e = list_any (λ d. d.0 == e.0) v.heard
+
+-- a record that comes back to its origin, and one from or to an enclave that was heard dead
+abbrev pub is_stray : View → Record → Bool
+is_stray v r = (r.origin.0 == v.me.0) || knows_dead v r.origin || option_map_or (knows_dead v) r.dest false
+
+abbrev pub record_lines : View → Enclave → Record → List Line
+record_lines v from r = if is_stray v r then drop_lines v else body_lines v from r r.body
+
+-- the lines of records that come from a neighbour one after the other, each by the view after the lines before it
+abbrev pub lines_of_records : View → Enclave → List Record → List Line
+lines_of_records v from [] = []
+lines_of_records v from (r ∷ rs) =
+    let own = lines.Got from v.me ∷ record_lines v from r in
+    own ++ lines_of_records (own_lines v own) from rs
+
+-- ---- calls of processes
+
+-- the process of that number, from 1
+abbrev pub process_at : View → Pid → Option ProcessView
+process_at v p = if p.0 == 0 then None else slice_get v.processes (p.0 - 1)
+
+abbrev pub start_lines : View → ℕ → ℕ → List Line
+start_lines v uid gid = lines.Proc v.me (record { 0 = length v.processes + 1 }) uid gid ∷ []
+
+-- the lowest unused frames become own pages, unless a page lies past the last one, is taken, or the frames don't reach
+abbrev pub own_lines_of : View → Pid → Vpn → ℕ → List (ℕ × Page) → List Line
+own_lines_of v p page count rows =
+    if nat_lt 16777216 (page.0 + count) then refusal causes.BadRange
+    else (if any_between rows page.0 (page.0 + count) then refusal causes.Taken
+    else (if nat_lt (length v.free) count then refusal causes.NoFrames
+    else lines.Alloc v.me p page (take count v.free) ∷ []))
+
+abbrev pub alloc_lines : View → Pid → Vpn → ℕ → List Line
+alloc_lines v p page count = option_map_or (λ process. own_lines_of v p page count process.pages) (process_at v p) (refusal causes.NoProcess)
+
+-- what a touch finds: a page and its frame, or the cause of its refusal
+abbrev pub page_answer : Want → Vpn → Option Page → Result (Vpn × Frame) Cause
+page_answer want page None = Err causes.NotMapped
+page_answer want page (Some found) = if allows found.access want then Ok (page, found.frame) else Err causes.Denied
+
+abbrev pub touch_answer : View → Pid → ℕ → Want → Result (Vpn × Frame) Cause
+touch_answer v p addr want = option_map_or (λ process. page_answer want (record { 0 = addr / 4096 }) (at process.pages (addr / 4096))) (process_at v p) (Err causes.NoProcess)
+
+abbrev pub answer_lines : Enclave → Pid → Result (Vpn × Frame) Cause → List Line
+answer_lines e p (Ok found) = lines.Touched e p found.0 found.1 ∷ []
+answer_lines e p (Err cause) = refusal cause
+
+-- ---- routes
+
+abbrev pub way_line : View → Line
+way_line v = if v.holder then lines.AtWayOwn v.me else option_map_or (λ over. lines.AtWay v.me over) v.way (lines.AtWayNone v.me)
+
+-- the way to the name server, and the learned routes, ascending
+abbrev pub route_lines : View → List Line
+route_lines v = way_line v ∷ map (λ row. lines.AtRoute v.me (record { 0 = row.0 }) row.1) v.routes
+
+-- ---- waiting bytes
+
+-- the bytes from that one on, 32 a line, in at most so many lines
+abbrev pub bytes_lines : Enclave → Enclave → ℕ → ℕ → List ℕ → List Line
+bytes_lines x y zero at bytes = []
+bytes_lines x y (suc most) at [] = []
+bytes_lines x y (suc most) at (byte ∷ bytes) =
+    lines.Bytes x y at (take 32 (byte ∷ bytes)) ∷ bytes_lines x y most (at + 32) (drop 32 (byte ∷ bytes))
+
+-- ---- the pool
+
+abbrev pub state_line : ℕ → BlockFact → List Line
+state_line b Absent = []
+state_line b Free = lines.BlockFree (record { 0 = b }) ∷ []
+state_line b (Lent e) = lines.BlockLent (record { 0 = b }) (record { 0 = e }) ∷ []
+state_line b (Held e) = lines.BlockHeld (record { 0 = b }) (record { 0 = e }) ∷ []
+
+-- the state of each block, from that number on
+abbrev pub state_lines : ℕ → List BlockFact → List Line
+state_lines b [] = []
+state_lines b (s ∷ ss) = state_line b s ++ state_lines (b + 1) ss
+
+-- the free ones among the blocks from that number on, ascending
+abbrev pub free_from : ℕ → List BlockFact → List Block
+free_from b [] = []
+free_from b (s ∷ ss) = if is_free s then record { 0 = b } ∷ free_from (b + 1) ss else free_from (b + 1) ss
+
+-- so many blocks from the first one on
+abbrev pub first_blocks : ℕ → List Block
+first_blocks count = map (λ b. record { 0 = b }) (range_with_len 0 count)

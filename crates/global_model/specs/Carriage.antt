@@ -1,0 +1,23 @@
+-- What each line of a journal must meet for what goes over the channels to arrive in order.
+use Rattle.std.specs.Prelude.{◌≡◌, ◌+◌, ◌<◌, ◌≤◌, List, [], length, take, true}
+use Rattle.xemem_language.specs.declared.line.Line.{Line}
+use Rattle.xemem_language.specs.declared.line.Line.TheVariants as lines
+use Rattle.xemem_wire.specs.Spelling.{is_valid, spellings_of}
+use Rattle.global_model.specs.Facts.{facts_at, is_living_enclave}
+use Rattle.global_model.specs.Channels.{is_neighbour, waiting_bytes}
+use Rattle.global_model.specs.Journals.{Follows}
+
+-- Carriage: bytes are taken of those that wait; the record that is got next is the next that was sent, and its last byte
+-- was taken; what is sent goes from a living enclave to a neighbour and is valid.
+abbrev pub CarriedAt : List Line → Line → Type 0
+CarriedAt past (lines.Took x y count) = (1 ≤ count) × (count ≤ length (waiting_bytes (facts_at past) x.0 y.0))
+CarriedAt past (lines.Got x y) =
+    let channel = (facts_at past).channel x.0 y.0 in
+    (channel.got < length channel.sent) × (length (spellings_of (take (channel.got + 1) channel.sent)) ≤ channel.taken)
+CarriedAt past (lines.Sent x y r) =
+    (is_living_enclave ((facts_at past).enclave x.0) ≡ true) × (is_neighbour (facts_at past) x.0 y.0 ≡ true) × (is_valid r ≡ true)
+CarriedAt past line = Unit {0}
+
+-- carried: what goes over the channels arrives in order
+abbrev pub IsCarried : List Line → Type 0
+IsCarried journal = Follows CarriedAt [] journal

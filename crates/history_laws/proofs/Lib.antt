@@ -1,0 +1,4 @@
+pub mod Heard
+pub mod Legal
+pub mod Told
+pub mod Spelled

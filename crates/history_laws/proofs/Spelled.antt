@@ -1,0 +1,72 @@
+-- Each line of the journal of commands that stand where they may has a spelling.
+use Rattle.std.proofs.Common.{◌≡◌, ◌+◌, ◌≤◌, ℕ, List, [], ◌∷◌, true, not, Option, None, Some, arith}
+use Rattle.std.specs.List.{All}
+use Rattle.std.proofs.lemmas.Bool.{leb-true, and_parts}
+use Rattle.std.proofs.lemmas.List.Elements.{All-nil, All-cons}
+use Rattle.xm_num.specs.declared.Enclave.{Enclave}
+use Rattle.xemem_language.specs.declared.record.Record.{Record}
+use Rattle.xemem_language.specs.declared.record.Body.{Body}
+use Rattle.xemem_language.specs.declared.record.Body.TheVariants as bodies
+use Rattle.xemem_wire.specs.Table.{kind_of, is_built, is_enclave, is_undirected, is_destination}
+use Rattle.xemem_wire.specs.Spelling.{is_valid}
+use Rattle.xemem_language.specs.declared.command.Command.{Command}
+use Rattle.xemem_language.specs.declared.line.Line.{Line}
+use Rattle.xemem_language.specs.declared.line.Line.TheVariants as lines
+use Rattle.global_model.specs.Facts.{Facts, after_lines, no_facts}
+use Rattle.xemem_language.specs.Ranges.{IsPlainOption, IsSpelledBody, IsSpelled}
+use Rattle.global_model.specs.Place.{IsPlacedAfter, IsPlaced}
+use Rattle.global_model.specs.Due.{command_lines, step_lines, journal_from, journal_of}
+use Rattle.global_model.specs.Carriage.{CarriedAt, IsCarried}
+use Rattle.global_model.specs.Journals.{Follows}
+use Rattle.global_model.proofs.Writes.{EachIs, each-append}
+use Rattle.global_model.proofs.Plain.{IsTellable, each-weaker}
+use Rattle.global_model.proofs.Acts.{IsAct, command_lines-acts}
+
+-- ---- valid records
+
+-- the kinds that are built say no more than their header
+spelled_body : (body : Body) → is_built (kind_of body) ≡ true → IsSpelledBody body
+spelled_body bodies.Query built = tt
+spelled_body bodies.Here built = tt
+spelled_body bodies.Register built = tt
+spelled_body bodies.Admit built = tt
+spelled_body _ built = cc
+
+spelled_dest : (kind : ℕ) (dest : Option Enclave) → is_destination kind dest ≡ true → IsPlainOption dest
+spelled_dest kind None is = tt
+spelled_dest kind (Some e) is =
+    let most : e.0 ≤ 255 = leb-true e.0 255 (and_parts (not (is_undirected kind)) (is_enclave e.0) is).1 in
+    omega (arith, most)
+
+spelled_record : (r : Record) → is_valid r ≡ true → IsPlainOption r.dest × IsSpelledBody r.body
+unfolding is_valid
+spelled_record r valid =
+    let called = and_parts _ _ valid in
+    let sent = and_parts _ _ called.0 in
+    (spelled_dest (kind_of r.body) r.dest sent.1, spelled_body r.body (and_parts _ _ sent.0).0)
+
+-- ---- lines
+
+tellable_act : (line : Line) → IsAct line → IsTellable line
+tellable_act (lines.Do command) act = absurd act
+tellable_act _ act = act
+
+tellable_journal : (cs : List Command) (before : ℕ) (G : Facts) → IsPlacedAfter before cs → EachIs IsTellable (journal_from G cs)
+tellable_journal [] before G placed = tt
+tellable_journal (c ∷ cs) before G placed =
+    let H = after_lines G (step_lines G c) in
+    let acts = each-weaker IsAct IsTellable tellable_act (command_lines G c) (command_lines-acts G c) in
+    (placed.1, each-append IsTellable (command_lines G c) (journal_from H cs) acts (tellable_journal cs (before + 1) H placed.2))
+
+spelled_line : (past : List Line) (line : Line) → IsTellable line → CarriedAt past line → IsSpelled line
+spelled_line past (lines.Sent x y r) tellable carried = spelled_record r carried.2
+spelled_line past _ tellable carried = tellable
+
+spelled_lines : (ls past : List Line) → EachIs IsTellable ls → Follows CarriedAt past ls → All IsSpelled ls
+spelled_lines [] past tellable carried = All-nil IsSpelled
+spelled_lines (l ∷ ls) past tellable carried =
+    All-cons IsSpelled l ls (spelled_line past l tellable.0 carried.0) (spelled_lines ls (l ∷ past) tellable.1 carried.1)
+
+-- the records that are sent are valid, as the journal is carried
+pub journal_of-spelled : (cs : List Command) → IsPlaced cs → IsCarried (journal_of cs) → All IsSpelled (journal_of cs)
+journal_of-spelled cs placed carried = spelled_lines (journal_of cs) [] (tellable_journal cs 0 no_facts placed) carried

@@ -1,0 +1,8 @@
+//! What a lawful history is, and that every journal is one.
+//!
+//! Each law is the contract of a function with an empty body, which a crate above calls to have it.
+#![tactic(auto)]
+
+mod laws;
+
+pub use laws::{journals_are_legal, journals_are_spelled, one_journal, ways_are_heard};

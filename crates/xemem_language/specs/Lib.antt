@@ -1,0 +1,4 @@
+pub mod Destinations
+pub mod Spelling
+pub mod Ranges
+pub mod Place
