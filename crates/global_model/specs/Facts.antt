@@ -12,6 +12,8 @@ use Rattle.xemem_language.specs.declared.record.Record.{Record}
 use Rattle.xemem_language.specs.declared.command.Command.TheVariants as commands
 use Rattle.xemem_language.specs.declared.line.Line.{Line}
 use Rattle.xemem_language.specs.declared.line.Line.TheVariants as lines
+use Rattle.enclave_rules.specs.Blocks.{Absent, BlockFact, Free, Lent, is_listed}
+use Rattle.enclave_rules.specs.View.{place_among}
 
 pub record EnclaveFact : Type 0 where
   pub kind : Kind

@@ -10,12 +10,11 @@ use Rattle.xm_num.specs.declared.Kind.TheVariants as kinds
 use Rattle.xm_num.specs.declared.Cause.TheVariants as causes
 use Rattle.xemem_language.specs.declared.command.Command.TheVariants as commands
 use Rattle.xemem_language.specs.declared.line.Line.{Line}
+use Rattle.enclave_rules.specs.Steps.{adopt_lines, alloc_lines, answer_lines, birth_lines, free_from, refusal, route_lines, start_lines, state_lines, touch_answer}
+use Rattle.enclave_rules.specs.View.{host}
+use Rattle.global_model.specs.Due.{command_lines, next_enclave}
 use Rattle.global_model.specs.Facts.{Facts}
-use Rattle.enclave_rules.specs.Blocks.{BlockFact, Free}
-use Rattle.enclave_rules.specs.View.{View, no_host, host}
 use Rattle.global_model.specs.Views.{view_of}
-use Rattle.enclave_rules.specs.Steps.{refusal, birth_lines, adopt_lines, start_lines, alloc_lines, touch_answer, answer_lines, route_lines, state_lines, free_from}
-use Rattle.global_model.specs.Due.{next_enclave, command_lines}
 
 -- the lines of a command at an enclave, where it was born
 abbrev pub at_born : ℕ → Enclave → List Line → List Line

@@ -10,8 +10,9 @@ use Rattle.xm_num.specs.declared.Access.{Access}
 use Rattle.xm_num.specs.declared.Access.TheVariants as accesses
 use Rattle.xm_num.specs.declared.Want.{Want}
 use Rattle.xm_num.specs.declared.Want.TheVariants as wants
-use Rattle.global_model.specs.Facts.{Facts, OwnPage, lives, is_living_enclave}
 use Rattle.enclave_rules.specs.Blocks.{is_free, is_lent_to}
+use Rattle.enclave_rules.specs.Pages.{frame_list, own_page}
+use Rattle.global_model.specs.Facts.{Facts, OwnPage, is_living_enclave, lives}
 
 -- what a page is mapped to: a machine frame, and what it may be used for
 pub record Mapping : Type 0 where

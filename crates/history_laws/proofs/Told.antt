@@ -11,17 +11,6 @@ use Rattle.history_laws.specs.History.{IsDueAt, IsTold, IsWhole}
 use Rattle.global_model.proofs.Acts.{IsAct, AreActs, command_lines-acts}
 use Rattle.global_model.proofs.Pasts.{onto-append, after_lines-append, facts_at-onto, Follows-append}
 
--- ---- lines that begin no command
-
-pub is_do : Line → Bool
-is_do (lines.Do command) = true
-is_do line = false
-
-no_do : (line : Line) → IsAct line → is_do line ≡ false
-unfolding is_do
-no_do (lines.Do command) act = absurd act
-no_do _ act = refl
-
 -- ---- what is due after a past
 
 -- the lines of the command at hand that are still to come
@@ -125,38 +114,7 @@ journal_of-told cs = told_journal cs no_facts [] refl rest_of-nil
 pub journal_of-whole : (cs : List Command) → IsWhole (journal_of cs)
 journal_of-whole cs = nothing_due _ (journal_of-told cs).whole
 
--- ---- the commands of a journal
-
-pub do_commands-append : (ls ms : List Line) → do_commands (ls ++ ms) ≡ do_commands ls ++ do_commands ms
-do_commands-append [] ms = refl
-do_commands-append (lines.Do command ∷ ls) ms = ap (λ cs. command ∷ cs) (do_commands-append ls ms)
-do_commands-append (_ ∷ ls) ms = do_commands-append ls ms
-
-do_commands-act : (line : Line) (ls : List Line) → is_do line ≡ false → do_commands (line ∷ ls) ≡ do_commands ls
-unfolding is_do
-do_commands-act (lines.Do command) ls act = cc
-do_commands-act _ ls act = refl
-
-do_commands-acts : (ls : List Line) → AreActs ls → do_commands ls ≡ []
-do_commands-acts [] acts = refl
-do_commands-acts (line ∷ ls) acts = do_commands-act line ls (no_do line acts.0) ∙ do_commands-acts ls acts.1
-
-pub do_commands-journal : (G : Facts) (cs : List Command) → do_commands (journal_from G cs) ≡ cs
-do_commands-journal G [] = refl
-do_commands-journal G (c ∷ cs) =
-    let H = after_lines G (step_lines G c) in
-    ap (λ ds. c ∷ ds) (do_commands-append (command_lines G c) (journal_from H cs) ∙ ap (λ ds. ds ++ do_commands (journal_from H cs)) (do_commands-acts (command_lines G c) (command_lines-acts G c)) ∙ do_commands-journal H cs)
-
 -- ---- no other journal is told and whole
-
-pub journal_from-more : (G : Facts) (done : List Command) (c : Command)
-    → journal_from G (done ++ c ∷ []) ≡ journal_from G done ++ step_lines (after_lines G (journal_from G done)) c
-journal_from-more G [] c = append-nil _
-journal_from-more G (first ∷ done) c =
-    let ls = step_lines G first in
-    let H = after_lines G ls in
-    let facts : after_lines H (journal_from H done) ≡ after_lines G (ls ++ journal_from H done) = sym (after_lines-append G ls (journal_from H done)) in
-    ap (λ more. ls ++ more) (journal_from-more H done c) ∙ sym (append_assoc ls (journal_from H done) _) ∙ ap (λ K. (ls ++ journal_from H done) ++ step_lines K c) facts
 
 -- what was told so far, and what is to come of the command at hand, is the journal of the commands so far
 pub IsSoFar : List Line → Type 0
