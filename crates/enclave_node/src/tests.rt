@@ -7,14 +7,13 @@ mod ways;
 
 use crate::{Call, Node, NodeFault, Show};
 use frame_pool::PoolFault;
-use xemem_language::{Line, Lines};
 use page_table::{AddressSpace, PageTable};
 use std::alloc::{AllocError, Global};
 use std::process::Abort;
-use xemem_language::Body;
+use xemem_language::{Body, Line, Lines};
 use xemem_wire::{Decoder, WireFault};
-use xm_num::laws::rows;
 use xm_num::{Block, Cause, Enclave, EnclaveList, Frame, Kind, Neighbour, Pid, Vpn, Want};
+use xm_num::laws::rows;
 
 const HOST: Enclave = Enclave(0);
 

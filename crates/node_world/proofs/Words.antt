@@ -26,3 +26,8 @@ made_by b = cond b 1 0
 
 pub deliveries-more : (i : ℕ) (ls : List Line) (l : Line) → i < length ls → l ≡ get_or ls i l → deliveries_in (take (i + 1) ls) ≡ deliveries_in (take i ls) + made_by (is_delivery l)
 deliveries-more i ls l within is = length-filter_more is_delivery ls i l within ∙ ap (λ k. deliveries_in (take i ls) + made_by (is_delivery k)) (sym is)
+
+-- lines on top of a past, in two parts
+pub onto-append : (ls ms past : List Line) → onto (ls ++ ms) past ≡ onto ms (onto ls past)
+onto-append [] ms past = refl
+onto-append (l ∷ ls) ms past = onto-append ls ms (l ∷ past)

@@ -10,10 +10,10 @@ use crate::Status;
 use crate::execute::{Fault, execute};
 use crate::laws::laws;
 use crate::place::is_built;
-use xemem_language::Command;
 use node_world::{Which, World};
 use scenario_text::{SyntaxFault, first_line, place_ok, read_command};
 use std::alloc::Global;
+use xemem_language::Command;
 use xm_edge::Sink;
 
 // How a run ends at a fault.

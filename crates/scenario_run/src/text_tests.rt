@@ -1,9 +1,8 @@
 // The forms at the ends of their ranges, and the texts of all lines.
 use crate::print::print_lines;
-use xemem_language::{ByteList, Command, Line};
 use scenario_text::{SyntaxFault, first_line, read_command};
 use std::alloc::{AllocError, Global};
-use xemem_language::{Body, Record};
+use xemem_language::{Body, ByteList, Command, Line, Record};
 use xm_num::{Block, BlockList, Cause, Enclave, Frame, FrameList, Kind, Pid, Vpn, Want};
 
 fn pool(blocks: u16) -> Command {

@@ -7,13 +7,12 @@ ghost use Rattle.enclave_rules.specs.View.{own_line, own_lines};
 ghost use Rattle.enclave_rules.specs.Steps as steps;
 ghost use Rattle.enclave_node.specs.Sides as spec;
 
-use super::{State, plain};
 use crate::sides::{enclave_of, side_of};
-use xemem_language::{Line, Lines};
 use page_table::AddressSpace;
 use route_learn::Way;
 use std::alloc::AllocError;
-use xemem_language::Body;
+use super::{State, plain};
+use xemem_language::{Body, Line, Lines};
 use xm_num::Enclave;
 
 impl<A: AddressSpace> State<A> {

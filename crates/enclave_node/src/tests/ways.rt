@@ -1,7 +1,7 @@
 // What an enclave of several neighbours learns of ways, by worked rows.
-use super::*;
 use crate::births::child_birth;
 use crate::state::State;
+use super::*;
 use xemem_language::Record;
 
 // A record of a kind, of an enclave and for another.
