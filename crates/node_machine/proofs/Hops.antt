@@ -7,7 +7,7 @@ use Rattle.std.proofs.lemmas.Option.{slice_get_within, get_or_from_slice_get, sl
 use Rattle.xm_num.specs.declared.Enclave.{Enclave}
 use Rattle.node_machine.specs.declared.pair.Pair.{Pair}
 use Rattle.node_machine.specs.declared.pair.Hop.TheVariants as hops
-use Rattle.node_machine.specs.Machine.{no_pair, pair_at, is_parent, hop_of}
+use Rattle.node_machine.specs.Machine.{no_pair, pair_at, is_parent, hop_of, AreAbove, IsPairAt}
 
 parent_found : (pairs : List Pair) (child parent : ℕ) → is_parent pairs child parent ≡ true → IsPairAt pairs (child - 1) child parent
 parent_found pairs child parent is = by (slice_get pairs (child - 1)) refl (and_parts (leb 1 child) _ is)

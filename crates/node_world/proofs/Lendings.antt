@@ -83,8 +83,8 @@ far_refused G x y far = by (is_living_enclave (G.enclave y.0) && is_some (G.encl
 -- ---- links
 
 -- a link is lent between neighbours, and its bytes are those that wait
-pub link_waits : (G : Facts) (m : MachineView) → IsFlowing G → IsShown G m → (x y : Enclave) (link : Channel) → link_between m x y ≡ Some link → waiting_bytes link ≡ waiting_in G x.0 y.0
-link_waits G m flowing h x y link is = by (hop_in m x y) refl is
+pub link_waits : Laws → (G : Facts) (m : MachineView) → IsFlowing G → IsShown G m → (x y : Enclave) (link : Channel) → link_between m x y ≡ Some link → waiting_bytes link ≡ waiting_in G x.0 y.0
+link_waits laws G m flowing h x y link is = by (hop_in m x y) refl is
   where
     by : (hop : Hop) → hop_in m x y ≡ hop → link_by m.pairs hop ≡ Some link → waiting_bytes link ≡ waiting_in G x.0 y.0
     by hops.NoEnclave is none = cc
@@ -126,8 +126,8 @@ lent_node G m h e node is =
 pub lent_appended : (m : MachineView) (journal : List Line) → IsHistoryOf m journal → (e : ℕ) (node : NodeView) → slice_get m.nodes e ≡ Some node → node.appended ≡ words_by e (onto journal [])
 lent_appended m journal h e node is = ap (λ n. n.appended) (sym (node_found m.nodes e node is).1) ∙ h.appended e
 
-pub lent_feeds : (G : Facts) (m : MachineView) → IsFlowing G → IsShown G m → (e : ℕ) (node : NodeView) → slice_get m.nodes e ≡ Some node → IsFedBy G e node
-lent_feeds G m flowing h e node is x near = subst (Feeds G x e) (node_found m.nodes e node is).1 (by (hop_in m from to) refl)
+pub lent_feeds : Laws → (G : Facts) (m : MachineView) → IsFlowing G → IsShown G m → (e : ℕ) (node : NodeView) → slice_get m.nodes e ≡ Some node → IsFedBy G e node
+lent_feeds laws G m flowing h e node is x near = subst (Feeds G x e) (node_found m.nodes e node is).1 (by (hop_in m from to) refl)
   where
     from : Enclave
     from = record { 0 = x }

@@ -1,10 +1,10 @@
 -- How many words and deliveries lines have, and where a limit stops them.
-use Rattle.std.proofs.Common.{◌≡◌, ◌+◌, ◌<◌, ℕ, zero, suc, List, [], ◌∷◌, ◌++◌, length, take, get_or, Bool, cond, sym, ap, ◌∙◌, arith, length-append}
+use Rattle.std.proofs.Common.{◌≡◌, ◌+◌, ◌<◌, ℕ, zero, suc, List, [], ◌∷◌, ◌++◌, length, take, get_or, Bool, cond, refl, sym, ap, ◌∙◌, arith, length-append}
 use Rattle.std.proofs.lemmas.List.Elements.{filter-append}
 use Rattle.std.proofs.lemmas.List.Filters.{length-filter_more}
 use Rattle.xemem_language.specs.declared.line.Line.{Line}
 use Rattle.xemem_language.specs.Spelling.{line_words, words_in}
-use Rattle.global_model.specs.Journals.{is_delivery, deliveries_in}
+use Rattle.global_model.specs.Journals.{is_delivery, deliveries_in, onto}
 
 pub words-append : (ls ms : List Line) → words_in (ls ++ ms) ≡ words_in ls + words_in ms
 words-append [] ms = omega arith

@@ -8,7 +8,7 @@ use Rattle.global_model.specs.Views.{view_of}
 use Rattle.enclave_node.specs.Nodes.{NodeView}
 use Rattle.node_machine.specs.declared.pair.Pair.{Pair}
 use Rattle.node_world.specs.Links.{IsChannel, feed_of}
-use Rattle.node_machine.specs.Machine.{MachineView, node_at, pair_at}
+use Rattle.node_machine.specs.Machine.{MachineView, node_at, pair_at, enclave}
 
 -- the node is seen as the view of its enclave, and hasn't failed
 pub record IsNodeOf (G : Facts) (e : ℕ) (node : NodeView) : Type 0 where
