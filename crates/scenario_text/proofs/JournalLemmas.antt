@@ -20,16 +20,16 @@ use Rattle.xemem_language.specs.declared.line.Line.{Line}
 use Rattle.xemem_language.specs.declared.line.Line.TheVariants as lines
 use Rattle.xemem_language.specs.Ranges.{IsSpelled}
 use Rattle.xemem_language.specs.Spelling.{access_word, kind_word, cause_word, name_word, body_words, record_words, hex_words, line_words, text_of}
-use Rattle.scenario_text.specs.Words.{lines_of, words_of}
-use Rattle.scenario_text.specs.Slots.{pieces, is_done, whole, Read, row_read}
-use Rattle.scenario_text.specs.Lines.{line_of, line_rows, text_line}
-use Rattle.scenario_text.specs.Typed.{IsTyped}
-use Rattle.scenario_text.proofs.JoinedLemmas.{IsSolidByte, IsSolid, IsWord, AreWords, decimal_word, name, solid_from, words_of-joined}
-use Rattle.scenario_text.proofs.LineLemmas.{command_in_words}
-use Rattle.scenario_text.proofs.LineBack.{line_of-words}
-use Rattle.scenario_text.proofs.LineRows.{IsLine, lines_read}
-use Rattle.scenario_text.proofs.PieceLemmas.{pieces_some}
-use Rattle.scenario_text.proofs.RowLemmas.{row_read-some}
+use Rattle.text_words.specs.Words.{lines_of, words_of}
+use Rattle.line_reader.specs.Slots.{pieces, is_done, whole, Read, row_read}
+use Rattle.line_reader.specs.Lines.{line_of, line_rows, text_line}
+use Rattle.line_reader.specs.Typed.{IsTyped}
+use Rattle.text_words.proofs.JoinedLemmas.{IsSolidByte, IsSolid, IsWord, AreWords, decimal_word, name, solid_from, words_of-joined}
+use Rattle.command_reader.proofs.LineLemmas.{command_in_words}
+use Rattle.line_reader.proofs.LineBack.{line_of-words}
+use Rattle.line_reader.proofs.LineRows.{IsLine, lines_read}
+use Rattle.line_reader.proofs.PieceLemmas.{pieces_some}
+use Rattle.line_reader.proofs.RowLemmas.{row_read-some}
 
 -- ---- each word of a line is one
 

@@ -4,9 +4,9 @@ ghost use Rattle.std.specs.List.{join_with_byte, All};
 ghost use Rattle.xemem_language.specs.declared.line.Line.{Line as JournalLine};
 ghost use Rattle.xemem_language.specs.Ranges.{IsSpelled};
 ghost use Rattle.xemem_language.specs.Spelling.{line_words, text_of};
-ghost use Rattle.scenario_text.specs.Lines.{text_line};
-ghost use Rattle.scenario_text.specs.Typed.{IsTyped};
-ghost use Rattle.scenario_text.specs.Words.{lines_of, words_of};
+ghost use Rattle.line_reader.specs.Lines.{text_line};
+ghost use Rattle.line_reader.specs.Typed.{IsTyped};
+ghost use Rattle.text_words.specs.Words.{lines_of, words_of};
 
 /// A line that has a spelling is read back from its words with one space between. A text that spells a line is the
 /// words of that line with one space between, and the line has a spelling, each number in the range of its type.
