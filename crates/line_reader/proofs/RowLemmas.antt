@@ -3,6 +3,7 @@ use Rattle.std.proofs.Common.{◌≡◌, ℕ, List, [], ◌∷◌, Bool, true, f
 use Rattle.std.proofs.lemmas.Slice.Eq.{bytes_eq-Decides}
 use Rattle.std.specs.Option.{option_and_then}
 use Rattle.std.specs.Str.{bytes_eq}
+use Rattle.line_reader.specs.Laws.{Laws}
 use Rattle.line_reader.specs.Slots.{Slot, Value, Read, Row, Maker, filled, row, row_read, next}
 use Rattle.line_reader.proofs.ValueLemmas.{spell, IsMeant, next-back, next-some}
 
@@ -25,11 +26,11 @@ AreMeant [] values = Unit {0}
 AreMeant (slot ∷ slots) values = IsMeant slot values.0 × AreMeant slots values.1
 
 -- what is spelled is read again
-pub filled-back : {R : Type 0} (slots : List Slot) (make : Maker slots R) (values : Values slots) (rest : List (List ℕ)) → AreMeant slots values
+pub filled-back : (laws : Laws) {R : Type 0} (slots : List Slot) (make : Maker slots R) (values : Values slots) (rest : List (List ℕ)) → AreMeant slots values
     → filled slots make (spelled slots values rest) ≡ Some (all_made slots make values, rest)
-filled-back [] make values rest meant = refl
-filled-back (slot ∷ slots) make values rest meant =
-    rw (next-back slot values.0 (spelled slots values.1 rest) meant.0) (filled-back slots (make values.0) values.1 rest meant.1)
+filled-back laws [] make values rest meant = refl
+filled-back laws (slot ∷ slots) make values rest meant =
+    rw (next-back laws slot values.0 (spelled slots values.1 rest) meant.0) (filled-back laws slots (make values.0) values.1 rest meant.1)
 
 -- what is read was spelled
 pub record Filled {R : Type 0} (slots : List Slot) (make : Maker slots R) (words : List (List ℕ)) (result : R) (rest : List (List ℕ)) : Type 0 where
@@ -38,17 +39,17 @@ pub record Filled {R : Type 0} (slots : List Slot) (make : Maker slots R) (words
   pub words_are : words ≡ spelled slots values rest
   pub result_is : all_made slots make values ≡ result
 
-pub filled-some : {R : Type 0} (slots : List Slot) (make : Maker slots R) (words : List (List ℕ)) (result : R) (rest : List (List ℕ)) → filled slots make words ≡ Some (result, rest) → Filled slots make words result rest
-filled-some {R} [] made words result rest h =
+pub filled-some : (laws : Laws) {R : Type 0} (slots : List Slot) (make : Maker slots R) (words : List (List ℕ)) (result : R) (rest : List (List ℕ)) → filled slots make words ≡ Some (result, rest) → Filled slots make words result rest
+filled-some laws {R} [] made words result rest h =
     let pair : ◌≡◌ {A = R × List (List ℕ)} (made, words) (result, rest) = cc in
     record { values = tt; meant = tt; words_are = ap (λ p. p.1) pair; result_is = ap (λ p. p.0) pair }
-filled-some {R} (slot ∷ slots) make words result rest h = by (λ value left. filled-some slots (make value) left result rest) (next slot words) refl h
+filled-some laws {R} (slot ∷ slots) make words result rest h = by (λ value left. filled-some laws slots (make value) left result rest) (next slot words) refl h
   where
     by : ((value : Value slot) (left : List (List ℕ)) → filled slots (make value) left ≡ Some (result, rest) → Filled slots (make value) left result rest)
         → (o : Read (Value slot)) → next slot words ≡ o → option_and_then (λ (value, left). filled slots (make value) left) o ≡ Some (result, rest) → Filled (slot ∷ slots) make words result rest
     by more None is e = cc
     by more (Some pair) is e =
-        let first = next-some slot pair.0 words pair.1 is in
+        let first = next-some laws slot pair.0 words pair.1 is in
         let others = more pair.0 pair.1 e in
         record {
           values = (pair.0, others.values);

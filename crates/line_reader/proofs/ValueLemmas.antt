@@ -16,9 +16,9 @@ use Rattle.xemem_language.specs.Destinations.{destination_number}
 use Rattle.xemem_language.specs.Ranges.{IsName, IsPlainOption, IsWithin}
 use Rattle.xemem_language.specs.Spelling.{access_word, cause_word, kind_word, signed_word}
 use Rattle.text_words.specs.Words.{number_in}
+use Rattle.line_reader.specs.Laws.{Laws}
 use Rattle.line_reader.specs.Slots.{Slot, Value, Read, made, named, next, next_word, next_number, next_named, bytes_of, destination_of, access_names, kind_names, mark_names, cause_names, enclave, destination, pid, call, segid, apid, page, frame, block, word32, word64, access, cause, kind, mark, hex, text, keyword}
 use Rattle.line_reader.proofs.BytesLemmas.{bytes_of-spells, bytes_of-back}
-use Rattle.text_words.proofs.WordLemmas.{number_in-decimal, number_in-spells}
 
 -- ---- how a value is spelled, and which values are
 
@@ -62,9 +62,9 @@ IsMeant slot value = Unit {0}
 
 -- ---- numbers
 
-next_number-back : (high n : ℕ) (words : List (List ℕ)) → n ≤ high → high < 2 ^ 64 → next_number high (decimal n ∷ words) ≡ Some (n, words)
+next_number-back : (laws : Laws) (high n : ℕ) (words : List (List ℕ)) → n ≤ high → high < 2 ^ 64 → next_number high (decimal n ∷ words) ≡ Some (n, words)
 unfolding next_number next_word
-next_number-back high n words h fits = rw (number_in-decimal 0 high n (omega arith) h (omega arith)) refl
+next_number-back laws high n words h fits = rw (laws.numbers.back 0 high n (omega arith) h (omega arith)) refl
 
 -- what was made was made of something that was read
 pub record Made {A B : Type 0} (f : A → Option B) (r : Read A) (b : B) (rest : List (List ℕ)) : Type 0 where
@@ -96,11 +96,11 @@ record Numbered (high n : ℕ) (words rest : List (List ℕ)) : Type 0 where
   is : words ≡ decimal n ∷ rest
   most : n ≤ high
 
-next_number-some : (high n : ℕ) (words rest : List (List ℕ)) → high < 2 ^ 64 → next_number high words ≡ Some (n, rest) → Numbered high n words rest
+next_number-some : (laws : Laws) (high n : ℕ) (words rest : List (List ℕ)) → high < 2 ^ 64 → next_number high words ≡ Some (n, rest) → Numbered high n words rest
 unfolding next_number
-next_number-some high n words rest fits h =
+next_number-some laws high n words rest fits h =
     let m = made-some (number_in 0 high) (next_word words) n rest h in
-    let s = number_in-spells 0 high m.found n fits m.gave in
+    let s = laws.numbers.spelled 0 high m.found n fits m.gave in
     record { is = next_word-some words m.found rest m.was ∙ ap (λ w. w ∷ rest) s.is; most = s.most }
 
 -- ---- names
@@ -185,26 +185,26 @@ name_most : (z : ℤ) → IsName z → nat_abs z ≤ 9223372036854775807
 name_most (pos n) h = omega (arith, ints, h.1)
 name_most (negsuc n) h = absurd (omega (arith, ints, h.0))
 
-pub next-back : (slot : Slot) (value : Value slot) (words : List (List ℕ)) → IsMeant slot value → next slot (spell slot value ∷ words) ≡ Some (value, words)
+pub next-back : (laws : Laws) (slot : Slot) (value : Value slot) (words : List (List ℕ)) → IsMeant slot value → next slot (spell slot value ∷ words) ≡ Some (value, words)
 unfolding next next_named next_word
-next-back enclave e words h = rw (next_number-back 65535 e.0 words h (omega arith)) refl
-next-back destination d words h = rw (next_number-back 65535 (destination_number d) words (destination-most d h) (omega arith), destination-back d h) refl
-next-back pid p words h = rw (next_number-back 4294967295 p.0 words h (omega arith)) refl
-next-back call k words h = rw (next_number-back 4294967295 k.0 words h (omega arith)) refl
-next-back segid s words h = rw (next_number-back 9223372036854775807 (nat_abs s.0) words (name_most s.0 h) (omega arith), name_is s.0 h) refl
-next-back apid a words h = rw (next_number-back 9223372036854775807 (nat_abs a.0) words (name_most a.0 h) (omega arith), name_is a.0 h) refl
-next-back page v words h = rw (next_number-back 4294967295 v.0 words h (omega arith)) refl
-next-back frame f words h = rw (next_number-back 4294967295 f.0 words h (omega arith)) refl
-next-back block b words h = rw (next_number-back 65535 b.0 words h (omega arith)) refl
-next-back word32 n words h = next_number-back 4294967295 n words h (omega arith)
-next-back word64 n words h = next_number-back 18446744073709551615 n words h (omega arith)
-next-back access a words h = rw (access-back a) refl
-next-back cause c words h = rw (cause-back c) refl
-next-back kind k words h = rw (kind-back k) refl
-next-back mark ns words h = rw (mark-back ns) refl
-next-back hex bytes words h = rw (bytes_of-back bytes h.0 h.1) refl
-next-back text t words h = refl
-next-back (keyword name) u words h = rw ((bytes_eq-Decides name name).1 refl) refl
+next-back laws enclave e words h = rw (next_number-back laws 65535 e.0 words h (omega arith)) refl
+next-back laws destination d words h = rw (next_number-back laws 65535 (destination_number d) words (destination-most d h) (omega arith), destination-back d h) refl
+next-back laws pid p words h = rw (next_number-back laws 4294967295 p.0 words h (omega arith)) refl
+next-back laws call k words h = rw (next_number-back laws 4294967295 k.0 words h (omega arith)) refl
+next-back laws segid s words h = rw (next_number-back laws 9223372036854775807 (nat_abs s.0) words (name_most s.0 h) (omega arith), name_is s.0 h) refl
+next-back laws apid a words h = rw (next_number-back laws 9223372036854775807 (nat_abs a.0) words (name_most a.0 h) (omega arith), name_is a.0 h) refl
+next-back laws page v words h = rw (next_number-back laws 4294967295 v.0 words h (omega arith)) refl
+next-back laws frame f words h = rw (next_number-back laws 4294967295 f.0 words h (omega arith)) refl
+next-back laws block b words h = rw (next_number-back laws 65535 b.0 words h (omega arith)) refl
+next-back laws word32 n words h = next_number-back laws 4294967295 n words h (omega arith)
+next-back laws word64 n words h = next_number-back laws 18446744073709551615 n words h (omega arith)
+next-back laws access a words h = rw (access-back a) refl
+next-back laws cause c words h = rw (cause-back c) refl
+next-back laws kind k words h = rw (kind-back k) refl
+next-back laws mark ns words h = rw (mark-back ns) refl
+next-back laws hex bytes words h = rw (bytes_of-back bytes h.0 h.1) refl
+next-back laws text t words h = refl
+next-back laws (keyword name) u words h = rw ((bytes_eq-Decides name name).1 refl) refl
 
 -- ---- what is read was spelled
 
@@ -213,11 +213,11 @@ pub record Spelt (slot : Slot) (value : Value slot) (words rest : List (List ℕ
   pub meant : IsMeant slot value
 
 -- a value that is made of a number by a constructor
-numbered : {B : Type 0} (high : ℕ) (f : ℕ → B) (words rest : List (List ℕ)) (b : B) (spelled : B → List ℕ) (most : B → Type 0) → high < 2 ^ 64 → ((n : ℕ) → n ≤ high → (spelled (f n) ≡ decimal n) × most (f n))
+numbered : (laws : Laws) {B : Type 0} (high : ℕ) (f : ℕ → B) (words rest : List (List ℕ)) (b : B) (spelled : B → List ℕ) (most : B → Type 0) → high < 2 ^ 64 → ((n : ℕ) → n ≤ high → (spelled (f n) ≡ decimal n) × most (f n))
     → made (λ n. Some (f n)) (next_number high words) ≡ Some (b, rest) → (words ≡ spelled b ∷ rest) × most b
-numbered high f words rest b spelled most fits each h =
+numbered laws high f words rest b spelled most fits each h =
     let m = made-some (λ n. Some (f n)) (next_number high words) b rest h in
-    let s = next_number-some high m.found words rest fits m.was in
+    let s = next_number-some laws high m.found words rest fits m.was in
     let is : f m.found ≡ b = cc (m.gave) in
     let e = each m.found s.most in
     rw (← is) (s.is ∙ ap (λ w. w ∷ rest) (sym e.0), e.1)
@@ -232,28 +232,28 @@ keyword-some : {A : Type 0} (u v : A) (name word : List ℕ) (same : Bool) → b
 keyword-some u v name word true is e = (bytes_eq-Decides word name).0 is
 keyword-some u v name word false is e = cc
 
-pub next-some : (slot : Slot) (value : Value slot) (words rest : List (List ℕ)) → next slot words ≡ Some (value, rest) → Spelt slot value words rest
+pub next-some : (laws : Laws) (slot : Slot) (value : Value slot) (words rest : List (List ℕ)) → next slot words ≡ Some (value, rest) → Spelt slot value words rest
 unfolding next
-next-some enclave e words rest h = let s = numbered 65535 (λ n. record { 0 = n }) words rest e (spell enclave) (IsMeant enclave) (omega arith) (λ n le. (refl, le)) h in record { is = s.0; meant = s.1 }
-next-some destination d words rest h = let s = numbered 65535 destination_of words rest d (spell destination) (IsMeant destination) (omega arith) destination-spelled h in record { is = s.0; meant = s.1 }
-next-some pid p words rest h = let s = numbered 4294967295 (λ n. record { 0 = n }) words rest p (spell pid) (IsMeant pid) (omega arith) (λ n le. (refl, le)) h in record { is = s.0; meant = s.1 }
-next-some call k words rest h = let s = numbered 4294967295 (λ n. record { 0 = n }) words rest k (spell call) (IsMeant call) (omega arith) (λ n le. (refl, le)) h in record { is = s.0; meant = s.1 }
-next-some segid x words rest h = let s = numbered 9223372036854775807 (λ n. record { 0 = pos n }) words rest x (spell segid) (IsMeant segid) (omega arith) (λ n le. (refl, (omega (arith, ints), omega (arith, ints)))) h in record { is = s.0; meant = s.1 }
-next-some apid a words rest h = let s = numbered 9223372036854775807 (λ n. record { 0 = pos n }) words rest a (spell apid) (IsMeant apid) (omega arith) (λ n le. (refl, (omega (arith, ints), omega (arith, ints)))) h in record { is = s.0; meant = s.1 }
-next-some page v words rest h = let s = numbered 4294967295 (λ n. record { 0 = n }) words rest v (spell page) (IsMeant page) (omega arith) (λ n le. (refl, le)) h in record { is = s.0; meant = s.1 }
-next-some frame f words rest h = let s = numbered 4294967295 (λ n. record { 0 = n }) words rest f (spell frame) (IsMeant frame) (omega arith) (λ n le. (refl, le)) h in record { is = s.0; meant = s.1 }
-next-some block b words rest h = let s = numbered 65535 (λ n. record { 0 = n }) words rest b (spell block) (IsMeant block) (omega arith) (λ n le. (refl, le)) h in record { is = s.0; meant = s.1 }
-next-some word32 n words rest h = let s = next_number-some 4294967295 n words rest (omega arith) h in record { is = s.is; meant = s.most }
-next-some word64 n words rest h = let s = next_number-some 18446744073709551615 n words rest (omega arith) h in record { is = s.is; meant = s.most }
-next-some access a words rest h = record { is = next_named-some access_word access_names words a rest (refl, (refl, tt)) h; meant = tt }
-next-some cause c words rest h = record { is = next_named-some cause_word cause_names words c rest each_cause h; meant = tt }
-next-some kind k words rest h = record { is = next_named-some kind_word kind_names words k rest (refl, (refl, (refl, tt))) h; meant = tt }
-next-some mark ns words rest h = record { is = next_named-some mark_word mark_names words ns rest (refl, (refl, tt)) h; meant = tt }
-next-some hex bytes words rest h =
+next-some laws enclave e words rest h = let s = numbered laws 65535 (λ n. record { 0 = n }) words rest e (spell enclave) (IsMeant enclave) (omega arith) (λ n le. (refl, le)) h in record { is = s.0; meant = s.1 }
+next-some laws destination d words rest h = let s = numbered laws 65535 destination_of words rest d (spell destination) (IsMeant destination) (omega arith) destination-spelled h in record { is = s.0; meant = s.1 }
+next-some laws pid p words rest h = let s = numbered laws 4294967295 (λ n. record { 0 = n }) words rest p (spell pid) (IsMeant pid) (omega arith) (λ n le. (refl, le)) h in record { is = s.0; meant = s.1 }
+next-some laws call k words rest h = let s = numbered laws 4294967295 (λ n. record { 0 = n }) words rest k (spell call) (IsMeant call) (omega arith) (λ n le. (refl, le)) h in record { is = s.0; meant = s.1 }
+next-some laws segid x words rest h = let s = numbered laws 9223372036854775807 (λ n. record { 0 = pos n }) words rest x (spell segid) (IsMeant segid) (omega arith) (λ n le. (refl, (omega (arith, ints), omega (arith, ints)))) h in record { is = s.0; meant = s.1 }
+next-some laws apid a words rest h = let s = numbered laws 9223372036854775807 (λ n. record { 0 = pos n }) words rest a (spell apid) (IsMeant apid) (omega arith) (λ n le. (refl, (omega (arith, ints), omega (arith, ints)))) h in record { is = s.0; meant = s.1 }
+next-some laws page v words rest h = let s = numbered laws 4294967295 (λ n. record { 0 = n }) words rest v (spell page) (IsMeant page) (omega arith) (λ n le. (refl, le)) h in record { is = s.0; meant = s.1 }
+next-some laws frame f words rest h = let s = numbered laws 4294967295 (λ n. record { 0 = n }) words rest f (spell frame) (IsMeant frame) (omega arith) (λ n le. (refl, le)) h in record { is = s.0; meant = s.1 }
+next-some laws block b words rest h = let s = numbered laws 65535 (λ n. record { 0 = n }) words rest b (spell block) (IsMeant block) (omega arith) (λ n le. (refl, le)) h in record { is = s.0; meant = s.1 }
+next-some laws word32 n words rest h = let s = next_number-some laws 4294967295 n words rest (omega arith) h in record { is = s.is; meant = s.most }
+next-some laws word64 n words rest h = let s = next_number-some laws 18446744073709551615 n words rest (omega arith) h in record { is = s.is; meant = s.most }
+next-some laws access a words rest h = record { is = next_named-some access_word access_names words a rest (refl, (refl, tt)) h; meant = tt }
+next-some laws cause c words rest h = record { is = next_named-some cause_word cause_names words c rest each_cause h; meant = tt }
+next-some laws kind k words rest h = record { is = next_named-some kind_word kind_names words k rest (refl, (refl, (refl, tt))) h; meant = tt }
+next-some laws mark ns words rest h = record { is = next_named-some mark_word mark_names words ns rest (refl, (refl, tt)) h; meant = tt }
+next-some laws hex bytes words rest h =
     let m = made-some bytes_of (next_word words) bytes rest h in
     let s = bytes_of-spells m.found bytes m.gave in
     record { is = next_word-some words m.found rest m.was ∙ ap (λ w. w ∷ rest) s.is; meant = (s.within, s.bytes) }
-next-some text t words rest h = record { is = next_word-some words t rest h; meant = tt }
-next-some (keyword name) u words rest h =
+next-some laws text t words rest h = record { is = next_word-some words t rest h; meant = tt }
+next-some laws (keyword name) u words rest h =
     let m = made-some {B = Unit {0}} (λ word. if bytes_eq word name then Some tt else None) (next_word words) u rest h in
     record { is = next_word-some words m.found rest m.was ∙ ap (λ w. w ∷ rest) (keyword-some {A = Unit {0}} tt u name m.found (bytes_eq m.found name) refl m.gave); meant = tt }

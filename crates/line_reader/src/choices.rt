@@ -4,7 +4,7 @@ ghost use Rattle.line_reader.specs.Lines as spec;
 ghost use Rattle.line_reader.specs.Slots as slot;
 
 use crate::cursor::Words;
-use crate::number::number_of;
+use text_words::number_of;
 use xemem_language::Line;
 use xm_num::{CallNo, Enclave, Pid};
 

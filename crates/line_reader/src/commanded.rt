@@ -3,8 +3,8 @@ ghost use Rattle.std.specs.Prelude.{◌≡◌, ◌<◌, map, length, option_map,
 ghost use Rattle.line_reader.specs.Lines as spec;
 
 use crate::cursor::Words;
-use crate::read::command;
 use arrayvec::ArrayVec;
+use command_reader::command;
 use xemem_language::Line;
 
 // The first eight words that are left: no command has as many.

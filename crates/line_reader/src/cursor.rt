@@ -2,7 +2,7 @@
 ghost use Rattle.std.specs.Prelude.{◌≡◌, ◌≢◌, ◌<◌, ◌≤◌, ℕ, length, slice_index, [], option_map, IfSome, MatchOption};
 ghost use Rattle.line_reader.specs.Slots as slot;
 
-use crate::number::number_of;
+use text_words::number_of;
 use std::marker::Model;
 
 /// The words of a text that are left: its pieces between single spaces.

@@ -6,6 +6,7 @@ ghost use Rattle.hex.specs.Hex.{decode_of};
 ghost use Rattle.line_reader.specs.Slots as slot;
 
 use crate::cursor::Words;
+use crate::laws::laws;
 use xemem_language::ByteList;
 use std::alloc::{AllocError, Global};
 use xm_num::{BlockList, FrameList};
@@ -90,6 +91,7 @@ impl<'a> Words<'a> {
     pub fn frames(&mut self, alloc: Global) -> Result<Option<FrameList>, AllocError>
         ensures { IfOk result (λ found. option_map (λ values. (values, self.new)) found ≡ slot.all_read slot.frame self.old) }
     {
+        laws();
         let mut frames = FrameList::new(alloc);
         while !self.is_empty() {
             let Some(frame) = self.frame() else {
@@ -104,6 +106,7 @@ impl<'a> Words<'a> {
     pub fn blocks(&mut self, alloc: Global) -> Result<Option<BlockList>, AllocError>
         ensures { IfOk result (λ found. option_map (λ values. (values, self.new)) found ≡ slot.all_read slot.block self.old) }
     {
+        laws();
         let mut blocks = BlockList::new(alloc);
         while !self.is_empty() {
             let Some(block) = self.block() else {

@@ -8,11 +8,11 @@ returns-in_default c =
     reached-none block c.loop-self.blocks c.loop-self.self c.args.self.now (sym c.is_empty.ensures ∙ c.loop-self-test.true) c.in_default.ensures c.loop-self.invariant
 
 pub loop-self-smaller : goal.loop-self-smaller
-loop-self-smaller c = fewer block c.loop-self.self c.block.new.self c.in-Some.block (sym c.in-Some.ensures)
+loop-self-smaller c = fewer c.laws.ensures block c.loop-self.self c.block.new.self c.in-Some.block (sym c.in-Some.ensures)
 
 pub loop-self-preserved : goal.loop-self-preserved
 loop-self-preserved c =
-    rw c.in_ok-push.ensures.ok (reached-more block c.loop-self.blocks c.in-Some.block c.loop-self.self c.block.new.self _ c.in-Some.ensures c.loop-self.invariant)
+    rw c.in_ok-push.ensures.ok (reached-more c.laws.ensures block c.loop-self.blocks c.in-Some.block c.loop-self.self c.block.new.self _ c.in-Some.ensures c.loop-self.invariant)
 
 pub returns : goal.returns
 returns c = reached-all block c.loop-self.blocks c.loop-self.self c.args.self.now (sym c.is_empty.ensures ∙ c.loop-self-test.false) c.loop-self.invariant

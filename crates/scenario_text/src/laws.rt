@@ -1,0 +1,29 @@
+// Laws of journals: a crate above calls such a function to have its contract.
+ghost use Rattle.std.specs.Prelude.{◌≡◌, List, map};
+ghost use Rattle.std.specs.List.{join_with_byte, All};
+ghost use Rattle.xemem_language.specs.declared.line.Line.{Line as JournalLine};
+ghost use Rattle.xemem_language.specs.Ranges.{IsSpelled};
+ghost use Rattle.xemem_language.specs.Spelling.{line_words, text_of};
+ghost use Rattle.text_words.specs.Words.{lines_of, words_of};
+ghost use Rattle.line_reader.specs.Typed.{IsTyped};
+
+use line_reader::{lines_are_read_back, lines_are_words};
+use text_words::words_are_split_again;
+
+/// The lines of a journal's text are those that were spelled, in order, and each has the words that spell it.
+pub fn journals_are_split_again()
+    ensures lines { (journal : List JournalLine)
+        → lines_of (text_of journal) ≡ map (λ line. join_with_byte 32 (line_words line)) journal }
+    ensures words { (line : JournalLine) → words_of (join_with_byte 32 (line_words line)) ≡ line_words line }
+{
+    words_are_split_again();
+    lines_are_words();
+}
+
+/// Journals whose lines have spellings are told apart by their texts.
+pub fn one_reading()
+    ensures { (a b : List JournalLine) → All IsTyped a → All IsTyped b → All IsSpelled a → All IsSpelled b → text_of a ≡ text_of b → a ≡ b }
+{
+    journals_are_split_again();
+    lines_are_read_back();
+}
