@@ -1,7 +1,8 @@
 -- Worked scenarios, by which the definitions are compared with what was wanted of them.
 use Rattle.std.specs.Prelude.{◌≡◌, ◌++◌, ℕ, List, [], ◌∷◌, Option, Some, codes}
 use Rattle.std.specs.List.{flat_map}
-use Rattle.scenario_text.specs.Scenario.{Ending, Stop, scenario_of}
+use Rattle.enclave_rules.specs.Built.{is_built}
+use Rattle.scenario_text.specs.Scenario.{Ending, Stop, scenario_by}
 use Rattle.xemem_language.specs.Spelling.{text_of}
 use Rattle.global_model.specs.Due.{journal_of}
 
@@ -11,8 +12,8 @@ text pieces = flat_map (λ piece. piece ++ 10 ∷ []) pieces
 
 -- what the definitions make of a scenario: where and why it stops, and the journal of its commands
 pub record Gives (scenario : List ℕ) (ending : Option Ending) (journal : List ℕ) : Type 0 where
-  pub ending_is : (scenario_of scenario).ending ≡ ending
-  pub journal_is : text_of (journal_of (scenario_of scenario).commands) ≡ journal
+  pub ending_is : (scenario_by is_built scenario).ending ≡ ending
+  pub journal_is : text_of (journal_of (scenario_by is_built scenario).commands) ≡ journal
 
 -- it stops at that line
 abbrev pub at_line : ℕ → Stop → Option Ending

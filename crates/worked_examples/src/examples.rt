@@ -1,9 +1,9 @@
 // Worked examples: the contract of a function with an empty body, which compares the definitions with what was wanted of them.
 ghost use Rattle.std.specs.Prelude.{◌++◌, ◌∷◌, [], None, codes};
 ghost use Rattle.xemem_language.specs.Spelling.{text_of};
-ghost use Rattle.scenario_text.specs.Examples.{Gives, at_line, text, smallest, smallest_journal, refused, refused_journal, one_byte_short, one_byte_short_journal, discovered, discovered_journal, child_memory, child_memory_journal, no_host_born, no_host_born_journal, settled, settled_journal, late_name_server, late_name_server_journal, two_lines, two_lines_journal};
+ghost use Rattle.worked_examples.specs.Examples.{Gives, at_line, text, smallest, smallest_journal, refused, refused_journal, one_byte_short, one_byte_short_journal, discovered, discovered_journal, child_memory, child_memory_journal, no_host_born, no_host_born_journal, settled, settled_journal, late_name_server, late_name_server_journal, two_lines, two_lines_journal};
 ghost use Rattle.scenario_text.specs.Scenario.{Faulty, Unbuilt};
-ghost use Rattle.scenario_text.specs.declared.fault.SyntaxFault.TheVariants as faults;
+ghost use Rattle.scenario_text.specs.declared.SyntaxFault.TheVariants as faults;
 
 /// The worked scenarios come out as they were wanted, byte for byte, and stop where they were wanted to.
 pub fn worked_examples()

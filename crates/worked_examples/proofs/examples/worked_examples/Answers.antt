@@ -5,7 +5,7 @@ use Rattle.xm_num.specs.Rows.{at, put, less}
 use Rattle.xemem_wire.specs.Spelling.{spelling_of, header_of}
 use Rattle.scenario_text.specs.Words.{number_in}
 use Rattle.scenario_text.specs.Forms.{number, keyword, either, mode, command_of, pool_form, host_form, host_ns_form, boot_form, boot_ns_form, proc_form, alloc_form, touch_form, make_form, deliver_form, settle_form, link_form, show_four, routes_form, show_three, show_two}
-use Rattle.scenario_text.proofs.examples.worked_examples.Goals as goal
+use Rattle.worked_examples.proofs.examples.worked_examples.Goals as goal
 
 pub returns : goal.returns
 unfolding digits encode_with at put less spelling_of header_of number_in number keyword either mode command_of pool_form host_form host_ns_form boot_form boot_ns_form proc_form alloc_form touch_form make_form deliver_form settle_form link_form show_four routes_form show_three show_two
