@@ -1,26 +1,29 @@
-// Laws of scenarios: each is the contract of a function with an empty body, which a crate above calls to have it.
-ghost use Rattle.std.specs.Prelude.{◌≡◌, ℕ, List, Some, Ok};
-ghost use Rattle.std.specs.List.{join_with_byte};
-ghost use Rattle.xemem_language.specs.declared.command.Command.{Command as Commands};
-ghost use Rattle.global_model.specs.Place.{IsPlaced};
-ghost use Rattle.xemem_language.specs.Ranges.{IsInRange};
-ghost use Rattle.xemem_language.specs.Spelling.{command_words};
-ghost use Rattle.scenario_text.specs.Forms.{command_of};
-ghost use Rattle.scenario_text.specs.Scenario.{line_command, scenario_of};
+// Laws of journals: a crate above calls such a function to have its contract.
+ghost use Rattle.std.specs.Prelude.{◌≡◌, List, map};
+ghost use Rattle.std.specs.List.{join_with_byte, All};
+ghost use Rattle.xemem_language.specs.declared.line.Line.{Line as JournalLine};
+ghost use Rattle.xemem_language.specs.Ranges.{IsSpelled};
+ghost use Rattle.xemem_language.specs.Spelling.{line_words, text_of};
+ghost use Rattle.text_words.specs.Words.{lines_of, words_of};
+ghost use Rattle.line_reader.specs.Typed.{IsTyped};
 
-/// The commands of any scenario are built and stand where they may, their numbers in their ranges.
-pub fn scenarios_are_placed()
-    ensures { (bytes : List ℕ) → IsPlaced (scenario_of bytes).commands }
-{}
+use line_reader::{lines_are_read_back, lines_are_words};
+use text_words::words_are_split_again;
 
-/// A command whose numbers are in their ranges is read back from its words, and from its words with one space
-/// between. Words that spell a command are the words of that command, and its numbers are in their ranges.
-pub fn commands_are_read_back()
-    ensures back { (command : Commands) → IsInRange command → command_of (command_words command) ≡ Ok command }
-    ensures line { (command : Commands) → IsInRange command
-        → line_command (join_with_byte 32 (command_words command)) ≡ Ok (Some command) }
-    ensures words { (words : List (List ℕ)) → (command : Commands) → command_of words ≡ Ok command
-        → words ≡ command_words command }
-    ensures ranges { (words : List (List ℕ)) → (command : Commands) → command_of words ≡ Ok command
-        → IsInRange command }
-{}
+/// The lines of a journal's text are those that were spelled, in order, and each has the words that spell it.
+pub fn journals_are_split_again()
+    ensures lines { (journal : List JournalLine)
+        → lines_of (text_of journal) ≡ map (λ line. join_with_byte 32 (line_words line)) journal }
+    ensures words { (line : JournalLine) → words_of (join_with_byte 32 (line_words line)) ≡ line_words line }
+{
+    words_are_split_again();
+    lines_are_words();
+}
+
+/// Journals whose lines have spellings are told apart by their texts.
+pub fn one_reading()
+    ensures { (a b : List JournalLine) → All IsTyped a → All IsTyped b → All IsSpelled a → All IsSpelled b → text_of a ≡ text_of b → a ≡ b }
+{
+    journals_are_split_again();
+    lines_are_read_back();
+}

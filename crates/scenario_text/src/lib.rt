@@ -1,47 +1,14 @@
-//! The texts of scenarios and journals: one reading of each line, one spelling of each journal line.
+//! The texts of scenarios and journals: one reading of each line, one spelling of each journal line. This crate gives the
+//! readers and the printer under one name.
 #![tactic(auto)]
 
-mod choices;
-mod commanded;
-mod cursor;
-#[cfg(test)]
-mod document_tests;
-mod examples;
-mod fault;
-#[cfg(test)]
-mod fault_tests;
-mod fixed_lines;
-mod forms;
-mod item;
 mod laws;
-mod line;
-mod line_laws;
-#[cfg(test)]
-mod line_tests;
-mod lists;
-mod name_tables;
-mod names;
-mod number;
-mod place;
-mod print;
-mod print_command;
-mod print_record;
-mod read;
-#[cfg(test)]
-mod read_tests;
-mod records;
-mod row;
-mod slots;
-mod split;
-mod values;
 
-pub use examples::worked_examples;
-pub use fault::SyntaxFault;
-pub use laws::{commands_are_read_back, scenarios_are_placed};
-pub use line::read_line;
-pub use line_laws::{journals_are_split_again, lines_are_read_back, one_reading};
-pub use place::place_ok;
-pub use print::print_line;
-pub use read::read_command;
-pub use row::{digits, text};
-pub use split::first_line;
+pub use command_reader::{
+    SyntaxFault, commands_are_read_back, commands_are_words, place_ok, read_command,
+    scenarios_are_placed,
+};
+pub use laws::{journals_are_split_again, one_reading};
+pub use line_printer::{digits, print_line, text};
+pub use line_reader::{lines_are_read_back, lines_are_words, read_line};
+pub use text_words::first_line;

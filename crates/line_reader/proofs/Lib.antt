@@ -1,0 +1,11 @@
+pub mod PieceLemmas
+pub mod NameLemmas
+pub mod BytesLemmas
+pub mod ValueLemmas
+pub mod ListLemmas
+pub mod CommandedLemmas
+pub mod RowLemmas
+pub mod LineRows
+pub mod LineBack
+pub mod LineWords
+pub mod TextLemmas

@@ -1,0 +1,9 @@
+use Rattle.std.proofs.Common.{◌≡◌, ◌++◌, length, option_map}
+use Rattle.line_reader.specs.Slots.{all_next, frame}
+use Rattle.line_reader.proofs.cursor.Words.frames.Given as goal
+
+abbrev pub invariant-loop-self : goal.invariant-loop-self
+invariant-loop-self l = option_map (λ more. l.frames ++ more) (all_next frame l.self) ≡ all_next frame l.initial.self
+
+abbrev pub decreases-loop-self : goal.decreases-loop-self
+decreases-loop-self l = length l.self

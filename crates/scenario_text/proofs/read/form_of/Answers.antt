@@ -1,6 +1,0 @@
-use Rattle.std.proofs.Common.{◌∙◌}
-use Rattle.scenario_text.proofs.ReaderLemmas.{counted_at}
-use Rattle.scenario_text.proofs.read.form_of.Goals as goal
-
-pub returns-then-words-count-clause-count : goal.returns-then-words-count-clause-count
-returns-then-words-count-clause-count c = c.if-words-count.true ∙ counted_at _ _ _ c.requires.counts c.loop-first-test.true

@@ -1,0 +1,139 @@
+-- Worked scenarios, by which the definitions are compared with what was wanted of them.
+use Rattle.std.specs.Prelude.{◌≡◌, ◌++◌, ℕ, List, [], ◌∷◌, Option, Some, codes}
+use Rattle.std.specs.List.{flat_map}
+use Rattle.enclave_rules.specs.Built.{is_built}
+use Rattle.scenario_text.specs.Scenario.{Ending, Stop, scenario_by}
+use Rattle.xemem_language.specs.Spelling.{text_of}
+use Rattle.global_model.specs.Due.{journal_of}
+
+-- the pieces, each ended by a line feed
+abbrev pub text : List (List ℕ) → List ℕ
+text pieces = flat_map (λ piece. piece ++ 10 ∷ []) pieces
+
+-- what the definitions make of a scenario: where and why it stops, and the journal of its commands
+pub record Gives (scenario : List ℕ) (ending : Option Ending) (journal : List ℕ) : Type 0 where
+  pub ending_is : (scenario_by is_built scenario).ending ≡ ending
+  pub journal_is : text_of (journal_of (scenario_by is_built scenario).commands) ≡ journal
+
+-- it stops at that line
+abbrev pub at_line : ℕ → Stop → Option Ending
+at_line line stop = Some (record { line = line; stop = stop })
+
+abbrev pub smallest : List (List ℕ)
+smallest = codes "pool 2" ∷ codes "host 1 ns" ∷ codes "proc 0 100 100" ∷ codes "alloc 0 1 16 2" ∷ codes "touch 0 1 69632 w" ∷ []
+
+abbrev pub smallest_journal : List (List ℕ)
+smallest_journal =
+    codes "do pool 2" ∷ codes "do host 1 ns" ∷ codes "born 0 host 0 ns 0" ∷ codes "admitted 0" ∷ codes "do proc 0 100 100" ∷ codes "proc 0 1 100 100"
+    ∷ codes "do alloc 0 1 16 2" ∷ codes "alloc 0 1 16 0 1" ∷ codes "do touch 0 1 69632 w" ∷ codes "touched 0 1 17 1" ∷ []
+
+abbrev pub refused : List (List ℕ)
+refused = smallest ++ (codes "alloc 0 1 17 1" ∷ codes "alloc 0 1 40 63" ∷ codes "touch 0 1 0 r" ∷ [])
+
+abbrev pub refused_journal : List (List ℕ)
+refused_journal =
+    smallest_journal
+    ++ (codes "do alloc 0 1 17 1" ∷ codes "refused Taken" ∷ codes "do alloc 0 1 40 63" ∷ codes "refused NoFrames" ∷ codes "do touch 0 1 0 r" ∷ codes "refused NotMapped" ∷ [])
+
+abbrev pub one_byte_short : List (List ℕ)
+one_byte_short =
+    codes "pool 4" ∷ codes "host 1 ns" ∷ codes "boot cokernel under 0 blocks 1" ∷ codes "show link 1 0" ∷ codes "deliver 1 0 15"
+    ∷ codes "deliver 1 0 1" ∷ codes "deliver 1 0 1" ∷ []
+
+abbrev pub one_byte_short_journal : List (List ℕ)
+one_byte_short_journal =
+    codes "do pool 4" ∷ codes "do host 1 ns" ∷ codes "born 0 host 0 ns 0" ∷ codes "admitted 0"
+    ∷ codes "do boot cokernel under 0 blocks 1" ∷ codes "born 1 cokernel 0 - 1" ∷ codes "sent 1 0 query 1 65535 0"
+    ∷ codes "do show link 1 0" ∷ codes "bytes 1 0 0 1000000001010100ffff000000000000"
+    ∷ codes "do deliver 1 0 15" ∷ codes "took 1 0 15"
+    ∷ codes "do deliver 1 0 1" ∷ codes "took 1 0 1" ∷ codes "got 1 0" ∷ codes "sent 0 1 here 0 65535 0"
+    ∷ codes "do deliver 1 0 1" ∷ codes "idle 1 0" ∷ []
+
+abbrev pub discovered : List (List ℕ)
+discovered = one_byte_short ++ (codes "deliver 0 1 16" ∷ codes "deliver 1 0 16" ∷ codes "deliver 0 1 1000" ∷ codes "deliver 1 1 1" ∷ codes "deliver 0 2 1" ∷ [])
+
+abbrev pub discovered_journal : List (List ℕ)
+discovered_journal =
+    one_byte_short_journal
+    ++ (codes "do deliver 0 1 16" ∷ codes "took 0 1 16" ∷ codes "got 0 1" ∷ codes "way 1 0" ∷ codes "sent 1 0 register 1 65535 0"
+    ∷ codes "do deliver 1 0 16" ∷ codes "took 1 0 16" ∷ codes "got 1 0" ∷ codes "back 0 1 1" ∷ codes "route 0 1 1" ∷ codes "sent 0 1 admit 0 1 0"
+    ∷ codes "do deliver 0 1 1000" ∷ codes "took 0 1 16" ∷ codes "got 0 1" ∷ codes "admitted 1"
+    ∷ codes "do deliver 1 1 1" ∷ codes "refused NoLink"
+    ∷ codes "do deliver 0 2 1" ∷ codes "refused NoEnclave" ∷ [])
+
+-- memory of a child: its frames are those of its blocks, and the pool tells whose blocks are
+abbrev pub child_memory : List (List ℕ)
+child_memory =
+    codes "pool 4" ∷ codes "host 1 ns" ∷ codes "boot cokernel under 0 blocks 2" ∷ codes "proc 1 5 5" ∷ codes "alloc 1 1 16 64" ∷ codes "alloc 1 1 80 65"
+    ∷ codes "alloc 1 1 79 1" ∷ codes "touch 1 1 65536 r" ∷ codes "show pool" ∷ []
+
+abbrev pub child_memory_journal : List (List ℕ)
+child_memory_journal =
+    codes "do pool 4" ∷ codes "do host 1 ns" ∷ codes "born 0 host 0 ns 0" ∷ codes "admitted 0"
+    ∷ codes "do boot cokernel under 0 blocks 2" ∷ codes "born 1 cokernel 0 - 1 2" ∷ codes "sent 1 0 query 1 65535 0"
+    ∷ codes "do proc 1 5 5" ∷ codes "proc 1 1 5 5"
+    ∷ codes "do alloc 1 1 16 64" ∷ codes "alloc 1 1 16 64 65 66 67 68 69 70 71 72 73 74 75 76 77 78 79 80 81 82 83 84 85 86 87 88 89 90 91 92 93 94 95 96 97 98 99 100 101 102 103 104 105 106 107 108 109 110 111 112 113 114 115 116 117 118 119 120 121 122 123 124 125 126 127"
+    ∷ codes "do alloc 1 1 80 65" ∷ codes "refused NoFrames" ∷ codes "do alloc 1 1 79 1" ∷ codes "refused Taken"
+    ∷ codes "do touch 1 1 65536 r" ∷ codes "touched 1 1 16 64"
+    ∷ codes "do show pool" ∷ codes "block 0 lent 0" ∷ codes "block 1 lent 1" ∷ codes "block 2 lent 1" ∷ codes "block 3 free" ∷ []
+
+-- a host that is refused leaves no enclave
+abbrev pub no_host_born : List (List ℕ)
+no_host_born = codes "pool 1" ∷ codes "host 2 ns" ∷ codes "show pool" ∷ codes "proc 0 1 1" ∷ codes "touch 0 1 0 r" ∷ []
+
+abbrev pub no_host_born_journal : List (List ℕ)
+no_host_born_journal =
+    codes "do pool 1" ∷ codes "do host 2 ns" ∷ codes "refused NoBlocks" ∷ codes "do show pool" ∷ codes "refused NoEnclave"
+    ∷ codes "do proc 0 1 1" ∷ codes "refused NoEnclave" ∷ codes "do touch 0 1 0 r" ∷ codes "refused NoEnclave" ∷ []
+
+-- settling: the query, the here, the register and the admit are delivered until nothing waits
+abbrev pub settled : List (List ℕ)
+settled = one_byte_short ++ (codes "settle 10" ∷ codes "settle 0" ∷ [])
+
+-- what the two settles write
+abbrev pub settled_lines : List (List ℕ)
+settled_lines =
+    codes "do settle 10" ∷ codes "took 0 1 16" ∷ codes "got 0 1" ∷ codes "way 1 0" ∷ codes "sent 1 0 register 1 65535 0"
+    ∷ codes "took 1 0 16" ∷ codes "got 1 0" ∷ codes "back 0 1 1" ∷ codes "route 0 1 1" ∷ codes "sent 0 1 admit 0 1 0"
+    ∷ codes "took 0 1 16" ∷ codes "got 0 1" ∷ codes "admitted 1" ∷ codes "settled 3" ∷ codes "do settle 0" ∷ codes "settled 0" ∷ []
+
+abbrev pub settled_journal : List (List ℕ)
+settled_journal = one_byte_short_journal ++ settled_lines
+
+-- nobody knows the way until the last enclave holds the name server
+abbrev pub late_name_server : List (List ℕ)
+late_name_server =
+    codes "pool 8" ∷ codes "host 1" ∷ codes "boot cokernel under 0 blocks 1" ∷ codes "boot cokernel under 1 blocks 1"
+    ∷ codes "boot cokernel under 0 blocks 1 ns" ∷ codes "settle 100" ∷ codes "show routes 0" ∷ []
+
+-- its journal
+abbrev pub late_name_server_journal : List (List ℕ)
+late_name_server_journal =
+    codes "do pool 8" ∷ codes "do host 1" ∷ codes "born 0 host 0 - 0" ∷ codes "do boot cokernel under 0 blocks 1"
+    ∷ codes "born 1 cokernel 0 - 1" ∷ codes "sent 1 0 query 1 65535 0" ∷ codes "sent 0 1 query 0 65535 0"
+    ∷ codes "do boot cokernel under 1 blocks 1" ∷ codes "born 2 cokernel 1 - 2" ∷ codes "sent 2 1 query 2 65535 0"
+    ∷ codes "sent 1 2 query 1 65535 0" ∷ codes "do boot cokernel under 0 blocks 1 ns" ∷ codes "born 3 cokernel 0 ns 3"
+    ∷ codes "admitted 3" ∷ codes "sent 0 3 query 0 65535 0" ∷ codes "do settle 100" ∷ codes "took 1 0 16" ∷ codes "got 1 0"
+    ∷ codes "asked 0 1" ∷ codes "took 0 1 16" ∷ codes "got 0 1" ∷ codes "asked 1 0" ∷ codes "took 2 1 16" ∷ codes "got 2 1"
+    ∷ codes "asked 1 2" ∷ codes "took 1 2 16" ∷ codes "got 1 2" ∷ codes "asked 2 1" ∷ codes "took 0 3 16" ∷ codes "got 0 3"
+    ∷ codes "sent 3 0 here 3 65535 0" ∷ codes "took 3 0 16" ∷ codes "got 3 0" ∷ codes "way 0 3" ∷ codes "sent 0 1 here 0 65535 0"
+    ∷ codes "sent 0 3 register 0 65535 0" ∷ codes "took 0 1 16" ∷ codes "got 0 1" ∷ codes "way 1 0" ∷ codes "sent 1 2 here 1 65535 0"
+    ∷ codes "sent 1 0 register 1 65535 0" ∷ codes "took 1 0 16" ∷ codes "got 1 0" ∷ codes "back 0 1 1"
+    ∷ codes "sent 0 3 register 1 65535 0" ∷ codes "took 1 2 16" ∷ codes "got 1 2" ∷ codes "way 2 1"
+    ∷ codes "sent 2 1 register 2 65535 0" ∷ codes "took 2 1 16" ∷ codes "got 2 1" ∷ codes "back 1 2 2"
+    ∷ codes "sent 1 0 register 2 65535 0" ∷ codes "took 1 0 16" ∷ codes "got 1 0" ∷ codes "back 0 2 1"
+    ∷ codes "sent 0 3 register 2 65535 0" ∷ codes "took 0 3 16" ∷ codes "got 0 3" ∷ codes "back 3 0 0" ∷ codes "route 3 0 0"
+    ∷ codes "sent 3 0 admit 3 0 0" ∷ codes "took 3 0 16" ∷ codes "got 3 0" ∷ codes "admitted 0" ∷ codes "took 0 3 16" ∷ codes "got 0 3"
+    ∷ codes "back 3 1 0" ∷ codes "route 3 1 0" ∷ codes "sent 3 0 admit 3 1 0" ∷ codes "took 3 0 16" ∷ codes "got 3 0"
+    ∷ codes "route 0 1 1" ∷ codes "sent 0 1 admit 3 1 0" ∷ codes "took 0 1 16" ∷ codes "got 0 1" ∷ codes "admitted 1"
+    ∷ codes "took 0 3 16" ∷ codes "got 0 3" ∷ codes "back 3 2 0" ∷ codes "route 3 2 0" ∷ codes "sent 3 0 admit 3 2 0"
+    ∷ codes "took 3 0 16" ∷ codes "got 3 0" ∷ codes "route 0 2 1" ∷ codes "sent 0 1 admit 3 2 0" ∷ codes "took 0 1 16"
+    ∷ codes "got 0 1" ∷ codes "route 1 2 2" ∷ codes "sent 1 2 admit 3 2 0" ∷ codes "took 1 2 16" ∷ codes "got 1 2" ∷ codes "admitted 2"
+    ∷ codes "settled 20" ∷ codes "do show routes 0" ∷ codes "at 0 way 3" ∷ codes "at 0 route 1 1" ∷ codes "at 0 route 2 1" ∷ []
+
+-- two good lines
+abbrev pub two_lines : List (List ℕ)
+two_lines = codes "pool 2" ∷ codes "host 1 ns" ∷ []
+
+abbrev pub two_lines_journal : List (List ℕ)
+two_lines_journal = codes "do pool 2" ∷ codes "do host 1 ns" ∷ codes "born 0 host 0 ns 0" ∷ codes "admitted 0" ∷ []

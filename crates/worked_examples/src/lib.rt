@@ -1,0 +1,6 @@
+//! Worked scenarios, by which the definitions of texts and rules are compared with what was wanted of them.
+#![tactic(auto)]
+
+mod examples;
+
+pub use examples::worked_examples;
