@@ -1,4 +1,4 @@
-// Laws of the definitions: each is the contract of a function with an empty body, which a crate above calls to have it.
+// Laws of the definitions: each is the contract of a function that does nothing, which a crate above calls to have it.
 ghost use Rattle.std.specs.Prelude.{◌≡◌, ◌≢◌, ◌≤◌, ◌-◌, ℕ, List, [], ◌∷◌, ◌++◌, length, take, drop, Bool, true, false, None, nat_lt, if◌then◌else◌, Some};
 ghost use Rattle.xm_num.specs.declared.Enclave.{Enclave as Enclaves};
 ghost use Rattle.xm_num.specs.declared.Cause.{Cause as Causes};
@@ -22,6 +22,9 @@ ghost use Rattle.global_model.specs.Flow.{IsFlowing};
 ghost use Rattle.global_model.specs.Journals.{do_commands, onto};
 ghost use Rattle.global_model.specs.Carriage.{IsCarried};
 ghost use Rattle.global_model.specs.Rest.{EndsSettle};
+
+use xm_num::Page;
+use xm_num::laws::rows;
 
 /// The journal of one command more goes on by that command's lines, and the facts after it by what they change.
 pub fn journals_grow()
@@ -90,7 +93,9 @@ pub fn views_answer()
     ensures host { (pool blocks : ℕ) (ns : Bool)
         → command_lines (facts_after (journal_of (command.Pool pool ∷ []))) (command.Host blocks ns)
         ≡ (if nat_lt pool blocks then refusal causes.NoBlocks else host_lines (first_blocks blocks) ns) }
-{}
+{
+    rows::<Page>();
+}
 
 /// An enclave that isn't born knows nothing. What the lines of a command change in the view of a living enclave is what those of
 /// them change that are at it, each by the view and itself alone; a line elsewhere leaves the view as it is.

@@ -1,6 +1,6 @@
 //! The facts of the machine after a journal, the line that is due, and what holds of channels.
 //!
-//! Each law is the contract of a function with an empty body, which a crate above calls to have it. The types, functions and
+//! Each law is the contract of a function that does nothing, which a crate above calls to have it. The types, functions and
 //! definitions of the language and of the rules of an enclave are given again.
 #![tactic(auto)]
 

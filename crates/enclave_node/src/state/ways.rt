@@ -14,6 +14,7 @@ use std::alloc::AllocError;
 use super::{State, plain};
 use xemem_language::{Body, Line, Lines};
 use xm_num::Enclave;
+use xm_num::laws::runs;
 
 impl<A: AddressSpace> State<A> {
     // Whether the way to the name server is known. Where it isn't, the neighbour that asks for it is remembered.
@@ -124,6 +125,7 @@ impl<A: AddressSpace> State<A> {
     fn show_learned(&self, out: &mut Lines) -> Result<(), AllocError>
         ensures { OnOk result (out.new ≡ out.old ++ spec.learned_lines self.now.me self.now.routes) }
     {
+        runs::<Enclave>();
         let mut number = 0;
         while let Some((of, over)) = self.next_route(number) {
             out.push(Line::AtRoute {
