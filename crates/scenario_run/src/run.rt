@@ -2,7 +2,7 @@
 ghost use Rattle.std.specs.Prelude.{◌≡◌, ◌≤◌, ◌<◌, ◌^◌, ◌-◌, length};
 ghost use Rattle.xm_edge.specs.Faults.{Rose};
 ghost use Rattle.node_world.specs.World.{most_of, no_world};
-ghost use Rattle.scenario_text.specs.Scenario.{said};
+ghost use Rattle.scenario_run.specs.Scenario.{said};
 ghost use Rattle.scenario_run.specs.Run as spec;
 ghost use Rattle.scenario_run.specs.Run.{LeavesIn};
 
