@@ -1,20 +1,17 @@
-# Cases that are too large to be kept: of the case `name` this prints the part `scenario`, `journal` or `end`, by rules.
-# The part `names` is the list of the cases.
+# Cases that are too large to be kept. For the case `name` this writes its scenario, its journal and how it ends into the
+# files of those names in the folder `made`, all by rules. Without a name it prints the names of the cases.
 
-# Puts a line of the journal, where its words find room: 16,777,216 there may be.
+# Puts a line into the journal, where its words find room: there may be 16,777,216 of them.
 function tell(line) {
     if (full) return
-    if (words + split(line, parts, " ") > 16777216) {
-        full = 1
-        return
-    }
     words += split(line, parts, " ")
-    if (part == "journal") print line
+    if (words > 16777216) full = 1
+    else print line > journal
 }
 
 # A command: its line of the scenario, and the one with which it begins.
 function order(command) {
-    if (part == "scenario") print command
+    print command > scenario
     tell("do " command)
 }
 
@@ -126,7 +123,9 @@ function chain(   child, i) {
 }
 
 BEGIN {
-    if (part == "names") print "processes children chain words_met words_passed words_at_a_command words_of_two_blocks"
+    scenario = made "/scenario"
+    journal = made "/journal"
+    if (name == "") print "processes children chain words_met words_passed words_at_a_command words_of_two_blocks"
     else if (name == "processes") processes()
     else if (name == "children") children()
     else if (name == "chain") chain()
@@ -139,8 +138,6 @@ BEGIN {
     # The last line that fits is that of block 3,180.
     else if (name == "words_of_two_blocks") shows(2, 1366, 0)
     else exit 1
-    if (part == "end") {
-        if (full) print "xemem: limit Words 16777216"
-        print "exit " (full ? 5 : 0)
-    }
+    if (name == "") exit
+    print (full ? "xemem: limit Words 16777216\nexit 5" : "exit 0") > (made "/end")
 }
