@@ -12,8 +12,6 @@ mod node;
 mod process;
 mod sides;
 mod state;
-#[cfg(test)]
-mod tests;
 
 pub use call::{Call, Show};
 pub use node::{Node, NodeFault};

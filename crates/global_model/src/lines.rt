@@ -89,28 +89,3 @@ impl Lines {
         &self.items
     }
 }
-
-#[cfg(test)]
-mod tests {
-    use super::*;
-    use crate::{Command, words};
-    use xm_num::Enclave;
-
-    #[test]
-    fn lines_grow_at_their_end(rt: HostRuntime) -> Result<(), AllocError> {
-        let mut lines = Lines::new(rt.alloc());
-        assert_eq!(rt; lines.len(), 0);
-        assert!(rt; lines.get(0).is_none());
-        lines.push(Line::Do {
-            command: Command::Pool { blocks: 2 },
-        })?;
-        lines.push(Line::Admitted {
-            enclave: Enclave(0),
-        })?;
-        assert_eq!(rt; lines.len(), 2);
-        assert_eq!(rt; lines.get(0).map(words), Some(3));
-        assert_eq!(rt; lines.get(1).map(words), Some(2));
-        assert_eq!(rt; lines.as_slice().len(), 2);
-        Ok(())
-    }
-}

@@ -10,8 +10,6 @@ mod delivery;
 mod laws;
 mod machine;
 mod pair;
-#[cfg(test)]
-mod tests;
 mod world;
 
 pub use world::{Progress, Which, World, WorldFault};

@@ -4,20 +4,14 @@
 mod choices;
 mod commanded;
 mod cursor;
-#[cfg(test)]
-mod document_tests;
 mod examples;
 mod fault;
-#[cfg(test)]
-mod fault_tests;
 mod fixed_lines;
 mod forms;
 mod item;
 mod laws;
 mod line;
 mod line_laws;
-#[cfg(test)]
-mod line_tests;
 mod lists;
 mod name_tables;
 mod names;
@@ -27,8 +21,6 @@ mod print;
 mod print_command;
 mod print_record;
 mod read;
-#[cfg(test)]
-mod read_tests;
 mod records;
 mod row;
 mod slots;
