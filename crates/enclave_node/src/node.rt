@@ -9,9 +9,9 @@ ghost use Rattle.enclave_node.specs.Calls.{IsCallInRange, call_lines, HasShown, 
 
 mod boot;
 
-use crate::{Call, Show};
 use crate::feeds::{Feed, Feeds};
 use crate::state::State;
+use crate::{Call, Show};
 use frame_pool::PoolFault;
 use page_table::AddressSpace;
 use std::alloc::{AllocError, Global};

@@ -1,5 +1,5 @@
 -- What an enclave knows, and what a line of its own changes in it.
-use Rattle.std.specs.Prelude.{◌≡◌, ◌+◌, ◌-◌, ℕ, List, [], ◌∷◌, ◌++◌, length, drop, map, filter, Bool, true, false, ◌||◌, ◌==◌, if◌then◌else◌, Option, None, Some, slice_set, slice_index_or}
+use Rattle.std.specs.Prelude.{◌≡◌, ◌+◌, ◌-◌, ℕ, List, [], ◌∷◌, ◌++◌, length, drop, map, Bool, true, false, ◌||◌, ◌==◌, if◌then◌else◌, Option, None, Some, slice_set, slice_index_or}
 use Rattle.std.specs.List.{range_with_len, flat_map, AllByRecursion}
 use Rattle.xm_num.specs.declared.Enclave.{Enclave}
 use Rattle.xm_num.specs.declared.Kind.{Kind}

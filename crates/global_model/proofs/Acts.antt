@@ -15,8 +15,7 @@ use Rattle.global_model.specs.Views.{view_of}
 use Rattle.enclave_rules.specs.Steps.{route_lines}
 use Rattle.global_model.specs.Refusals.{refusal_of}
 use Rattle.global_model.specs.Due.{next_enclave, touched_lines, acts_of, command_lines, step_lines, journal_from}
-use Rattle.global_model.proofs.Writes.{EachIs}
-use Rattle.global_model.specs.Plain.{IsTellable, IsPlain, ArePlain, IsAct, AreActs, IsQuiet, IsBirth}
+use Rattle.global_model.specs.Plain.{IsPlain, ArePlain, IsAct, AreActs, IsQuiet, IsBirth}
 use Rattle.global_model.specs.Journals.{do_commands}
 use Rattle.global_model.proofs.Pasts.{do_commands-append}
 use Rattle.global_model.proofs.Plain.{each-weaker, plain_host, plain_deliver, plain_settle, plain_routes, plain_show, plain_birth, plain_pool}

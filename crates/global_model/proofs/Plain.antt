@@ -4,11 +4,9 @@ use Rattle.std.specs.Prelude.{◌==◌, min}
 use Rattle.std.specs.List.{range_with_len}
 use Rattle.std.specs.Option.{option_map_or}
 use Rattle.xm_num.specs.declared.Enclave.{Enclave}
-use Rattle.xm_num.specs.Rows.{at}
 use Rattle.xemem_language.specs.declared.record.Record.{Record}
 use Rattle.xemem_language.specs.declared.line.Line.{Line}
 use Rattle.xemem_language.specs.declared.line.Line.TheVariants as lines
-use Rattle.xemem_language.specs.Ranges.{IsSpelled}
 use Rattle.global_model.specs.Facts.{Facts, after_line, after_lines}
 use Rattle.global_model.specs.Channels.{waiting_bytes, arriving}
 use Rattle.enclave_rules.specs.View.{View, host}

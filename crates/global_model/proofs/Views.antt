@@ -10,7 +10,7 @@ use Rattle.enclave_rules.specs.View.{View, own_line, own_lines, is_at, seen_line
 use Rattle.global_model.specs.Views.{view_of}
 use Rattle.enclave_rules.specs.Steps.{record_lines, lines_of_records}
 use Rattle.global_model.specs.Due.{got_lines}
-use Rattle.global_model.proofs.Writes.{EachIs, each-append, MayWrite, KnowsNear, MaySend, writes_record}
+use Rattle.global_model.proofs.Writes.{each-append, MayWrite, KnowsNear, MaySend, writes_record}
 use Rattle.global_model.proofs.Shown.{IsShown, shown_admitted, shown_asked, shown_way, shown_back, shown_route, admitted-living}
 
 -- ---- the lines that an enclave writes for a record

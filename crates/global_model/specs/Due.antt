@@ -1,5 +1,5 @@
 -- The lines that commands are to have, and the line that is due.
-use Rattle.std.specs.Prelude.{◌+◌, ◌-◌, ◌/◌, ℕ, zero, suc, min, List, [], ◌∷◌, ◌++◌, length, map, filter, Bool, ◌&&◌, ◌==◌, nat_le, nat_lt, if◌then◌else◌, Option, None, is_some, take, drop, slice_get}
+use Rattle.std.specs.Prelude.{◌+◌, ◌-◌, ◌/◌, ℕ, zero, suc, min, List, [], ◌∷◌, ◌++◌, length, map, filter, Bool, ◌&&◌, ◌==◌, nat_le, nat_lt, if◌then◌else◌, Option, None, is_some, take, slice_get}
 use Rattle.std.specs.List.{range_with_len, flat_map}
 use Rattle.std.specs.Option.{option_map_or}
 use Rattle.xm_num.specs.declared.Enclave.{Enclave}

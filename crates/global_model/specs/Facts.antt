@@ -1,6 +1,5 @@
 -- The facts that a journal leaves: who lives, which blocks are lent, which pages are whose.
 use Rattle.std.specs.Prelude.{◌+◌, ℕ, List, [], ◌∷◌, ◌++◌, Bool, true, false, ◌&&◌, ◌==◌, ◌||◌, nat_lt, if◌then◌else◌, Option, None, Some}
-use Rattle.std.specs.List.{list_any}
 use Rattle.xm_num.specs.declared.Enclave.{Enclave}
 use Rattle.xm_num.specs.declared.Pid.{Pid}
 use Rattle.xm_num.specs.declared.Frame.{Frame}

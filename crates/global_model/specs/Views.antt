@@ -1,5 +1,5 @@
 -- The view of an enclave, by the facts.
-use Rattle.std.specs.Prelude.{◌==◌, ℕ, List, map, filter, false, if◌then◌else◌, Option, None, Some}
+use Rattle.std.specs.Prelude.{◌==◌, ℕ, map, filter, false, if◌then◌else◌, Option, None, Some}
 use Rattle.std.specs.List.{range_with_len}
 use Rattle.xm_num.specs.declared.Enclave.{Enclave}
 use Rattle.xm_num.specs.declared.Kind.{Kind}

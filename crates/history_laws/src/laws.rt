@@ -12,9 +12,11 @@ ghost use Rattle.history_laws.specs.History.{IsLegal, IsTold, IsWhole};
 ghost use Rattle.history_laws.specs.Ways.{way_heard, back_heard, route_heard};
 ghost use Rattle.history_laws.specs.Laws.{Laws};
 
-use global_model::{acts_are_plain, journals_are_carried, journals_grow, pasts_grow, refusals_come_first};
-use xm_num::{Enclave, Page};
+use global_model::{
+    acts_are_plain, journals_are_carried, journals_grow, pasts_grow, refusals_come_first,
+};
 use xm_num::laws::rows;
+use xm_num::{Enclave, Page};
 
 // The laws of the crates below, all at once.
 fn laws()

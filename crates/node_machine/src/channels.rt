@@ -6,10 +6,10 @@ ghost use Rattle.node_machine.specs.Index as index;
 ghost use Rattle.node_machine.specs.Machine as spec;
 ghost use Rattle.node_machine.specs.Ready.{AreOpen};
 
-use byte_link::Link;
 use crate::delivery::{send_over, take_bytes};
 use crate::laws::laws;
 use crate::pair::{Hop, Pair, hop_of};
+use byte_link::Link;
 use std::alloc::{AllocError, Global};
 use std::collections::BTreeSet;
 use std::marker::Model;

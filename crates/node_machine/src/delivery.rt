@@ -4,8 +4,8 @@ ghost use Rattle.byte_link.specs.Channel.{waiting_bytes, sent, taken};
 ghost use Rattle.xemem_wire.specs.Spelling.{is_valid, spelling_of};
 ghost use Rattle.enclave_rules.specs.Steps.{refusal, bytes_lines};
 
-use byte_link::Link;
 use crate::laws::laws;
+use byte_link::Link;
 use std::alloc::{AllocError, Global};
 use xemem_language::{ByteList, Line, Lines, Record};
 use xemem_wire::encode;

@@ -11,11 +11,11 @@ ghost use Rattle.node_machine.specs.Links.{IsFlowing, sent_in};
 ghost use Rattle.node_machine.specs.Machine as spec;
 ghost use Rattle.node_machine.specs.Ready.{IsReady, CanStep, AreOpen};
 
-use byte_link::Link;
 use crate::channels::Channels;
 use crate::delivery::{refuse, show};
 use crate::laws::laws;
 use crate::pair::{Hop, new_pair};
+use byte_link::Link;
 use enclave_node::{Call, Node, NodeFault, Show};
 use frame_pool::PoolFault;
 use page_table::PageTable;

@@ -18,9 +18,9 @@ ghost use Rattle.node_world.specs.Shown.{IsNodeOf, IsFedBy};
 ghost use Rattle.node_world.specs.World as spec;
 ghost use Rattle.node_world.specs.World.{IsAlong, IsCut, IsHistoryOf, IsOfWorlds, IsShort, IsStopped};
 
-use byte_link::Link;
 use crate::count::{fitting, passed};
 use crate::laws::laws;
+use byte_link::Link;
 use enclave_node::Node;
 use node_machine::Machine;
 use page_table::PageTable;

@@ -6,13 +6,13 @@ ghost use Rattle.enclave_rules.specs.Steps as steps;
 ghost use Rattle.enclave_node.specs.Births.{host_told, child_told};
 ghost use Rattle.enclave_node.specs.Nodes as spec;
 
+use super::Node;
 use crate::births::{child_birth, host_birth, tell_child, tell_host};
 use crate::feeds::{Feed, Feeds};
 use crate::state::{Birth, State};
 use frame_pool::PoolFault;
 use page_table::AddressSpace;
 use std::alloc::{AllocError, Global};
-use super::Node;
 use xemem_language::Lines;
 use xm_num::{Block, Enclave, EnclaveList, Kind};
 

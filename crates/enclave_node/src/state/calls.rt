@@ -7,11 +7,11 @@ ghost use Rattle.enclave_rules.specs.View.{own_line, own_lines, new_process};
 ghost use Rattle.enclave_rules.specs.Steps as steps;
 ghost use Rattle.enclave_node.specs.Calls.{IsCallInRange, call_lines};
 
+use super::State;
 use crate::Call;
 use crate::process::Process;
 use page_table::AddressSpace;
 use std::alloc::AllocError;
-use super::State;
 use xemem_language::{Line, Lines};
 use xm_num::{Cause, Frame, Pid, Vpn, Want};
 

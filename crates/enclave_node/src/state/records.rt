@@ -6,10 +6,10 @@ ghost use Rattle.enclave_rules.specs.View.{own_lines};
 ghost use Rattle.enclave_rules.specs.Steps as steps;
 ghost use Rattle.enclave_node.specs.Sides as spec;
 
+use super::{State, plain};
 use crate::feeds::Feed;
 use page_table::AddressSpace;
 use std::alloc::AllocError;
-use super::{State, plain};
 use xemem_language::{Body, Line, Lines, Record};
 use xm_num::Enclave;
 use xm_num::laws::rows;

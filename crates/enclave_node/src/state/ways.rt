@@ -7,11 +7,11 @@ ghost use Rattle.enclave_rules.specs.View.{own_line, own_lines};
 ghost use Rattle.enclave_rules.specs.Steps as steps;
 ghost use Rattle.enclave_node.specs.Sides as spec;
 
+use super::{State, plain};
 use crate::sides::{enclave_of, side_of};
 use page_table::AddressSpace;
 use route_learn::Way;
 use std::alloc::AllocError;
-use super::{State, plain};
 use xemem_language::{Body, Line, Lines};
 use xm_num::Enclave;
 use xm_num::laws::runs;
