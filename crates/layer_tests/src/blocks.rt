@@ -169,7 +169,7 @@ const FREED: &[Step] = &[
     Step::FreeHeld(ONE),
     Step::FreeHeld(TWO),
     Step::FreeCount(4),
-    Step::Lend(3, ONE, Ok(&[Block(0), Block(3), Block(4)])),
+    Step::Lend(3, Enclave(3), Ok(&[Block(0), Block(3), Block(4)])),
     Step::FreeCount(1),
     Step::Lend(1, TWO, Ok(&[Block(5)])),
 ];
