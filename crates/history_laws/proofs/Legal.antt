@@ -27,7 +27,6 @@ use Rattle.global_model.specs.Facts.{Facts, OwnPage, after_line, after_lines, fa
 use Rattle.enclave_rules.specs.Blocks.{BlockFact, Absent, Free, Lent, Held, is_listed, is_free, is_lent_to}
 use Rattle.global_model.specs.Space.{Mapping, IsUnmapped, is_of, with_own, pages_of, mapping_of, space_of, is_own_frame, is_unused, unused_frames, free_blocks}
 use Rattle.enclave_rules.specs.Pages.{own_page, block_frames, allows}
-use Rattle.global_model.specs.Views.{view_of}
 use Rattle.enclave_rules.specs.View.{host}
 use Rattle.global_model.specs.Refusals.{when, denies, refusal_of}
 use Rattle.global_model.specs.Place.{may_stand, IsPlacedAfter}

@@ -1,6 +1,5 @@
 -- Journals as histories: legal, told and whole.
-use Rattle.std.specs.Prelude.{◌≡◌, ℕ, List, [], ◌∷◌, length, filter, Bool, true, false, None, Some}
-use Rattle.xemem_language.specs.declared.command.Command.{Command}
+use Rattle.std.specs.Prelude.{◌≡◌, List, [], None, Some}
 use Rattle.xemem_language.specs.declared.line.Line.{Line}
 use Rattle.xemem_language.specs.declared.line.Line.TheVariants as lines
 use Rattle.global_model.specs.Carriage.{IsCarried}

@@ -1,14 +1,12 @@
 -- What each line of a journal must meet, by the lines before it. A past has its newest line first.
-use Rattle.std.specs.Prelude.{◌≡◌, ◌+◌, ◌<◌, ◌≤◌, List, [], ◌∷◌, length, take, true, Option, None, Some, All}
+use Rattle.std.specs.Prelude.{◌≡◌, List, ◌∷◌, length, take, true, Option, None, Some, All}
 use Rattle.xm_num.specs.declared.Cause.{Cause}
 use Rattle.xm_num.specs.declared.Access.{Access}
 use Rattle.xemem_language.specs.declared.command.Command.{Command}
 use Rattle.xemem_language.specs.declared.command.Command.TheVariants as commands
 use Rattle.xemem_language.specs.declared.line.Line.{Line}
 use Rattle.xemem_language.specs.declared.line.Line.TheVariants as lines
-use Rattle.xemem_wire.specs.Spelling.{is_valid, spellings_of}
 use Rattle.enclave_rules.specs.Pages.{allows, block_frames}
-use Rattle.enclave_rules.specs.Steps.{refusal}
 use Rattle.global_model.specs.Facts.{facts_at}
 use Rattle.global_model.specs.Journals.{command_at}
 use Rattle.global_model.specs.Refusals.{refusal_of}

@@ -1,5 +1,5 @@
 -- The laws on which the machine rests, as the functions of the crates below ensure them.
-use Rattle.std.specs.Prelude.{◌≡◌, ◌≤◌, ℕ, List, ◌++◌, length, drop, true, None}
+use Rattle.std.specs.Prelude.{◌≡◌, ◌≤◌, ℕ, List, ◌++◌, length, drop, None}
 use Rattle.byte_link.specs.Channel.{Channel, waiting_bytes, sent, taken}
 use Rattle.xemem_language.specs.declared.record.Record.{Record}
 use Rattle.xemem_wire.specs.Spelling.{spelling_of, spellings_of, AreValid}

@@ -1,12 +1,10 @@
 -- What went over a channel, as its link and the decoder at its end show it.
-use Rattle.std.specs.Prelude.{◌≡◌, ◌+◌, ℕ, List, [], ◌∷◌, ◌++◌, false, None, length, map, take, drop}
+use Rattle.std.specs.Prelude.{◌≡◌, ◌+◌, ℕ, List, [], ◌++◌, false, None, length, map, take, drop}
 use Rattle.byte_link.specs.Channel.{Channel, waiting_bytes}
 use Rattle.byte_link.specs.Passage.{left_of}
 use Rattle.xemem_language.specs.declared.record.Record.{Record}
 use Rattle.xemem_wire.specs.Spelling.{spelling_of, spellings_of, AreValid}
 use Rattle.xemem_wire.specs.Decoding.{Decoding}
-use Rattle.xemem_language.specs.declared.line.Line.{Line}
-use Rattle.xemem_language.specs.declared.line.Line.TheVariants as lines
 use Rattle.global_model.specs.Facts.{ChannelFact}
 
 -- how many bytes the records that were got have

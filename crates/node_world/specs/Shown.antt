@@ -1,6 +1,5 @@
 -- The machine shows the facts of the journal so far.
 use Rattle.std.specs.Prelude.{◌≡◌, ◌+◌, ◌-◌, ◌<◌, ◌≤◌, ℕ, length, true, false, None, Some}
-use Rattle.xm_num.specs.declared.Enclave.{Enclave}
 use Rattle.xm_num.specs.Rows.{at}
 use Rattle.global_model.specs.Facts.{Facts, fact_of}
 use Rattle.global_model.specs.Channels.{is_neighbour}
