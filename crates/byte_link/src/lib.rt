@@ -11,8 +11,6 @@ ghost use Rattle.byte_link.specs.Channel.{fresh, waiting_bytes, boundary_of, sen
 mod bytes;
 mod laws;
 mod queues;
-#[cfg(test)]
-mod tests;
 
 use bytes::Bytes;
 pub use laws::{

@@ -1,6 +1,6 @@
 -- Rows by the next number that has one.
 use Rattle.std.proofs.Common.{◌≡◌, ◌<◌, ◌≤◌, ◌+◌, ◌^◌, ℕ, Bool, true, false, cond, ◌&&◌, ◌||◌, List, [], ◌∷◌, map, filter, Option, None, Some, refl, sym, ap, subst, ◌∙◌, eq-eqb, ne_eqb, arith}
-use Rattle.std.specs.Prelude.{option_map, nat_le, nat_lt, IsSome, ◌==◌}
+use Rattle.std.specs.Prelude.{◌↔◌, option_map, nat_le, nat_lt, IsSome, ◌==◌}
 use Rattle.std.specs.List.{AllByRecursion}
 use Rattle.std.specs.List.Sorted.{IsStrictlySortedBy}
 use Rattle.std.specs.Option.{option_map_or}
@@ -12,8 +12,7 @@ use Rattle.std.specs.Map.{keys_of}
 use Rattle.std.specs.declared.cmp.Ordering.TheVariants.{Less, Equal, Greater}
 use Rattle.std.proofs.lemmas.Bool.{ltb-false, le-leb, leb-true, lt-leb}
 use Rattle.std.proofs.lemmas.Bool.Decides.{nat_tests}
-use Rattle.xm_num.specs.Rows.{at, put, less, any_between, next_from, IsAscending}
-use Rattle.xm_num.proofs.RunLemmas.{next_is}
+use Rattle.xm_num.specs.Rows.{at, put, less, any_between, next_from, IsAscending, IsLowestFrom}
 use Rattle.page_table.specs.Spaces.{AreWithin}
 use Rattle.route_learn.specs.Routes.{AreNumbers}
 
@@ -191,12 +190,16 @@ next_is_above (row ∷ rows) low k next = by (nat_le low row.0) refl next (next_
     by true le next more = let same : k ≡ row.0 = cc in let here : low ≤ row.0 = leb-true low row.0 le in omega arith
     by false gt next more = more next
 
+-- the first number of a table from one on, by the law of tables
+abbrev pub NextIs : Type 0 → Type 0
+NextIs V = (rows : List (ℕ × V)) (low k : ℕ) → IsAscending rows → (next_from rows low ≡ Some k) ↔ IsLowestFrom rows low k
+
 -- no row of numbers of 16 bits lies above them
-pub none_above : {V : Type 0} (rows : List (ℕ × V)) (low : ℕ) → IsAscending rows → AreNumbers rows → 2 ^ 16 ≤ low → rows_from low rows ≡ []
-none_above rows low ascends numbers high = by (next_from rows low) refl
+pub none_above : {V : Type 0} → NextIs V → (rows : List (ℕ × V)) (low : ℕ) → IsAscending rows → AreNumbers rows → 2 ^ 16 ≤ low → rows_from low rows ≡ []
+none_above is_next rows low ascends numbers high = by (next_from rows low) refl
   where
     by : (found : Option ℕ) → next_from rows low ≡ found → rows_from low rows ≡ []
     by None is = none_from rows low (sym is)
     by (Some k) is =
-        let lowest = (next_is rows low k ascends).0 is in
+        let lowest = (is_next rows low k ascends).0 is in
         absurd (omega (arith, lowest.from, numbers k lowest.here))

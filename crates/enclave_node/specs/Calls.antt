@@ -5,10 +5,10 @@ use Rattle.xemem_language.specs.declared.line.Line.{Line}
 use Rattle.xemem_language.specs.Ranges.{IsWithin}
 use Rattle.enclave_rules.specs.View.{View}
 use Rattle.enclave_rules.specs.Steps.{alloc_lines, route_lines, state_lines}
-use Rattle.enclave_node.specs.declared.call.Call.{Call}
-use Rattle.enclave_node.specs.declared.call.Call.TheVariants as calls
-use Rattle.enclave_node.specs.declared.call.Show.{Show}
-use Rattle.enclave_node.specs.declared.call.Show.TheVariants as shows
+use Rattle.xemem_language.specs.declared.call.Call.{Call}
+use Rattle.xemem_language.specs.declared.call.Call.TheVariants as calls
+use Rattle.xemem_language.specs.declared.call.Show.{Show}
+use Rattle.xemem_language.specs.declared.call.Show.TheVariants as shows
 
 -- each number of a call is in its range
 abbrev pub IsCallInRange : Call → Type 0

@@ -9,8 +9,8 @@ use crate::host::HostPart;
 use crate::lists::list_of;
 use crate::state::{Birth, query};
 use frame_pool::PoolFault;
-use xemem_language::{Line, Lines};
 use std::alloc::{AllocError, Global};
+use xemem_language::{Line, Lines};
 use xm_num::{Block, Enclave, EnclaveList, Kind};
 
 /// The birth of the host with the first `n` blocks of a new pool.

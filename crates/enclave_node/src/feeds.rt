@@ -8,8 +8,8 @@ use std::alloc::{AllocError, Global};
 use std::collections::BTreeMap;
 use std::marker::Model;
 use std::mem;
-use xemem_wire::{BadField, Decoder, FeedFault};
 use xemem_language::Record;
+use xemem_wire::{BadField, Decoder, FeedFault};
 use xm_num::Enclave;
 use xm_num::laws::rows;
 

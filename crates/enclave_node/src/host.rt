@@ -5,9 +5,9 @@ ghost use Rattle.enclave_rules.specs.Steps as steps;
 ghost use Rattle.enclave_node.specs.Blocks.{fact_of_state, facts_of, free_in, born_host, lent_host};
 
 use frame_pool::{BlockState, Pool, PoolFault};
-use xemem_language::{Line, Lines};
 use std::alloc::{AllocError, Global};
 use std::marker::Model;
+use xemem_language::{Line, Lines};
 use xm_num::{Block, BlockList, Enclave, EnclaveList};
 
 const HOST: Enclave = Enclave(0);

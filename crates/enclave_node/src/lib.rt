@@ -11,8 +11,6 @@ mod node;
 mod process;
 mod sides;
 mod state;
-#[cfg(test)]
-mod tests;
 
 pub use node::{Node, NodeFault};
 pub use xemem_language::{Call, Show};

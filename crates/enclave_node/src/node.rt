@@ -9,16 +9,16 @@ ghost use Rattle.enclave_node.specs.Calls.{IsCallInRange, call_lines, HasShown, 
 
 mod boot;
 
-use crate::call::{Call, Show};
 use crate::feeds::{Feed, Feeds};
 use crate::state::State;
+use crate::{Call, Show};
 use frame_pool::PoolFault;
-use xemem_language::{Line, Lines};
 use page_table::AddressSpace;
 use std::alloc::{AllocError, Global};
 use std::marker::Model;
 use std::mem;
 use thiserror::Error;
+use xemem_language::{Line, Lines};
 use xemem_wire::{BadField, WireFault};
 use xm_num::{
     Block, BlockList, Cause, Enclave, EnclaveList, Frame, Kind, Neighbour, Pid, Vpn, Want,

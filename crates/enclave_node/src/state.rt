@@ -13,12 +13,11 @@ use crate::frames::Frames;
 use crate::host::HostPart;
 use crate::process::Process;
 use frame_pool::PoolFault;
-use xemem_language::{Line, Lines};
 use page_table::AddressSpace;
 use route_learn::Routes;
 use std::alloc::{AllocError, Global};
 use std::marker::Model;
-use xemem_language::{Body, Record};
+use xemem_language::{Body, Line, Lines, Record};
 use xm_num::{BlockList, Enclave, EnclaveList, Kind};
 
 /// What an enclave is born with.

@@ -1,5 +1,5 @@
 -- What an enclave writes, for a record or for a call: a function of its view and of the record or the call alone.
-use Rattle.std.specs.Prelude.{◌+◌, ◌-◌, ◌/◌, ℕ, List, [], ◌∷◌, ◌++◌, length, take, map, Bool, ◌||◌, ◌==◌, nat_lt, if◌then◌else◌, Option, None, Some, is_some, slice_get, false, Result, Ok, Err}
+use Rattle.std.specs.Prelude.{zero, suc, drop, ◌+◌, ◌-◌, ◌/◌, ℕ, List, [], ◌∷◌, ◌++◌, length, take, map, Bool, ◌||◌, ◌==◌, nat_lt, if◌then◌else◌, Option, None, Some, is_some, slice_get, false, Result, Ok, Err}
 use Rattle.std.specs.List.{list_any, range_with_len}
 use Rattle.std.specs.Option.{option_map_or}
 use Rattle.xm_num.specs.declared.Enclave.{Enclave}
@@ -19,9 +19,9 @@ use Rattle.xemem_language.specs.declared.record.Body.{Body}
 use Rattle.xemem_language.specs.declared.record.Body.TheVariants as bodies
 use Rattle.xemem_language.specs.declared.line.Line.{Line}
 use Rattle.xemem_language.specs.declared.line.Line.TheVariants as lines
-use Rattle.enclave_rules.specs.Blocks.{BlockFact, Absent, Free, Lent, Held, is_free}
-use Rattle.enclave_rules.specs.View.{place_among, View, ProcessView, own_lines}
+use Rattle.enclave_rules.specs.Blocks.{Absent, BlockFact, Free, Held, Lent, is_free}
 use Rattle.enclave_rules.specs.Pages.{allows}
+use Rattle.enclave_rules.specs.View.{ProcessView, View, host, own_lines, place_among}
 
 abbrev pub refusal : Cause → List Line
 refusal cause = lines.Refused cause ∷ []

@@ -1,20 +1,17 @@
 -- What an enclave knows, and what a line of its own changes in it.
-use Rattle.std.specs.Prelude.{◌+◌, ◌-◌, ℕ, List, [], ◌∷◌, ◌++◌, length, drop, map, filter, Bool, true, false, ◌||◌, ◌==◌, if◌then◌else◌, Option, None, Some, slice_set, slice_index_or}
-use Rattle.std.specs.List.{range_with_len, flat_map}
+use Rattle.std.specs.Prelude.{◌≡◌, ◌+◌, ◌-◌, ℕ, List, [], ◌∷◌, ◌++◌, length, drop, map, Bool, true, false, ◌||◌, ◌==◌, if◌then◌else◌, Option, None, Some, slice_set, slice_index_or}
+use Rattle.std.specs.List.{range_with_len, flat_map, AllByRecursion}
 use Rattle.xm_num.specs.declared.Enclave.{Enclave}
 use Rattle.xm_num.specs.declared.Kind.{Kind}
+use Rattle.xm_num.specs.declared.Kind.TheVariants as kinds
 use Rattle.xm_num.specs.declared.Block.{Block}
 use Rattle.xm_num.specs.declared.Frame.{Frame}
 use Rattle.xm_num.specs.declared.Page.{Page}
 use Rattle.xm_num.specs.Rows.{put, put_all}
 use Rattle.xemem_language.specs.declared.line.Line.{Line}
 use Rattle.xemem_language.specs.declared.line.Line.TheVariants as lines
-use Rattle.global_model.specs.Facts.{Facts, ProcessFact, fact_of}
-use Rattle.enclave_rules.specs.Blocks.{BlockFact, Lent, is_listed}
-use Rattle.enclave_rules.specs.View.{place_among}
-use Rattle.global_model.specs.Channels.{is_child_of}
-use Rattle.enclave_rules.specs.Pages.{own_page, block_frames}
-use Rattle.global_model.specs.Space.{pages_of, unused_frames}
+use Rattle.enclave_rules.specs.Blocks.{BlockFact, Free, Lent, is_listed}
+use Rattle.enclave_rules.specs.Pages.{block_frames, own_page}
 
 -- a process: its user and group, and its pages, ascending
 pub record ProcessView : Type 0 where

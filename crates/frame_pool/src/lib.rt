@@ -8,8 +8,6 @@ ghost use Rattle.std.specs.Prelude.{◌≡◌, ◌<◌, ◌≤◌, ◌↔◌, le
 ghost use Rattle.frame_pool.specs.Blocks.{free_blocks, with_lent, with_held, with_freed};
 
 mod states;
-#[cfg(test)]
-mod tests;
 
 use states::{first_free, hold_states, lend_states, low_behind};
 use std::alloc::{AllocError, Global};

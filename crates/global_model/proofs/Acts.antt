@@ -1,5 +1,5 @@
 -- The lines of a command but its `do` line: they begin no command, and have a spelling, but for the records that they send.
-use Rattle.std.proofs.Common.{List, [], ◌∷◌, Option, None, Some}
+use Rattle.std.proofs.Common.{◌≡◌, List, [], ◌∷◌, ◌++◌, drop, Option, None, Some, refl, ap, ◌∙◌}
 use Rattle.std.specs.Option.{option_map_or}
 use Rattle.xm_num.specs.declared.Enclave.{Enclave}
 use Rattle.xm_num.specs.declared.Pid.{Pid}
@@ -9,21 +9,16 @@ use Rattle.xemem_language.specs.declared.command.Command.{Command}
 use Rattle.xemem_language.specs.declared.command.Command.TheVariants as commands
 use Rattle.xemem_language.specs.declared.line.Line.{Line}
 use Rattle.xemem_language.specs.declared.line.Line.TheVariants as lines
-use Rattle.global_model.specs.Facts.{Facts}
+use Rattle.global_model.specs.Facts.{Facts, after_lines}
 use Rattle.global_model.specs.Space.{Mapping}
 use Rattle.global_model.specs.Views.{view_of}
 use Rattle.enclave_rules.specs.Steps.{route_lines}
 use Rattle.global_model.specs.Refusals.{refusal_of}
-use Rattle.global_model.specs.Due.{next_enclave, touched_lines, acts_of, command_lines}
-use Rattle.global_model.proofs.Writes.{EachIs}
-use Rattle.global_model.proofs.Plain.{IsTellable, IsPlain, ArePlain, each-weaker, plain_host, plain_deliver, plain_settle, plain_routes, plain_show, plain_birth, plain_pool}
-
-abbrev pub IsAct : Line → Type 0
-IsAct (lines.Do command) = ⊥
-IsAct line = IsTellable line
-
-abbrev pub AreActs : List Line → Type 0
-AreActs journal = EachIs IsAct journal
+use Rattle.global_model.specs.Due.{next_enclave, touched_lines, acts_of, command_lines, step_lines, journal_from}
+use Rattle.global_model.specs.Plain.{IsPlain, ArePlain, IsAct, AreActs, IsQuiet, IsBirth}
+use Rattle.global_model.specs.Journals.{do_commands}
+use Rattle.global_model.proofs.Pasts.{do_commands-append}
+use Rattle.global_model.proofs.Plain.{each-weaker, plain_host, plain_deliver, plain_settle, plain_routes, plain_show, plain_birth, plain_pool}
 
 act_plain : (line : Line) → IsPlain line → IsAct line
 act_plain (lines.Refused cause) plain = tt
@@ -60,3 +55,39 @@ refused_or_acts (Some c) acts h = (tt, tt)
 
 pub command_lines-acts : (G : Facts) (command : Command) → AreActs (command_lines G command)
 command_lines-acts G command = refused_or_acts (refusal_of G command) (acts_of G command) (acts_of-acts G command)
+
+-- ---- the commands of a journal
+
+do_commands-act : (line : Line) (ls : List Line) → IsAct line → do_commands (line ∷ ls) ≡ do_commands ls
+do_commands-act (lines.Do command) ls act = absurd act
+do_commands-act _ ls act = refl
+
+do_commands-acts : (ls : List Line) → AreActs ls → do_commands ls ≡ []
+do_commands-acts [] acts = refl
+do_commands-acts (line ∷ ls) acts = do_commands-act line ls acts.0 ∙ do_commands-acts ls acts.1
+
+pub do_commands-journal : (G : Facts) (cs : List Command) → do_commands (journal_from G cs) ≡ cs
+do_commands-journal G [] = refl
+do_commands-journal G (c ∷ cs) =
+    let H = after_lines G (step_lines G c) in
+    ap (λ ds. c ∷ ds) (do_commands-append (command_lines G c) (journal_from H cs) ∙ ap (λ ds. ds ++ do_commands (journal_from H cs)) (do_commands-acts (command_lines G c) (command_lines-acts G c)) ∙ do_commands-journal H cs)
+
+-- ---- plain lines
+
+pub quiet_plain : (G : Facts) (command : Command) → IsQuiet command → ArePlain (acts_of G command)
+quiet_plain G (commands.Host blocks ns) quiet = absurd quiet
+quiet_plain G (commands.Boot kind parent blocks ns) quiet = absurd quiet
+quiet_plain G (commands.Alloc e p at pages) quiet = absurd quiet
+quiet_plain G (commands.Touch e p addr want) quiet = absurd quiet
+quiet_plain G (commands.Proc e uid gid) quiet = (tt, tt)
+quiet_plain G (commands.Deliver x y count) quiet = plain_deliver G x y count
+quiet_plain G (commands.Settle most) quiet = plain_settle most 0 G
+quiet_plain G (commands.ShowRoutes e) quiet = plain_routes (view_of G e)
+quiet_plain G (commands.ShowLink x y) quiet = plain_show G x y
+quiet_plain G commands.ShowPool quiet = plain_pool G
+quiet_plain G _ quiet = tt
+
+pub behind_plain : (G : Facts) (command : Command) → IsBirth command → ArePlain (drop 1 (acts_of G command))
+behind_plain G (commands.Host blocks ns) birth = plain_host ns
+behind_plain G (commands.Boot kind parent blocks ns) birth = plain_birth (next_enclave G) parent ns (G.heard parent.0) (view_of G parent)
+behind_plain G _ birth = absurd birth

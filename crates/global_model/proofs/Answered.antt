@@ -16,7 +16,6 @@ use Rattle.xm_num.specs.declared.Frame.{Frame}
 use Rattle.xm_num.specs.declared.Cause.{Cause}
 use Rattle.xm_num.specs.declared.Cause.TheVariants as causes
 use Rattle.xm_num.specs.Rows.{at, any_between}
-use Rattle.xm_num.proofs.RowLemmas.{any_is_at}
 use Rattle.xemem_language.specs.declared.command.Command.TheVariants as commands
 use Rattle.xemem_language.specs.declared.line.Line.{Line}
 use Rattle.xemem_language.specs.declared.line.Line.TheVariants as lines
@@ -126,16 +125,20 @@ is_some-mapped : (o : Option Page) → is_some (option_map mapping_of o) ≡ is_
 is_some-mapped None = refl
 is_some-mapped (Some found) = refl
 
-taken_is : (G : Facts) (e p page count : ℕ) → is_taken G e p page count ≡ any_between (pages_of G e p) page (page + count)
-taken_is G e p page count =
+-- one of the pages of a range has a row, by the law of tables
+abbrev AnyMapped : Type 0
+AnyMapped = (table : List (ℕ × Page)) (low high : ℕ) → any_between table low high ≡ list_any (λ k. is_some (at table k)) (range_with_len low (high - low))
+
+taken_is : AnyMapped → (G : Facts) (e p page count : ℕ) → is_taken G e p page count ≡ any_between (pages_of G e p) page (page + count)
+taken_is any G e p page count =
     let size : page + count - page ≡ count = omega arith in
-    let rows = any_is_at (pages_of G e p) page (page + count) in
+    let rows = any (pages_of G e p) page (page + count) in
     ap (λ t. list_any t (range_with_len page count)) (λ i k. is_some-mapped (at (pages_of G e p) k) i) ∙ ap (λ n. list_any (λ k. is_some (at (pages_of G e p) k)) (range_with_len page n)) (sym size) ∙ sym rows
 
-alloc_answered : (G : Facts) → IsKnown G → (e : Enclave) (p : Pid) (page : Vpn) (count : ℕ) → command_lines G (commands.Alloc e p page count) ≡ at_born G.born e (alloc_lines (view_of G e) p page count)
-alloc_answered G known e p page count =
+alloc_answered : AnyMapped → (G : Facts) → IsKnown G → (e : Enclave) (p : Pid) (page : Vpn) (count : ℕ) → command_lines G (commands.Alloc e p page count) ≡ at_born G.born e (alloc_lines (view_of G e) p page count)
+alloc_answered any G known e p page count =
     where_born G known e _ _ _ (λ born. where_runs G known e p _ _ _
-    (either_way (ltb 16777216 (page.0 + count)) causes.BadRange _ _ _ (λ within. rw (taken_is G e.0 p.0 page.0 count) (either_way (any_between (pages_of G e.0 p.0) page.0 (page.0 + count)) causes.Taken _ _ _ (λ clear. either_way (ltb (length (unused_frames G e.0)) count) causes.NoFrames None _ _ (λ enough. refl))))))
+    (either_way (ltb 16777216 (page.0 + count)) causes.BadRange _ _ _ (λ within. rw (taken_is any G e.0 p.0 page.0 count) (either_way (any_between (pages_of G e.0 p.0) page.0 (page.0 + count)) causes.Taken _ _ _ (λ clear. either_way (ltb (length (unused_frames G e.0)) count) causes.NoFrames None _ _ (λ enough. refl))))))
 
 -- ---- touches
 
@@ -177,11 +180,11 @@ host_answered pool blocks ns = either_way (ltb pool blocks) causes.NoBlocks None
     let drawn : take blocks (free_blocks (pool_facts pool)) ≡ first_blocks blocks = ap (take blocks) (free_pool_blocks pool) ∙ take-map-range_with_len (λ b. record { 0 = b }) 0 pool blocks within in
     ap (λ bs. host_lines bs ns) drawn)
 
-pub answered : (G : Facts) → IsKnown G → IsAnswered G
-answered G known = record {
+pub answered : AnyMapped → (G : Facts) → IsKnown G → IsAnswered G
+answered any G known = record {
   boot = boot_answered G known;
   proc = proc_answered G known;
-  alloc = alloc_answered G known;
+  alloc = alloc_answered any G known;
   touch = touch_answered G known;
   routes = routes_answered G known;
   pool = pool_answered G known;

@@ -20,14 +20,14 @@ use Rattle.enclave_rules.specs.Blocks.{BlockFact, Absent, Free, Lent, Held}
 use Rattle.global_model.specs.Channels.{was_born, waiting_bytes, arriving}
 use Rattle.global_model.specs.Space.{Mapping, space_of, free_blocks}
 use Rattle.global_model.specs.Refusals.{Condition, first_cause, conditions_of, refusal_of}
-use Rattle.enclave_rules.specs.View.{View, host}
+use Rattle.enclave_rules.specs.View.{View, host, IsOf, AreOf}
 use Rattle.global_model.specs.Views.{view_of}
 use Rattle.enclave_rules.specs.Steps.{query_of, child_lines, birth_lines, knows_way, adopt_lines, lines_of_records, route_lines, state_lines, bytes_lines}
 use Rattle.global_model.specs.Place.{may_stand}
 use Rattle.global_model.specs.Due.{next_enclave, touched_lines, got_lines, took_lines, deliver_lines, next_rest, waits, first_waiting, settle_end, settle_from, acts_of, command_lines, step_lines}
 use Rattle.global_model.proofs.Tree.{living_born}
 use Rattle.global_model.proofs.Kept.{IsKnown, IsBirth, IsApt, AreApt, apt_append, known_lines}
-use Rattle.global_model.proofs.Views.{IsOf, AreOf, of_records, got_lines-records}
+use Rattle.global_model.proofs.Views.{of_records, got_lines-records}
 
 -- ---- lines that change nothing of what is kept
 

@@ -1,39 +1,21 @@
--- Plain lines: they begin no command, are no refusal, leave the blocks and the own pages alone, and have a spelling, but for the
--- records that they send.
+-- What an enclave writes and tells is plain.
 use Rattle.std.proofs.Common.{◌+◌, ℕ, zero, suc, List, [], ◌∷◌, ◌++◌, length, map, Bool, Option, None, Some, if◌then◌else◌}
 use Rattle.std.specs.Prelude.{◌==◌, min}
 use Rattle.std.specs.List.{range_with_len}
 use Rattle.std.specs.Option.{option_map_or}
 use Rattle.xm_num.specs.declared.Enclave.{Enclave}
-use Rattle.xm_num.specs.Rows.{at}
 use Rattle.xemem_language.specs.declared.record.Record.{Record}
 use Rattle.xemem_language.specs.declared.line.Line.{Line}
 use Rattle.xemem_language.specs.declared.line.Line.TheVariants as lines
-use Rattle.xemem_language.specs.Ranges.{IsSpelled}
 use Rattle.global_model.specs.Facts.{Facts, after_line, after_lines}
 use Rattle.global_model.specs.Channels.{waiting_bytes, arriving}
 use Rattle.enclave_rules.specs.View.{View, host}
 use Rattle.global_model.specs.Views.{view_of}
 use Rattle.enclave_rules.specs.Steps.{knows_way, query_of, record_lines, child_lines, told_lines, adopt_lines, route_lines, state_lines}
 use Rattle.global_model.specs.Due.{got_lines, took_lines, deliver_lines, show_lines, next_rest, first_waiting, settle_end, settle_from}
+use Rattle.global_model.specs.Plain.{IsPlain, ArePlain}
 use Rattle.global_model.proofs.Tells.{MayTell, tells_told, tells_bytes, tells_end, tells_routes, tells_states}
 use Rattle.global_model.proofs.Writes.{EachIs, each-append, each_either, writes_record}
-
--- the line has a spelling, but perhaps for the record that it sends
-abbrev pub IsTellable : Line → Type 0
-IsTellable (lines.Sent x y r) = Unit {0}
-IsTellable line = IsSpelled line
-
-abbrev pub IsPlain : Line → Type 0
-IsPlain (lines.Do command) = ⊥
-IsPlain (lines.Refused cause) = ⊥
-IsPlain (lines.Born e kind parent ns blocks) = ⊥
-IsPlain (lines.Alloc e p at frames) = ⊥
-IsPlain (lines.Touched e p page frame) = ⊥
-IsPlain line = IsTellable line
-
-abbrev pub ArePlain : List Line → Type 0
-ArePlain journal = EachIs IsPlain journal
 
 plain-append : (ls ms : List Line) → ArePlain ls → ArePlain ms → ArePlain (ls ++ ms)
 plain-append ls ms first more = each-append IsPlain ls ms first more

@@ -1,16 +1,7 @@
 -- What holds where a command isn't refused.
-use Rattle.std.proofs.Common.{◌≡◌, ◌/◌, ℕ, List, [], ◌∷◌, Bool, true, false, not, None, Some, refl, sym, ap, ◌∙◌}
-use Rattle.std.specs.Prelude.{is_none}
-use Rattle.xm_num.specs.declared.Enclave.{Enclave}
-use Rattle.xm_num.specs.declared.Pid.{Pid}
-use Rattle.xm_num.specs.declared.Want.{Want}
+use Rattle.std.proofs.Common.{◌≡◌, List, ◌∷◌, Bool, true, false, not, None, refl}
 use Rattle.xm_num.specs.declared.Cause.{Cause}
-use Rattle.xm_num.specs.declared.Cause.TheVariants as causes
-use Rattle.xemem_language.specs.declared.command.Command.TheVariants as commands
-use Rattle.global_model.specs.Facts.{Facts, is_living_enclave, is_living_process}
-use Rattle.global_model.specs.Space.{Mapping, space_of}
-use Rattle.enclave_rules.specs.Pages.{allows}
-use Rattle.global_model.specs.Refusals.{Condition, when, denies, first_cause, refusal_of}
+use Rattle.global_model.specs.Refusals.{Condition, when, first_cause}
 
 -- no condition of it holds
 pub no_condition : (cause : Cause) (holds : Bool) (others : List Condition) → first_cause (when cause holds ∷ others) ≡ None
@@ -21,17 +12,3 @@ no_condition cause false others none = (refl, none)
 pub not_false : (b : Bool) → not b ≡ false → b ≡ true
 not_false true is = refl
 not_false false is = cc
-
--- the mapping of a touched page allows what was wanted
-pub touch_allowed : (G : Facts) (e : Enclave) (p : Pid) (addr : ℕ) (want : Want) (m : Mapping)
-    → refusal_of G (commands.Touch e p addr want) ≡ None → space_of G e.0 p.0 (addr / 4096) ≡ Some m → allows m.access want ≡ true
-touch_allowed G e p addr want m none is =
-    let found = space_of G e.0 p.0 (addr / 4096) in
-    let fourth = when causes.Denied (denies want found) ∷ [] in
-    let third = when causes.NotMapped (is_none found) ∷ fourth in
-    let second = when causes.NoProcess (not (is_living_process (G.process e.0 p.0))) ∷ third in
-    let one = no_condition causes.NoEnclave (not (is_living_enclave (G.enclave e.0))) second none in
-    let two = no_condition causes.NoProcess (not (is_living_process (G.process e.0 p.0))) third one.1 in
-    let three = no_condition causes.NotMapped (is_none found) fourth two.1 in
-    let four = no_condition causes.Denied (denies want found) [] three.1 in
-    not_false (allows m.access want) (ap (denies want) (sym is) ∙ four.0)

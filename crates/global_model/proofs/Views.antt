@@ -6,28 +6,14 @@ use Rattle.xemem_language.specs.declared.record.Record.{Record}
 use Rattle.xemem_language.specs.declared.line.Line.{Line}
 use Rattle.xemem_language.specs.declared.line.Line.TheVariants as lines
 use Rattle.global_model.specs.Facts.{Facts, is_living_enclave, after_line, after_lines}
-use Rattle.enclave_rules.specs.View.{View, own_line, own_lines, is_at, seen_lines}
+use Rattle.enclave_rules.specs.View.{View, own_line, own_lines, is_at, seen_lines, IsOf, AreOf}
 use Rattle.global_model.specs.Views.{view_of}
 use Rattle.enclave_rules.specs.Steps.{record_lines, lines_of_records}
 use Rattle.global_model.specs.Due.{got_lines}
-use Rattle.global_model.proofs.Writes.{EachIs, each-append, MayWrite, KnowsNear, MaySend, writes_record}
+use Rattle.global_model.proofs.Writes.{each-append, MayWrite, KnowsNear, MaySend, writes_record}
 use Rattle.global_model.proofs.Shown.{IsShown, shown_admitted, shown_asked, shown_way, shown_back, shown_route, admitted-living}
 
 -- ---- the lines that an enclave writes for a record
-
-abbrev pub IsOf : Enclave → Line → Type 0
-IsOf y (lines.Admitted e) = e ≡ y
-IsOf y (lines.Asked e by) = e ≡ y
-IsOf y (lines.Way e over) = e ≡ y
-IsOf y (lines.Sent a b r) = a ≡ y
-IsOf y (lines.Got a b) = b ≡ y
-IsOf y (lines.Dropped e) = e ≡ y
-IsOf y (lines.Back e of over) = e ≡ y
-IsOf y (lines.Route e of over) = e ≡ y
-IsOf y line = ⊥
-
-abbrev pub AreOf : Enclave → List Line → Type 0
-AreOf y journal = EachIs (IsOf y) journal
 
 of_record : (v : View) (from : Enclave) (r : Record) → AreOf v.me (record_lines v from r)
 of_record v from r = writes_record (IsOf v.me) (λ x. Unit {0}) (λ sent. Unit {0}) v own from r known tt sends

@@ -3,8 +3,8 @@ use Rattle.std.specs.Prelude.{◌≡◌, ◌+◌, ◌<◌, ◌≤◌, List, [], 
 use Rattle.xemem_language.specs.declared.line.Line.{Line}
 use Rattle.xemem_language.specs.declared.line.Line.TheVariants as lines
 use Rattle.xemem_wire.specs.Spelling.{is_valid, spellings_of}
-use Rattle.global_model.specs.Facts.{facts_at, is_living_enclave}
 use Rattle.global_model.specs.Channels.{is_neighbour, waiting_bytes}
+use Rattle.global_model.specs.Facts.{facts_at, is_living_enclave}
 use Rattle.global_model.specs.Journals.{Follows}
 
 -- Carriage: bytes are taken of those that wait; the record that is got next is the next that was sent, and its last byte

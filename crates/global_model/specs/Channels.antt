@@ -2,7 +2,7 @@
 use Rattle.std.specs.Prelude.{◌-◌, ℕ, List, [], ◌∷◌, length, drop, Bool, not, ◌&&◌, ◌||◌, ◌==◌, nat_le, if◌then◌else◌, is_some}
 use Rattle.xemem_language.specs.declared.record.Record.{Record}
 use Rattle.xemem_wire.specs.Spelling.{spelling_of, spellings_of}
-use Rattle.global_model.specs.Facts.{Facts, ChannelFact, has_parent}
+use Rattle.global_model.specs.Facts.{ChannelFact, Facts, has_parent}
 
 -- the enclave has that parent; the host has none
 abbrev pub is_child_of : Facts → ℕ → ℕ → Bool

@@ -1,5 +1,5 @@
 -- The lines that commands are to have, and the line that is due.
-use Rattle.std.specs.Prelude.{◌+◌, ◌-◌, ◌/◌, ℕ, zero, suc, min, List, [], ◌∷◌, ◌++◌, length, map, filter, Bool, ◌&&◌, ◌==◌, nat_le, nat_lt, if◌then◌else◌, Option, None, is_some, take, drop, slice_get}
+use Rattle.std.specs.Prelude.{◌+◌, ◌-◌, ◌/◌, ℕ, zero, suc, min, List, [], ◌∷◌, ◌++◌, length, map, filter, Bool, ◌&&◌, ◌==◌, nat_le, nat_lt, if◌then◌else◌, Option, None, is_some, take, slice_get}
 use Rattle.std.specs.List.{range_with_len, flat_map}
 use Rattle.std.specs.Option.{option_map_or}
 use Rattle.xm_num.specs.declared.Enclave.{Enclave}
@@ -10,12 +10,12 @@ use Rattle.xemem_language.specs.declared.command.Command.TheVariants as commands
 use Rattle.xemem_language.specs.declared.line.Line.{Line}
 use Rattle.xemem_language.specs.declared.line.Line.TheVariants as lines
 use Rattle.xemem_language.specs.declared.record.Record.{Record}
-use Rattle.global_model.specs.Channels.{waiting_bytes, arriving, size_of}
-use Rattle.global_model.specs.Views.{view_of}
-use Rattle.enclave_rules.specs.Steps.{record_lines, host_lines, birth_lines, adopt_lines, route_lines, state_lines}
-use Rattle.global_model.specs.Facts.{Facts, after_line, after_lines, facts_at, no_facts, fact_of, is_living_enclave}
-use Rattle.global_model.specs.Space.{Mapping, space_of, unused_frames, free_blocks}
+use Rattle.enclave_rules.specs.Steps.{adopt_lines, birth_lines, bytes_lines, host_lines, record_lines, route_lines, state_lines}
+use Rattle.global_model.specs.Channels.{arriving, size_of, waiting_bytes}
+use Rattle.global_model.specs.Facts.{Facts, after_line, after_lines, fact_of, facts_at, is_living_enclave, no_facts}
 use Rattle.global_model.specs.Refusals.{refusal_of}
+use Rattle.global_model.specs.Space.{Mapping, free_blocks, space_of, unused_frames}
+use Rattle.global_model.specs.Views.{view_of}
 
 -- the number that the enclave draws for its next process
 abbrev pub next_pid : Facts → Enclave → Pid

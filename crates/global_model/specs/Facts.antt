@@ -1,6 +1,5 @@
 -- The facts that a journal leaves: who lives, which blocks are lent, which pages are whose.
 use Rattle.std.specs.Prelude.{◌+◌, ℕ, List, [], ◌∷◌, ◌++◌, Bool, true, false, ◌&&◌, ◌==◌, ◌||◌, nat_lt, if◌then◌else◌, Option, None, Some}
-use Rattle.std.specs.List.{list_any}
 use Rattle.xm_num.specs.declared.Enclave.{Enclave}
 use Rattle.xm_num.specs.declared.Pid.{Pid}
 use Rattle.xm_num.specs.declared.Frame.{Frame}
@@ -12,6 +11,8 @@ use Rattle.xemem_language.specs.declared.record.Record.{Record}
 use Rattle.xemem_language.specs.declared.command.Command.TheVariants as commands
 use Rattle.xemem_language.specs.declared.line.Line.{Line}
 use Rattle.xemem_language.specs.declared.line.Line.TheVariants as lines
+use Rattle.enclave_rules.specs.Blocks.{Absent, BlockFact, Free, Lent, is_listed}
+use Rattle.enclave_rules.specs.View.{place_among}
 
 pub record EnclaveFact : Type 0 where
   pub kind : Kind

@@ -3,8 +3,8 @@ use Rattle.std.specs.Prelude.{◌≡◌, ◌<◌, ◌≤◌, ℕ, [], length, na
 use Rattle.xm_num.specs.declared.Enclave.{Enclave}
 use Rattle.xm_num.specs.Rows.{at}
 use Rattle.xemem_wire.specs.Spelling.{AreValid, spellings_of}
-use Rattle.global_model.specs.Facts.{Facts, EnclaveFact, ChannelFact, no_channel, is_living_enclave, has_parent}
-use Rattle.global_model.specs.Channels.{is_neighbour, whole_records, arriving}
+use Rattle.global_model.specs.Channels.{arriving, is_neighbour, whole_records}
+use Rattle.global_model.specs.Facts.{ChannelFact, EnclaveFact, Facts, has_parent, is_living_enclave, no_channel}
 
 -- the enclaves below that number were born, and no others; each of them lives, and each but the first has a parent with a lower
 -- number

@@ -1,21 +1,18 @@
 -- What a command writes, by the views of the enclaves.
-use Rattle.std.specs.Prelude.{◌≡◌, ℕ, List, [], ◌++◌, length, take, map, Bool, ◌&&◌, ◌==◌, nat_le, nat_lt, if◌then◌else◌, None, false}
-use Rattle.std.specs.List.{range_with_len}
+use Rattle.std.specs.Prelude.{◌≡◌, ℕ, List, ◌++◌, length, take, Bool, ◌&&◌, nat_le, nat_lt, if◌then◌else◌}
 use Rattle.xm_num.specs.declared.Enclave.{Enclave}
 use Rattle.xm_num.specs.declared.Pid.{Pid}
 use Rattle.xm_num.specs.declared.Vpn.{Vpn}
 use Rattle.xm_num.specs.declared.Want.{Want}
 use Rattle.xm_num.specs.declared.Kind.{Kind}
-use Rattle.xm_num.specs.declared.Kind.TheVariants as kinds
 use Rattle.xm_num.specs.declared.Cause.TheVariants as causes
 use Rattle.xemem_language.specs.declared.command.Command.TheVariants as commands
 use Rattle.xemem_language.specs.declared.line.Line.{Line}
+use Rattle.enclave_rules.specs.Steps.{adopt_lines, alloc_lines, answer_lines, birth_lines, free_from, refusal, route_lines, start_lines, state_lines, touch_answer}
+use Rattle.enclave_rules.specs.View.{host}
+use Rattle.global_model.specs.Due.{command_lines, next_enclave}
 use Rattle.global_model.specs.Facts.{Facts}
-use Rattle.enclave_rules.specs.Blocks.{BlockFact, Free}
-use Rattle.enclave_rules.specs.View.{View, no_host, host}
 use Rattle.global_model.specs.Views.{view_of}
-use Rattle.enclave_rules.specs.Steps.{refusal, birth_lines, adopt_lines, start_lines, alloc_lines, touch_answer, answer_lines, route_lines, state_lines, free_from}
-use Rattle.global_model.specs.Due.{next_enclave, command_lines}
 
 -- the lines of a command at an enclave, where it was born
 abbrev pub at_born : ℕ → Enclave → List Line → List Line

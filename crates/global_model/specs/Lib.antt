@@ -10,6 +10,7 @@ pub mod Facts
 pub mod Journals
 pub mod Views
 pub mod Carriage
+pub mod Plain
 pub mod Channels
 pub mod Space
 pub mod Refusals

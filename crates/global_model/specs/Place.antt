@@ -1,7 +1,7 @@
 -- Where a command that is built may stand.
 use Rattle.std.specs.Prelude.{ℕ, List, Bool}
 use Rattle.xemem_language.specs.declared.command.Command.{Command}
-use Rattle.xemem_language.specs.Place.{may_stand_by, ArePlacedBy}
+use Rattle.xemem_language.specs.Place.{ArePlacedBy, may_stand_by}
 use Rattle.enclave_rules.specs.Built.{is_built}
 
 -- the command is built, and may stand after so many others

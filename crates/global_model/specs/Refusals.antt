@@ -9,10 +9,10 @@ use Rattle.xemem_language.specs.declared.command.Command.TheVariants as commands
 use Rattle.xm_num.specs.declared.Enclave.{Enclave}
 use Rattle.xm_num.specs.declared.Pid.{Pid}
 use Rattle.xm_num.specs.declared.Want.{Want}
-use Rattle.global_model.specs.Facts.{Facts, is_living_enclave, is_living_process}
-use Rattle.global_model.specs.Channels.{was_born, is_neighbour}
-use Rattle.global_model.specs.Space.{Mapping, space_of, unused_frames, free_blocks}
 use Rattle.enclave_rules.specs.Pages.{allows}
+use Rattle.global_model.specs.Channels.{is_neighbour, was_born}
+use Rattle.global_model.specs.Facts.{Facts, is_living_enclave, is_living_process}
+use Rattle.global_model.specs.Space.{Mapping, free_blocks, space_of, unused_frames}
 
 -- one of so many pages from that one on is mapped
 abbrev pub is_taken : Facts → ℕ → ℕ → ℕ → ℕ → Bool

@@ -2,8 +2,8 @@
 use Rattle.std.specs.Prelude.{◌≡◌, ◌≤◌, ℕ, List, [], ◌∷◌, ◌++◌}
 use Rattle.xemem_language.specs.declared.line.Line.{Line}
 use Rattle.xemem_language.specs.declared.line.Line.TheVariants as lines
-use Rattle.global_model.specs.Facts.{Facts}
 use Rattle.global_model.specs.Channels.{waiting_bytes}
+use Rattle.global_model.specs.Facts.{Facts}
 use Rattle.global_model.specs.Journals.{deliveries_in}
 
 -- nothing waits in any channel

@@ -1,5 +1,5 @@
 -- The space of a process, the frames that are mapped, and those that are unused.
-use Rattle.std.specs.Prelude.{◌≡◌, ◌*◌, ◌/◌, ℕ, List, [], ◌∷◌, Bool, true, not, ◌&&◌, ◌==◌, Option, Some, filter, map, false}
+use Rattle.std.specs.Prelude.{◌≡◌, ◌*◌, ◌/◌, ℕ, List, [], ◌∷◌, Bool, true, not, ◌&&◌, ◌==◌, Option, Some, filter, map}
 use Rattle.std.specs.List.{range_with_len, list_any}
 use Rattle.std.specs.Option.{option_map}
 use Rattle.xm_num.specs.declared.Frame.{Frame}
@@ -7,11 +7,9 @@ use Rattle.xm_num.specs.declared.Block.{Block}
 use Rattle.xm_num.specs.declared.Page.{Page}
 use Rattle.xm_num.specs.Rows.{at, put}
 use Rattle.xm_num.specs.declared.Access.{Access}
-use Rattle.xm_num.specs.declared.Access.TheVariants as accesses
-use Rattle.xm_num.specs.declared.Want.{Want}
-use Rattle.xm_num.specs.declared.Want.TheVariants as wants
-use Rattle.global_model.specs.Facts.{Facts, OwnPage, lives, is_living_enclave}
 use Rattle.enclave_rules.specs.Blocks.{is_free, is_lent_to}
+use Rattle.enclave_rules.specs.Pages.{frame_list, own_page}
+use Rattle.global_model.specs.Facts.{Facts, OwnPage, is_living_enclave, lives}
 
 -- what a page is mapped to: a machine frame, and what it may be used for
 pub record Mapping : Type 0 where

@@ -1,11 +1,11 @@
 -- The view of an enclave, by the facts.
-use Rattle.std.specs.Prelude.{◌==◌, ℕ, List, map, filter, false, if◌then◌else◌, Option, None, Some}
+use Rattle.std.specs.Prelude.{◌==◌, ℕ, map, filter, false, if◌then◌else◌, Option, None, Some}
 use Rattle.std.specs.List.{range_with_len}
 use Rattle.xm_num.specs.declared.Enclave.{Enclave}
 use Rattle.xm_num.specs.declared.Kind.{Kind}
-use Rattle.enclave_rules.specs.View.{View, ProcessView, HostView, no_host}
-use Rattle.global_model.specs.Facts.{Facts, ProcessFact, fact_of}
+use Rattle.enclave_rules.specs.View.{HostView, ProcessView, View, no_host}
 use Rattle.global_model.specs.Channels.{is_child_of}
+use Rattle.global_model.specs.Facts.{Facts, ProcessFact, fact_of}
 use Rattle.global_model.specs.Space.{pages_of, unused_frames}
 
 abbrev pub user_of : Option ProcessFact → ProcessFact

@@ -1,34 +1,60 @@
-// Laws of the definitions: each is the contract of a function with an empty body, which a crate above calls to have it.
-ghost use Rattle.std.specs.Prelude.{◌≡◌, ◌≢◌, ◌≤◌, ◌-◌, ℕ, List, [], ◌∷◌, ◌++◌, length, take, drop, Bool, true, nat_lt, if◌then◌else◌, Some, All};
+// Laws of the definitions: each is the contract of a function that does nothing, which a crate above calls to have it.
+ghost use Rattle.std.specs.Prelude.{◌≡◌, ◌≢◌, ◌≤◌, ◌-◌, ℕ, List, [], ◌∷◌, ◌++◌, length, take, drop, Bool, true, false, None, nat_lt, if◌then◌else◌, Some};
 ghost use Rattle.xm_num.specs.declared.Enclave.{Enclave as Enclaves};
+ghost use Rattle.xm_num.specs.declared.Cause.{Cause as Causes};
+ghost use Rattle.xm_num.specs.declared.Cause.TheVariants as causes;
+ghost use Rattle.xemem_language.specs.declared.command.Command.{Command as Commands};
+ghost use Rattle.xemem_language.specs.declared.command.Command.TheVariants as command;
+ghost use Rattle.xemem_language.specs.declared.line.Line.{Line as JournalLine};
 ghost use Rattle.xemem_language.specs.declared.record.Record.{Record as WireRecord};
 ghost use Rattle.xemem_wire.specs.Spelling.{spellings_of};
-ghost use Rattle.xemem_language.specs.declared.command.Command.{Command as Commands};
-ghost use Rattle.xemem_language.specs.declared.line.Line.{Line as JournalLine};
-ghost use Rattle.xm_num.specs.Rows.{at};
+ghost use Rattle.enclave_rules.specs.View.{View, own_lines, seen_lines, unborn_view, AreOf};
+ghost use Rattle.enclave_rules.specs.Steps.{refusal, host_lines, first_blocks, lines_of_records};
 ghost use Rattle.global_model.specs.Place.{IsPlaced};
-ghost use Rattle.xemem_language.specs.Ranges.{IsSpelled};
 ghost use Rattle.global_model.specs.Facts.{Facts, after_lines, facts_at, facts_after, is_living_enclave};
 ghost use Rattle.global_model.specs.Channels.{whole_records};
-ghost use Rattle.xm_num.specs.declared.Cause.TheVariants as causes;
-ghost use Rattle.xemem_language.specs.declared.command.Command.TheVariants as command;
-ghost use Rattle.enclave_rules.specs.View.{View, own_lines, seen_lines, unborn_view};
 ghost use Rattle.global_model.specs.Views.{view_of};
-ghost use Rattle.enclave_rules.specs.Steps.{refusal, host_lines, first_blocks, lines_of_records};
 ghost use Rattle.global_model.specs.Known.{IsAnswered};
-ghost use Rattle.global_model.specs.Due.{got_lines, deliver_lines, next_rest, first_waiting, command_lines, journal_of, step_lines};
+ghost use Rattle.global_model.specs.Due.{got_lines, deliver_lines, next_rest, first_waiting, acts_of, command_lines, journal_of, step_lines};
+ghost use Rattle.global_model.specs.Refusals.{Condition, when, first_cause};
+ghost use Rattle.global_model.specs.Plain.{ArePlain, AreActs, IsQuiet, IsBirth};
 ghost use Rattle.global_model.specs.Flow.{IsFlowing};
-ghost use Rattle.global_model.specs.Journals.{do_commands};
+ghost use Rattle.global_model.specs.Journals.{do_commands, onto};
 ghost use Rattle.global_model.specs.Carriage.{IsCarried};
-ghost use Rattle.history_laws.specs.History.{IsLegal, IsTold, IsWhole};
 ghost use Rattle.global_model.specs.Rest.{EndsSettle};
-ghost use Rattle.history_laws.specs.Ways.{way_heard, back_heard, route_heard};
+
+use xm_num::Page;
+use xm_num::laws::rows;
 
 /// The journal of one command more goes on by that command's lines, and the facts after it by what they change.
 pub fn journals_grow()
     ensures journal { (commands : List Commands) (command : Commands)
         → journal_of (commands ++ command ∷ []) ≡ journal_of commands ++ step_lines (facts_after (journal_of commands)) command }
     ensures facts { (journal lines : List JournalLine) → facts_after (journal ++ lines) ≡ after_lines (facts_after journal) lines }
+    ensures commands { (commands : List Commands) → do_commands (journal_of commands) ≡ commands }
+{}
+
+/// What is read off the lines of a journal in turn: its past, the facts after them, and the commands of its `do` lines.
+pub fn pasts_grow()
+    ensures onto { (journal lines past : List JournalLine) → onto (journal ++ lines) past ≡ onto lines (onto journal past) }
+    ensures facts { (journal past : List JournalLine) → facts_at (onto journal past) ≡ after_lines (facts_at past) journal }
+    ensures after { (G : Facts) (journal lines : List JournalLine)
+        → after_lines G (journal ++ lines) ≡ after_lines (after_lines G journal) lines }
+    ensures commands { (journal lines : List JournalLine) → do_commands (journal ++ lines) ≡ do_commands journal ++ do_commands lines }
+{}
+
+/// No line of a command behind its `do` line begins another. But for births, allocations, touches and refusals they leave
+/// blocks and own pages alone, and so does what follows a birth.
+pub fn acts_are_plain()
+    ensures acts { (G : Facts) (command : Commands) → AreActs (command_lines G command) }
+    ensures quiet { (G : Facts) (command : Commands) → IsQuiet command → ArePlain (acts_of G command) }
+    ensures behind { (G : Facts) (command : Commands) → IsBirth command → ArePlain (drop 1 (acts_of G command)) }
+{}
+
+/// A command that isn't refused meets none of its conditions.
+pub fn refusals_come_first()
+    ensures { (cause : Causes) (holds : Bool) (others : List Condition) → first_cause (when cause holds ∷ others) ≡ None
+        → (holds ≡ false) × (first_cause others ≡ None) }
 {}
 
 /// The journal of commands, each of which may stand after those before it, is carried. Wherever a command has ended the
@@ -54,6 +80,7 @@ pub fn whole_records_stay()
 pub fn view_step()
     ensures records { (G : Facts) (x y : Enclaves) (rs : List WireRecord) → is_living_enclave (G.enclave y.0) ≡ true
         → got_lines G x y rs ≡ lines_of_records (view_of G y) x rs }
+    ensures at { (v : View) (x : Enclaves) (rs : List WireRecord) → AreOf v.me (lines_of_records v x rs) }
     ensures own { (v : View) (x : Enclaves) (rs : List WireRecord)
         → seen_lines v (lines_of_records v x rs) ≡ own_lines v (lines_of_records v x rs) }
     ensures others { (v w : View) (x : Enclaves) (rs : List WireRecord) → w.me.0 ≢ v.me.0
@@ -66,7 +93,9 @@ pub fn views_answer()
     ensures host { (pool blocks : ℕ) (ns : Bool)
         → command_lines (facts_after (journal_of (command.Pool pool ∷ []))) (command.Host blocks ns)
         ≡ (if nat_lt pool blocks then refusal causes.NoBlocks else host_lines (first_blocks blocks) ns) }
-{}
+{
+    rows::<Page>();
+}
 
 /// An enclave that isn't born knows nothing. What the lines of a command change in the view of a living enclave is what those of
 /// them change that are at it, each by the view and itself alone; a line elsewhere leaves the view as it is.

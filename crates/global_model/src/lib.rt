@@ -1,14 +1,14 @@
 //! The facts of the machine after a journal, the line that is due, and what holds of channels.
 //!
-//! Each law is the contract of a function with an empty body, which a crate above calls to have it. The types, functions and
+//! Each law is the contract of a function that does nothing, which a crate above calls to have it. The types, functions and
 //! definitions of the language and of the rules of an enclave are given again.
 #![tactic(auto)]
 
 mod laws;
 
 pub use laws::{
-    journals_are_carried, journals_grow, settles_deliver, view_step, views_answer, views_follow,
-    whole_records_stay,
+    acts_are_plain, journals_are_carried, journals_grow, pasts_grow, refusals_come_first,
+    settles_deliver, view_step, views_answer, views_follow, whole_records_stay,
 };
 pub use xemem_language::{
     Body, ByteList, Call, Command, Line, Lines, Record, Show, word_count, words,

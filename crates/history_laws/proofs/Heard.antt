@@ -4,7 +4,7 @@ use Rattle.std.proofs.lemmas.Bool.{eqb-true}
 use Rattle.std.proofs.lemmas.Bool.Decides.{nat_tests}
 use Rattle.xm_num.specs.declared.Enclave.{Enclave}
 use Rattle.xm_num.specs.Rows.{at, put}
-use Rattle.xm_num.proofs.RowLemmas.{at_put}
+use Rattle.history_laws.specs.Laws.{Laws}
 use Rattle.xemem_language.specs.declared.command.Command.TheVariants as commands
 use Rattle.xemem_language.specs.declared.line.Line.{Line}
 use Rattle.xemem_language.specs.declared.line.Line.TheVariants as lines
@@ -15,13 +15,13 @@ turned : (a b : ℕ) → eqb a b ≡ eqb b a
 turned a b = grind (arith, nat_tests)
 
 -- what is found in the rows of an enclave once a row is put in those of one
-found_after : (rows : ℕ → List (ℕ × Enclave)) (of to : ℕ) (over : Enclave) (e d : ℕ)
+found_after : Laws → (rows : ℕ → List (ℕ × Enclave)) (of to : ℕ) (over : Enclave) (e d : ℕ)
     → at (at_number of (put (rows of) to over) rows e) d ≡ cond (eqb e of && eqb d to) (Some over) (at (rows e) d)
-found_after rows of to over e d = by (eqb e of) refl
+found_after laws rows of to over e d = by (eqb e of) refl
   where
     by : (b : Bool) → eqb e of ≡ b → at (cond b (put (rows of) to over) (rows e)) d ≡ cond (b && eqb d to) (Some over) (at (rows e) d)
     by true is =
-        at_put (rows of) to d over
+        laws.row.ways (rows of) to d over
         ∙ ap (λ t. cond t (Some over) (at (rows of) d)) (turned to d)
         ∙ ap (λ n. cond (eqb d to) (Some over) (at (rows n) d)) (sym (eqb-true e of is))
     by false is = refl
@@ -32,20 +32,20 @@ way_is_heard e (lines.Way of over ∷ past) = ap (λ way. cond (eqb e of.0) (Som
 way_is_heard e (lines.Do (commands.Pool blocks) ∷ past) = way_is_heard e past
 way_is_heard e (_ ∷ past) = way_is_heard e past
 
-pub back_is_heard : (e d : ℕ) (past : List Line) → at ((facts_at past).backs e) d ≡ back_heard e d past
+pub back_is_heard : Laws → (e d : ℕ) (past : List Line) → at ((facts_at past).backs e) d ≡ back_heard e d past
 unfolding at
-back_is_heard e d [] = refl
-back_is_heard e d (lines.Back of to over ∷ past) =
-    found_after (facts_at past).backs of.0 to.0 over e d
-    ∙ ap (λ found. cond (eqb e of.0 && eqb d to.0) (Some over) found) (back_is_heard e d past)
-back_is_heard e d (lines.Do (commands.Pool blocks) ∷ past) = back_is_heard e d past
-back_is_heard e d (_ ∷ past) = back_is_heard e d past
+back_is_heard laws e d [] = refl
+back_is_heard laws e d (lines.Back of to over ∷ past) =
+    found_after laws (facts_at past).backs of.0 to.0 over e d
+    ∙ ap (λ found. cond (eqb e of.0 && eqb d to.0) (Some over) found) (back_is_heard laws e d past)
+back_is_heard laws e d (lines.Do (commands.Pool blocks) ∷ past) = back_is_heard laws e d past
+back_is_heard laws e d (_ ∷ past) = back_is_heard laws e d past
 
-pub route_is_heard : (e d : ℕ) (past : List Line) → at ((facts_at past).routes e) d ≡ route_heard e d past
+pub route_is_heard : Laws → (e d : ℕ) (past : List Line) → at ((facts_at past).routes e) d ≡ route_heard e d past
 unfolding at
-route_is_heard e d [] = refl
-route_is_heard e d (lines.Route of to over ∷ past) =
-    found_after (facts_at past).routes of.0 to.0 over e d
-    ∙ ap (λ found. cond (eqb e of.0 && eqb d to.0) (Some over) found) (route_is_heard e d past)
-route_is_heard e d (lines.Do (commands.Pool blocks) ∷ past) = route_is_heard e d past
-route_is_heard e d (_ ∷ past) = route_is_heard e d past
+route_is_heard laws e d [] = refl
+route_is_heard laws e d (lines.Route of to over ∷ past) =
+    found_after laws (facts_at past).routes of.0 to.0 over e d
+    ∙ ap (λ found. cond (eqb e of.0 && eqb d to.0) (Some over) found) (route_is_heard laws e d past)
+route_is_heard laws e d (lines.Do (commands.Pool blocks) ∷ past) = route_is_heard laws e d past
+route_is_heard laws e d (_ ∷ past) = route_is_heard laws e d past

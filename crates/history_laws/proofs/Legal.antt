@@ -5,6 +5,7 @@ use Rattle.std.specs.Option.{option_map, option_map_or}
 use Rattle.std.proofs.lemmas.Bool.{eqb-true, eq-eqb, and_parts}
 use Rattle.std.proofs.lemmas.List.{take_min, length-take}
 use Rattle.std.proofs.lemmas.List.Elements.{All-nil, All-cons, All-head, All-tail, All-weaker, All-map, All-take, All-filter, filter_passes, All-append}
+use Rattle.std.specs.Prelude.{is_none}
 use Rattle.xm_num.specs.declared.Enclave.{Enclave}
 use Rattle.xm_num.specs.declared.Pid.{Pid}
 use Rattle.xm_num.specs.declared.Vpn.{Vpn}
@@ -12,30 +13,30 @@ use Rattle.xm_num.specs.declared.Frame.{Frame}
 use Rattle.xm_num.specs.declared.Block.{Block}
 use Rattle.xm_num.specs.declared.Want.{Want}
 use Rattle.xm_num.specs.declared.Cause.{Cause}
+use Rattle.xm_num.specs.declared.Cause.TheVariants as causes
 use Rattle.xm_num.specs.declared.Kind.{Kind}
 use Rattle.xm_num.specs.declared.Kind.TheVariants as kinds
 use Rattle.xm_num.specs.declared.Access.{Access}
 use Rattle.xm_num.specs.declared.Page.{Page}
 use Rattle.xm_num.specs.Rows.{at, put}
-use Rattle.xm_num.proofs.RowLemmas.{at_put}
 use Rattle.xemem_language.specs.declared.command.Command.{Command}
 use Rattle.xemem_language.specs.declared.command.Command.TheVariants as commands
 use Rattle.xemem_language.specs.declared.line.Line.{Line}
 use Rattle.xemem_language.specs.declared.line.Line.TheVariants as lines
-use Rattle.global_model.specs.Facts.{Facts, OwnPage, after_line, after_lines, facts_at, no_facts, own_from, with_lent}
+use Rattle.global_model.specs.Facts.{Facts, OwnPage, after_line, after_lines, facts_at, no_facts, own_from, with_lent, is_living_enclave, is_living_process}
 use Rattle.enclave_rules.specs.Blocks.{BlockFact, Absent, Free, Lent, Held, is_listed, is_free, is_lent_to}
 use Rattle.global_model.specs.Space.{Mapping, IsUnmapped, is_of, with_own, pages_of, mapping_of, space_of, is_own_frame, is_unused, unused_frames, free_blocks}
-use Rattle.enclave_rules.specs.Pages.{own_page, block_frames}
+use Rattle.enclave_rules.specs.Pages.{own_page, block_frames, allows}
 use Rattle.global_model.specs.Views.{view_of}
 use Rattle.enclave_rules.specs.View.{host}
-use Rattle.global_model.specs.Refusals.{refusal_of}
+use Rattle.global_model.specs.Refusals.{when, denies, refusal_of}
 use Rattle.global_model.specs.Place.{may_stand, IsPlacedAfter}
 use Rattle.global_model.specs.Due.{next_enclave, touched_lines, acts_of, step_lines, journal_from}
 use Rattle.history_laws.specs.Lawful.{LawfulRefusal, IsLegalAt, cause_of}
 use Rattle.global_model.specs.Journals.{Follows, onto}
-use Rattle.global_model.proofs.Plain.{IsPlain, ArePlain, plain_host, plain_deliver, plain_settle, plain_routes, plain_show, plain_birth, plain_pool}
-use Rattle.global_model.proofs.Refused.{touch_allowed}
-use Rattle.global_model.proofs.Pasts.{facts_at-onto, Follows-append}
+use Rattle.global_model.specs.Plain.{IsPlain, ArePlain}
+use Rattle.history_laws.specs.Laws.{Laws}
+use Rattle.history_laws.proofs.Follow.{Follows-append}
 
 -- ---- lists
 
@@ -70,20 +71,20 @@ record IsBehind (P : OwnPage → Type 0) (page : Page) : Type 0 where
   has : P own
   is : own_page own.frame ≡ page
 
-behind_row : (P : OwnPage → Type 0) (owns : List OwnPage) (rows : List (ℕ × Page)) (k : ℕ) (page : Page) → All P owns
+behind_row : Laws → (P : OwnPage → Type 0) (owns : List OwnPage) (rows : List (ℕ × Page)) (k : ℕ) (page : Page) → All P owns
     → (at rows k ≡ Some page → IsBehind P page) → at (with_own rows owns) k ≡ Some page → IsBehind P page
-behind_row P [] rows k page all before is = before is
-behind_row P (own ∷ owns) rows k page all before is =
-    behind_row P owns (put rows own.page (own_page own.frame)) k page (All-tail P own owns all) (λ e. by (eqb own.page k) (sym (at_put rows own.page k (own_page own.frame)) ∙ e)) is
+behind_row laws P [] rows k page all before is = before is
+behind_row laws P (own ∷ owns) rows k page all before is =
+    behind_row laws P owns (put rows own.page (own_page own.frame)) k page (All-tail P own owns all) (λ e. by (eqb own.page k) (sym (laws.row.pages rows own.page k (own_page own.frame)) ∙ e)) is
   where
     by : (b : Bool) → cond b (Some (own_page own.frame)) (at rows k) ≡ Some page → IsBehind P page
     by true e = let same : own_page own.frame ≡ page = cc in record { own = own; has = All-head P own owns all; is = same }
     by false e = before e
 
-behind_page : (P : OwnPage → Type 0) (owns : List OwnPage) (k : ℕ) (page : Page) → All P owns → at (with_own [] owns) k ≡ Some page
+behind_page : Laws → (P : OwnPage → Type 0) (owns : List OwnPage) (k : ℕ) (page : Page) → All P owns → at (with_own [] owns) k ≡ Some page
     → IsBehind P page
 unfolding at
-behind_page P owns k page all is = behind_row P owns [] k page all (λ none. cc) is
+behind_page laws P owns k page all is = behind_row laws P owns [] k page all (λ none. cc) is
 
 -- the own page behind a mapping
 pub record Behind (G : Facts) (frame : Frame) : Type 0 where
@@ -98,9 +99,9 @@ IsKept G own = IsOwned G own × ((r : OwnPage → Bool) → r own ≡ true → l
 all_kept : (G : Facts) → IsSound G → All (IsKept G) G.own
 all_kept G sound = λ k d lt. (sound.owned k d lt, all_listed G.own k d lt)
 
-behind_found : (G : Facts) → IsSound G → (e p page : ℕ) (frame : Frame) (access : Access)
+behind_found : Laws → (G : Facts) → IsSound G → (e p page : ℕ) (frame : Frame) (access : Access)
     → space_of G e p page ≡ Some (record { frame = frame; access = access }) → Behind G frame
-behind_found G sound e p page frame access is = by (at (pages_of G e p) page) refl is
+behind_found laws G sound e p page frame access is = by (at (pages_of G e p) page) refl is
   where
     the_frame : (m n : Mapping) → Some m ≡ Some n → m.frame ≡ n.frame
     the_frame m n same = let inner : m ≡ n = cc in ap (λ x. x.frame) inner
@@ -109,7 +110,7 @@ behind_found G sound e p page frame access is = by (at (pages_of G e p) page) re
         → Behind G frame
     by None found same = cc
     by (Some row) found same =
-        let b = behind_page (IsKept G) (filter (is_of e p) G.own) page row (All-filter (is_of e p) (IsKept G) G.own (all_kept G sound)) found in
+        let b = behind_page laws (IsKept G) (filter (is_of e p) G.own) page row (All-filter (is_of e p) (IsKept G) G.own (all_kept G sound)) found in
         let row_frame : row.frame ≡ frame = the_frame (mapping_of row) (record { frame = frame; access = access }) same in
         record { own = b.own; owned = b.has.0; frame_is = ap (λ x. x.frame) b.is ∙ row_frame; listed = b.has.1 }
 
@@ -127,9 +128,9 @@ free_is (Held o) h = cc
 
 -- ---- unused frames are unmapped, and so are those of free blocks
 
-unused_unmapped : (G : Facts) → IsSound G → (e : ℕ) (frame : Frame) → is_unused G e frame.0 ≡ true → IsUnmapped G frame
-unused_unmapped G sound e frame unused mapped =
-    let b = behind_found G sound mapped.enclave mapped.pid mapped.page frame mapped.access mapped.mapped in
+unused_unmapped : Laws → (G : Facts) → IsSound G → (e : ℕ) (frame : Frame) → is_unused G e frame.0 ≡ true → IsUnmapped G frame
+unused_unmapped laws G sound e frame unused mapped =
+    let b = behind_found laws G sound mapped.enclave mapped.pid mapped.page frame mapped.access mapped.mapped in
     let tests = and_parts _ _ unused in
     let first = and_parts _ _ tests.0 in
     let lent : G.block (frame.0 / 64) ≡ Lent e = lent_is e _ first.1 in
@@ -148,9 +149,9 @@ unused_unmapped G sound e frame unused mapped =
     clash true a c = cc
     clash false a c = cc
 
-free_unmapped : (G : Facts) → IsSound G → (frame : Frame) → is_free (G.block (frame.0 / 64)) ≡ true → IsUnmapped G frame
-free_unmapped G sound frame free mapped =
-    let b = behind_found G sound mapped.enclave mapped.pid mapped.page frame mapped.access mapped.mapped in
+free_unmapped : Laws → (G : Facts) → IsSound G → (frame : Frame) → is_free (G.block (frame.0 / 64)) ≡ true → IsUnmapped G frame
+free_unmapped laws G sound frame free mapped =
+    let b = behind_found laws G sound mapped.enclave mapped.pid mapped.page frame mapped.access mapped.mapped in
     let number : b.own.frame.0 ≡ frame.0 = ap (λ f. f.0) b.frame_is in
     let states : Lent b.own.enclave.0 ≡ Free = sym b.owned ∙ ap (λ n. G.block (n / 64)) number ∙ free_is _ free in
     cc
@@ -191,8 +192,8 @@ frame_of_block b n low high = omega arith
 frames_of_block : (b : Block) → All (λ f. f.0 / 64 ≡ b.0) (block_frames b)
 frames_of_block b = All-map (λ (f : Frame). f.0 / 64 ≡ b.0) (λ n. record { 0 = n }) (range_with_len (64 * b.0) 64) (All-weaker (λ n. (64 * b.0 ≤ n) × (n < 64 * b.0 + 64)) (λ n. n / 64 ≡ b.0) (λ n h. frame_of_block b.0 n h.0 h.1) (range_with_len (64 * b.0) 64) (All-range (64 * b.0) 64))
 
-block_unmapped : (G : Facts) → IsSound G → (b : Block) → is_free (G.block b.0) ≡ true → All (IsUnmapped G) (block_frames b)
-block_unmapped G sound b free = All-weaker (λ f. f.0 / 64 ≡ b.0) (IsUnmapped G) (λ f at. free_unmapped G sound f (ap (λ n. is_free (G.block n)) at ∙ free)) (block_frames b) (frames_of_block b)
+block_unmapped : Laws → (G : Facts) → IsSound G → (b : Block) → is_free (G.block b.0) ≡ true → All (IsUnmapped G) (block_frames b)
+block_unmapped laws G sound b free = All-weaker (λ f. f.0 / 64 ≡ b.0) (IsUnmapped G) (λ f at. free_unmapped laws G sound f (ap (λ n. is_free (G.block n)) at ∙ free)) (block_frames b) (frames_of_block b)
 
 -- ---- what is kept stays kept
 
@@ -287,39 +288,39 @@ record IsLendable (G : Facts) (e : Enclave) (drawn : List Block) : Type 0 where
   unmapped : All (λ b. All (IsUnmapped G) (block_frames b)) drawn
   stays : All (λ own. with_lent drawn e G.block (own.frame.0 / 64) ≡ Lent own.enclave.0) G.own
 
-lendable : (G : Facts) → IsSound G → (e : Enclave) (blocks : ℕ) → IsLendable G e (take blocks (free_blocks G))
-lendable G sound e blocks =
+lendable : Laws → (G : Facts) → IsSound G → (e : Enclave) (blocks : ℕ) → IsLendable G e (take blocks (free_blocks G))
+lendable laws G sound e blocks =
     let drawn = take blocks (free_blocks G) in
     let free : All (λ b. is_free (G.block b.0) ≡ true) drawn = All-take (λ (b : Block). is_free (G.block b.0) ≡ true) blocks (free_blocks G) (blocks_free G) in
     record {
       lowest = take-length-take blocks (free_blocks G);
-      unmapped = All-weaker (λ b. is_free (G.block b.0) ≡ true) (λ b. All (IsUnmapped G) (block_frames b)) (block_unmapped G sound) drawn free;
+      unmapped = All-weaker (λ b. is_free (G.block b.0) ≡ true) (λ b. All (IsUnmapped G) (block_frames b)) (block_unmapped laws G sound) drawn free;
       stays = All-weaker (IsOwned G) (λ own. with_lent drawn e G.block (own.frame.0 / 64) ≡ Lent own.enclave.0) (λ own owned. lent_stays G drawn e own free owned) G.own sound.owned;
     }
 
 -- an enclave is born of a command that isn't refused, and plain lines follow
-legal_born : (c : Command) (past : List Line) (e : Enclave) (kind : Kind) (parent : Enclave) (ns : Bool) (blocks : ℕ) (more : List Line)
+legal_born : Laws → (c : Command) (past : List Line) (e : Enclave) (kind : Kind) (parent : Enclave) (ns : Bool) (blocks : ℕ) (more : List Line)
     → IsSound (facts_at (lines.Do c ∷ past)) → refusal_of (facts_at past) c ≡ None → facts_at (lines.Do c ∷ past) ≡ facts_at past → ArePlain more
     → IsLegalUpTo (lines.Do c ∷ past) (lines.Born e kind parent ns (take blocks (free_blocks (facts_at past))) ∷ more)
-legal_born c past e kind parent ns blocks more sound none same plain =
+legal_born laws c past e kind parent ns blocks more sound none same plain =
     let G = facts_at (lines.Do c ∷ past) in
     let drawn = take blocks (free_blocks (facts_at past)) in
-    let lent : IsLendable G e drawn = subst (λ H. IsLendable G e (take blocks (free_blocks H))) same (lendable G sound e blocks) in
+    let lent : IsLendable G e drawn = subst (λ H. IsLendable G e (take blocks (free_blocks H))) same (lendable laws G sound e blocks) in
     let after = lines.Born e kind parent ns drawn ∷ lines.Do c ∷ past in
     let rest = legal_plain more after (record { owned = lent.stays }) (λ line h. h) plain in
     record { legal = (record { lending = (lent.lowest, lent.unmapped); act = tt; refusal = sym none }, rest.legal); sound = rest.sound; closed = rest.closed }
 
-legal_host : (blocks : ℕ) (ns : Bool) (past : List Line) → IsSound (facts_at past) → IsClosed past
+legal_host : Laws → (blocks : ℕ) (ns : Bool) (past : List Line) → IsSound (facts_at past) → IsClosed past
     → IsLegalUpTo past (step_lines (facts_at past) (commands.Host blocks ns))
-legal_host blocks ns past sound closed =
-    with_refusal (commands.Host blocks ns) past closed sound (λ none. legal_born (commands.Host blocks ns) past host kinds.Host host ns blocks _ sound none refl (plain_host ns))
+legal_host laws blocks ns past sound closed =
+    with_refusal (commands.Host blocks ns) past closed sound (λ none. legal_born laws (commands.Host blocks ns) past host kinds.Host host ns blocks _ sound none refl (laws.act.behind (facts_at past) (commands.Host blocks ns) tt))
 
-legal_boot : (kind : Kind) (parent : Enclave) (blocks : ℕ) (ns : Bool) (past : List Line) → IsSound (facts_at past) → IsClosed past
+legal_boot : Laws → (kind : Kind) (parent : Enclave) (blocks : ℕ) (ns : Bool) (past : List Line) → IsSound (facts_at past) → IsClosed past
     → IsLegalUpTo past (step_lines (facts_at past) (commands.Boot kind parent blocks ns))
-legal_boot kind parent blocks ns past sound closed =
+legal_boot laws kind parent blocks ns past sound closed =
     let child = next_enclave (facts_at past) in
     with_refusal (commands.Boot kind parent blocks ns) past closed sound
-    (λ none. legal_born (commands.Boot kind parent blocks ns) past child kind parent ns blocks _ sound none refl (plain_birth child parent ns ((facts_at past).heard parent.0) (view_of (facts_at past) parent)))
+    (λ none. legal_born laws (commands.Boot kind parent blocks ns) past child kind parent ns blocks _ sound none refl (laws.act.behind (facts_at past) (commands.Boot kind parent blocks ns) tt))
 
 -- a command that changes no facts, and whose acts are plain
 legal_quiet : (c : Command) (past : List Line) → facts_at (lines.Do c ∷ past) ≡ facts_at past
@@ -328,22 +329,40 @@ legal_quiet c past same sound closed plain =
     let after = subst IsSound (sym same) sound in
     with_refusal c past closed after (λ none. legal_plain (acts_of (facts_at past) c) (lines.Do c ∷ past) after (λ line h. h ∙ sym none) plain)
 
-legal_alloc : (e : Enclave) (p : Pid) (at : Vpn) (pages : ℕ) (past : List Line) → IsSound (facts_at past) → IsClosed past
+legal_alloc : Laws → (e : Enclave) (p : Pid) (at : Vpn) (pages : ℕ) (past : List Line) → IsSound (facts_at past) → IsClosed past
     → IsLegalUpTo past (step_lines (facts_at past) (commands.Alloc e p at pages))
-legal_alloc e p at pages past sound closed =
+legal_alloc laws e p at pages past sound closed =
     let G = facts_at past in
     let drawn = take pages (unused_frames G e.0) in
     let unused : All (λ f. is_unused G e.0 f.0 ≡ true) drawn = All-take (λ (f : Frame). is_unused G e.0 f.0 ≡ true) pages (unused_frames G e.0) (frames_unused G e.0) in
     let lent : All (λ f. G.block (f.0 / 64) ≡ Lent e.0) drawn = All-weaker (λ f. is_unused G e.0 f.0 ≡ true) (λ f. G.block (f.0 / 64) ≡ Lent e.0) (unused_lent G e.0) drawn unused in
     with_refusal (commands.Alloc e p at pages) past closed sound (λ none. record {
-      legal = (record { lending = (take-length-take pages (unused_frames G e.0), All-weaker (λ f. is_unused G e.0 f.0 ≡ true) (IsUnmapped G) (unused_unmapped G sound e.0) drawn unused); act = tt; refusal = sym none }, tt);
+      legal = (record { lending = (take-length-take pages (unused_frames G e.0), All-weaker (λ f. is_unused G e.0 f.0 ≡ true) (IsUnmapped G) (unused_unmapped laws G sound e.0) drawn unused); act = tt; refusal = sym none }, tt);
       sound = record { owned = All-append (IsOwned G) G.own (own_from e p at.0 drawn) sound.owned (own_from-owned G e p at.0 drawn lent) };
       closed = λ line h. h;
     })
 
-legal_touch : (e : Enclave) (p : Pid) (addr : ℕ) (want : Want) (past : List Line) → IsSound (facts_at past) → IsClosed past
+not_false : (b : Bool) → not b ≡ false → b ≡ true
+not_false true is = refl
+not_false false is = cc
+
+-- the mapping of a touched page allows what was wanted
+touch_allowed : Laws → (G : Facts) (e : Enclave) (p : Pid) (addr : ℕ) (want : Want) (m : Mapping)
+    → refusal_of G (commands.Touch e p addr want) ≡ None → space_of G e.0 p.0 (addr / 4096) ≡ Some m → allows m.access want ≡ true
+touch_allowed laws G e p addr want m none is =
+    let found = space_of G e.0 p.0 (addr / 4096) in
+    let fourth = when causes.Denied (denies want found) ∷ [] in
+    let third = when causes.NotMapped (is_none found) ∷ fourth in
+    let second = when causes.NoProcess (not (is_living_process (G.process e.0 p.0))) ∷ third in
+    let one = laws.act.unmet causes.NoEnclave (not (is_living_enclave (G.enclave e.0))) second none in
+    let two = laws.act.unmet causes.NoProcess (not (is_living_process (G.process e.0 p.0))) third one.1 in
+    let three = laws.act.unmet causes.NotMapped (is_none found) fourth two.1 in
+    let four = laws.act.unmet causes.Denied (denies want found) [] three.1 in
+    not_false (allows m.access want) (ap (denies want) (sym is) ∙ four.0)
+
+legal_touch : Laws → (e : Enclave) (p : Pid) (addr : ℕ) (want : Want) (past : List Line) → IsSound (facts_at past) → IsClosed past
     → IsLegalUpTo past (step_lines (facts_at past) (commands.Touch e p addr want))
-legal_touch e p addr want past sound closed =
+legal_touch laws e p addr want past sound closed =
     with_refusal (commands.Touch e p addr want) past closed sound (λ none. by none (space_of (facts_at past) e.0 p.0 (addr / 4096)) refl)
   where
     by : refusal_of (facts_at past) (commands.Touch e p addr want) ≡ None → (o : Option Mapping)
@@ -351,7 +370,7 @@ legal_touch e p addr want past sound closed =
         → IsLegalUpTo (lines.Do (commands.Touch e p addr want) ∷ past) (touched_lines e p (record { 0 = addr / 4096 }) o)
     by none None is = record { legal = tt; sound = sound; closed = λ line h. h ∙ sym none }
     by none (Some m) is = record {
-      legal = (record { lending = tt; act = (m.access, is, touch_allowed (facts_at past) e p addr want m none is); refusal = sym none }, tt);
+      legal = (record { lending = tt; act = (m.access, is, touch_allowed laws (facts_at past) e p addr want m none is); refusal = sym none }, tt);
       sound = record { owned = sound.owned };
       closed = λ line h. h;
     }
@@ -363,36 +382,36 @@ pub record IsReady (before : ℕ) (past : List Line) : Type 0 where
   pub closed : IsClosed past
   pub fresh : before ≡ 0 → (facts_at past).own ≡ []
 
-legal_step : (before : ℕ) (c : Command) (past : List Line) → IsReady before past → may_stand before c ≡ true
+legal_step : Laws → (before : ℕ) (c : Command) (past : List Line) → IsReady before past → may_stand before c ≡ true
     → IsLegalUpTo past (step_lines (facts_at past) c)
-legal_step before (commands.Pool blocks) past ready may = legal_pool blocks past (ready.fresh (eqb-true before 0 (and_parts _ _ may).0)) ready.closed
-legal_step before (commands.Host blocks ns) past ready may = legal_host blocks ns past ready.sound ready.closed
-legal_step before (commands.Boot kind parent blocks ns) past ready may = legal_boot kind parent blocks ns past ready.sound ready.closed
-legal_step before (commands.Alloc e p at pages) past ready may = legal_alloc e p at pages past ready.sound ready.closed
-legal_step before (commands.Touch e p addr want) past ready may = legal_touch e p addr want past ready.sound ready.closed
-legal_step before (commands.Proc e uid gid) past ready may =
+legal_step laws before (commands.Pool blocks) past ready may = legal_pool blocks past (ready.fresh (eqb-true before 0 (and_parts _ _ may).0)) ready.closed
+legal_step laws before (commands.Host blocks ns) past ready may = legal_host laws blocks ns past ready.sound ready.closed
+legal_step laws before (commands.Boot kind parent blocks ns) past ready may = legal_boot laws kind parent blocks ns past ready.sound ready.closed
+legal_step laws before (commands.Alloc e p at pages) past ready may = legal_alloc laws e p at pages past ready.sound ready.closed
+legal_step laws before (commands.Touch e p addr want) past ready may = legal_touch laws e p addr want past ready.sound ready.closed
+legal_step laws before (commands.Proc e uid gid) past ready may =
     legal_quiet (commands.Proc e uid gid) past refl ready.sound ready.closed (tt, tt)
-legal_step before (commands.Deliver x y count) past ready may =
-    legal_quiet (commands.Deliver x y count) past refl ready.sound ready.closed (plain_deliver (facts_at past) x y count)
-legal_step before (commands.Settle most) past ready may =
-    legal_quiet (commands.Settle most) past refl ready.sound ready.closed (plain_settle most 0 (facts_at past))
-legal_step before (commands.ShowRoutes e) past ready may =
-    legal_quiet (commands.ShowRoutes e) past refl ready.sound ready.closed (plain_routes (view_of (facts_at past) e))
-legal_step before (commands.ShowLink x y) past ready may =
-    legal_quiet (commands.ShowLink x y) past refl ready.sound ready.closed (plain_show (facts_at past) x y)
-legal_step before commands.ShowPool past ready may =
-    legal_quiet commands.ShowPool past refl ready.sound ready.closed (plain_pool (facts_at past))
-legal_step before c past ready may = legal_quiet c past refl ready.sound ready.closed tt
+legal_step laws before (commands.Deliver x y count) past ready may =
+    legal_quiet (commands.Deliver x y count) past refl ready.sound ready.closed (laws.act.quiet (facts_at past) (commands.Deliver x y count) tt)
+legal_step laws before (commands.Settle most) past ready may =
+    legal_quiet (commands.Settle most) past refl ready.sound ready.closed (laws.act.quiet (facts_at past) (commands.Settle most) tt)
+legal_step laws before (commands.ShowRoutes e) past ready may =
+    legal_quiet (commands.ShowRoutes e) past refl ready.sound ready.closed (laws.act.quiet (facts_at past) (commands.ShowRoutes e) tt)
+legal_step laws before (commands.ShowLink x y) past ready may =
+    legal_quiet (commands.ShowLink x y) past refl ready.sound ready.closed (laws.act.quiet (facts_at past) (commands.ShowLink x y) tt)
+legal_step laws before commands.ShowPool past ready may =
+    legal_quiet commands.ShowPool past refl ready.sound ready.closed (laws.act.quiet (facts_at past) commands.ShowPool tt)
+legal_step laws before c past ready may = legal_quiet c past refl ready.sound ready.closed tt
 
-legal_journal : (cs : List Command) (before : ℕ) (G : Facts) (past : List Line) → G ≡ facts_at past → IsReady before past
+legal_journal : Laws → (cs : List Command) (before : ℕ) (G : Facts) (past : List Line) → G ≡ facts_at past → IsReady before past
     → IsPlacedAfter before cs → Follows IsLegalAt past (journal_from G cs)
-legal_journal [] before G past is ready placed = tt
-legal_journal (c ∷ cs) before G past is ready placed =
+legal_journal laws [] before G past is ready placed = tt
+legal_journal laws (c ∷ cs) before G past is ready placed =
     let ls = step_lines G c in
-    let one : IsLegalUpTo past ls = rw is (legal_step before c past ready placed.0) in
-    let facts : after_lines G ls ≡ facts_at (onto ls past) = ap (λ H. after_lines H ls) is ∙ sym (facts_at-onto ls past) in
+    let one : IsLegalUpTo past ls = rw is (legal_step laws before c past ready placed.0) in
+    let facts : after_lines G ls ≡ facts_at (onto ls past) = ap (λ H. after_lines H ls) is ∙ sym (laws.past.facts ls past) in
     let next : IsReady (before + 1) (onto ls past) = record { sound = one.sound; closed = one.closed; fresh = λ none. absurd (omega (arith, none)) } in
-    Follows-append IsLegalAt ls (journal_from (after_lines G ls) cs) past one.legal (legal_journal cs (before + 1) (after_lines G ls) (onto ls past) facts next placed.2)
+    Follows-append IsLegalAt ls (journal_from (after_lines G ls) cs) past one.legal (legal_journal laws cs (before + 1) (after_lines G ls) (onto ls past) facts next placed.2)
 
-pub journal_of-legal : (cs : List Command) → IsPlacedAfter 0 cs → Follows IsLegalAt [] (journal_from no_facts cs)
-journal_of-legal cs placed = legal_journal cs 0 no_facts [] refl (record { sound = record { owned = All-nil _ }; closed = λ line h. h; fresh = λ none. refl }) placed
+pub journal_of-legal : Laws → (cs : List Command) → IsPlacedAfter 0 cs → Follows IsLegalAt [] (journal_from no_facts cs)
+journal_of-legal laws cs placed = legal_journal laws cs 0 no_facts [] refl (record { sound = record { owned = All-nil _ }; closed = λ line h. h; fresh = λ none. refl }) placed

@@ -1,3 +1,4 @@
+pub mod Follow
 pub mod Heard
 pub mod Legal
 pub mod Told

@@ -1,6 +1,6 @@
 -- Each line of the journal of commands that stand where they may has a spelling.
-use Rattle.std.proofs.Common.{◌≡◌, ◌+◌, ◌≤◌, ℕ, List, [], ◌∷◌, true, not, Option, None, Some, arith}
-use Rattle.std.specs.List.{All}
+use Rattle.std.proofs.Common.{◌≡◌, ◌+◌, ◌≤◌, ℕ, List, [], ◌∷◌, ◌++◌, true, not, Option, None, Some, arith}
+use Rattle.std.specs.List.{All, AllByRecursion}
 use Rattle.std.proofs.lemmas.Bool.{leb-true, and_parts}
 use Rattle.std.proofs.lemmas.List.Elements.{All-nil, All-cons}
 use Rattle.xm_num.specs.declared.Enclave.{Enclave}
@@ -14,13 +14,12 @@ use Rattle.xemem_language.specs.declared.line.Line.{Line}
 use Rattle.xemem_language.specs.declared.line.Line.TheVariants as lines
 use Rattle.global_model.specs.Facts.{Facts, after_lines, no_facts}
 use Rattle.xemem_language.specs.Ranges.{IsPlainOption, IsSpelledBody, IsSpelled}
+use Rattle.global_model.specs.Plain.{IsTellable, IsAct}
+use Rattle.history_laws.specs.Laws.{Laws}
 use Rattle.global_model.specs.Place.{IsPlacedAfter, IsPlaced}
 use Rattle.global_model.specs.Due.{command_lines, step_lines, journal_from, journal_of}
-use Rattle.global_model.specs.Carriage.{CarriedAt, IsCarried}
+use Rattle.global_model.specs.Carriage.{CarriedAt}
 use Rattle.global_model.specs.Journals.{Follows}
-use Rattle.global_model.proofs.Writes.{EachIs, each-append}
-use Rattle.global_model.proofs.Plain.{IsTellable, each-weaker}
-use Rattle.global_model.proofs.Acts.{IsAct, command_lines-acts}
 
 -- ---- valid records
 
@@ -51,22 +50,26 @@ tellable_act : (line : Line) → IsAct line → IsTellable line
 tellable_act (lines.Do command) act = absurd act
 tellable_act _ act = act
 
-tellable_journal : (cs : List Command) (before : ℕ) (G : Facts) → IsPlacedAfter before cs → EachIs IsTellable (journal_from G cs)
-tellable_journal [] before G placed = tt
-tellable_journal (c ∷ cs) before G placed =
+-- the acts of a command, and what stands behind them
+tellable_acts : (ls ms : List Line) → AllByRecursion IsAct ls → AllByRecursion IsTellable ms → AllByRecursion IsTellable (ls ++ ms)
+tellable_acts [] ms acts more = more
+tellable_acts (l ∷ ls) ms acts more = (tellable_act l acts.0, tellable_acts ls ms acts.1 more)
+
+tellable_journal : Laws → (cs : List Command) (before : ℕ) (G : Facts) → IsPlacedAfter before cs → AllByRecursion IsTellable (journal_from G cs)
+tellable_journal laws [] before G placed = tt
+tellable_journal laws (c ∷ cs) before G placed =
     let H = after_lines G (step_lines G c) in
-    let acts = each-weaker IsAct IsTellable tellable_act (command_lines G c) (command_lines-acts G c) in
-    (placed.1, each-append IsTellable (command_lines G c) (journal_from H cs) acts (tellable_journal cs (before + 1) H placed.2))
+    (placed.1, tellable_acts (command_lines G c) (journal_from H cs) (laws.act.acts G c) (tellable_journal laws cs (before + 1) H placed.2))
 
 spelled_line : (past : List Line) (line : Line) → IsTellable line → CarriedAt past line → IsSpelled line
 spelled_line past (lines.Sent x y r) tellable carried = spelled_record r carried.2
 spelled_line past _ tellable carried = tellable
 
-spelled_lines : (ls past : List Line) → EachIs IsTellable ls → Follows CarriedAt past ls → All IsSpelled ls
+spelled_lines : (ls past : List Line) → AllByRecursion IsTellable ls → Follows CarriedAt past ls → All IsSpelled ls
 spelled_lines [] past tellable carried = All-nil IsSpelled
 spelled_lines (l ∷ ls) past tellable carried =
     All-cons IsSpelled l ls (spelled_line past l tellable.0 carried.0) (spelled_lines ls (l ∷ past) tellable.1 carried.1)
 
 -- the records that are sent are valid, as the journal is carried
-pub journal_of-spelled : (cs : List Command) → IsPlaced cs → IsCarried (journal_of cs) → All IsSpelled (journal_of cs)
-journal_of-spelled cs placed carried = spelled_lines (journal_of cs) [] (tellable_journal cs 0 no_facts placed) carried
+pub journal_of-spelled : Laws → (cs : List Command) → IsPlaced cs → All IsSpelled (journal_of cs)
+journal_of-spelled laws cs placed = spelled_lines (journal_of cs) [] (tellable_journal laws cs 0 no_facts placed) (laws.journal.carried cs placed)

@@ -6,10 +6,11 @@ use Rattle.xemem_language.specs.declared.line.Line.{Line}
 use Rattle.xemem_language.specs.declared.line.Line.TheVariants as lines
 use Rattle.global_model.specs.Facts.{Facts, after_lines, facts_at, no_facts}
 use Rattle.global_model.specs.Due.{command_lines, step_lines, journal_from, journal_of, due_since, due_line}
+use Rattle.global_model.specs.Plain.{IsAct, AreActs}
 use Rattle.global_model.specs.Journals.{Follows, onto, do_commands}
 use Rattle.history_laws.specs.History.{IsDueAt, IsTold, IsWhole}
-use Rattle.global_model.proofs.Acts.{IsAct, AreActs, command_lines-acts}
-use Rattle.global_model.proofs.Pasts.{onto-append, after_lines-append, facts_at-onto, Follows-append}
+use Rattle.history_laws.specs.Laws.{Laws}
+use Rattle.history_laws.proofs.Follow.{Follows-append}
 
 -- ---- lines that begin no command
 
@@ -21,6 +22,11 @@ no_do : (line : Line) → IsAct line → is_do line ≡ false
 unfolding is_do
 no_do (lines.Do command) act = absurd act
 no_do _ act = refl
+
+do_commands-act : (line : Line) (ls : List Line) → is_do line ≡ false → do_commands (line ∷ ls) ≡ do_commands ls
+unfolding is_do
+do_commands-act (lines.Do command) ls act = cc
+do_commands-act _ ls act = refl
 
 -- ---- what is due after a past
 
@@ -97,66 +103,35 @@ told_acts (line ∷ journal) past rest acts =
 nothing_due : (past : List Line) → rest_of past ≡ [] → due_line past ≡ None
 nothing_due past none = due_line-first past ∙ ap (λ ls. slice_get ls 0) none
 
-told_step : (command : Command) (past : List Line) → rest_of past ≡ [] → IsToldUpTo past (step_lines (facts_at past) command)
-told_step command past none =
-    let more = told_acts (command_lines (facts_at past) command) (lines.Do command ∷ past) (rest_of-do command past) (command_lines-acts (facts_at past) command) in
+told_step : Laws → (command : Command) (past : List Line) → rest_of past ≡ [] → IsToldUpTo past (step_lines (facts_at past) command)
+told_step laws command past none =
+    let more = told_acts (command_lines (facts_at past) command) (lines.Do command ∷ past) (rest_of-do command past) (laws.act.acts (facts_at past) command) in
     record { told = (nothing_due past none, more.told); whole = more.whole }
 
-pub told_journal : (cs : List Command) (G : Facts) (past : List Line) → G ≡ facts_at past → rest_of past ≡ []
+pub told_journal : Laws → (cs : List Command) (G : Facts) (past : List Line) → G ≡ facts_at past → rest_of past ≡ []
     → IsToldUpTo past (journal_from G cs)
-told_journal [] G past is none = record { told = tt; whole = none }
-told_journal (c ∷ cs) G past is none =
+told_journal laws [] G past is none = record { told = tt; whole = none }
+told_journal laws (c ∷ cs) G past is none =
     let ls = step_lines G c in
-    let one : IsToldUpTo past ls = rw is (told_step c past none) in
-    let facts : after_lines G ls ≡ facts_at (onto ls past) = ap (λ H. after_lines H ls) is ∙ sym (facts_at-onto ls past) in
-    let more = told_journal cs (after_lines G ls) (onto ls past) facts one.whole in
+    let one : IsToldUpTo past ls = rw is (told_step laws c past none) in
+    let facts : after_lines G ls ≡ facts_at (onto ls past) = ap (λ H. after_lines H ls) is ∙ sym (laws.past.facts ls past) in
+    let more = told_journal laws cs (after_lines G ls) (onto ls past) facts one.whole in
     record {
       told = Follows-append IsDueAt ls (journal_from (after_lines G ls) cs) past one.told more.told;
-      whole = ap rest_of (onto-append ls (journal_from (after_lines G ls) cs) past) ∙ more.whole;
+      whole = ap rest_of (laws.past.pasts ls (journal_from (after_lines G ls) cs) past) ∙ more.whole;
     }
 
 rest_of-nil : rest_of [] ≡ []
 unfolding rest_of rest_since
 rest_of-nil = refl
 
-pub journal_of-told : (cs : List Command) → IsToldUpTo [] (journal_of cs)
-journal_of-told cs = told_journal cs no_facts [] refl rest_of-nil
+pub journal_of-told : Laws → (cs : List Command) → IsToldUpTo [] (journal_of cs)
+journal_of-told laws cs = told_journal laws cs no_facts [] refl rest_of-nil
 
-pub journal_of-whole : (cs : List Command) → IsWhole (journal_of cs)
-journal_of-whole cs = nothing_due _ (journal_of-told cs).whole
-
--- ---- the commands of a journal
-
-pub do_commands-append : (ls ms : List Line) → do_commands (ls ++ ms) ≡ do_commands ls ++ do_commands ms
-do_commands-append [] ms = refl
-do_commands-append (lines.Do command ∷ ls) ms = ap (λ cs. command ∷ cs) (do_commands-append ls ms)
-do_commands-append (_ ∷ ls) ms = do_commands-append ls ms
-
-do_commands-act : (line : Line) (ls : List Line) → is_do line ≡ false → do_commands (line ∷ ls) ≡ do_commands ls
-unfolding is_do
-do_commands-act (lines.Do command) ls act = cc
-do_commands-act _ ls act = refl
-
-do_commands-acts : (ls : List Line) → AreActs ls → do_commands ls ≡ []
-do_commands-acts [] acts = refl
-do_commands-acts (line ∷ ls) acts = do_commands-act line ls (no_do line acts.0) ∙ do_commands-acts ls acts.1
-
-pub do_commands-journal : (G : Facts) (cs : List Command) → do_commands (journal_from G cs) ≡ cs
-do_commands-journal G [] = refl
-do_commands-journal G (c ∷ cs) =
-    let H = after_lines G (step_lines G c) in
-    ap (λ ds. c ∷ ds) (do_commands-append (command_lines G c) (journal_from H cs) ∙ ap (λ ds. ds ++ do_commands (journal_from H cs)) (do_commands-acts (command_lines G c) (command_lines-acts G c)) ∙ do_commands-journal H cs)
+pub journal_of-whole : Laws → (cs : List Command) → IsWhole (journal_of cs)
+journal_of-whole laws cs = nothing_due _ (journal_of-told laws cs).whole
 
 -- ---- no other journal is told and whole
-
-pub journal_from-more : (G : Facts) (done : List Command) (c : Command)
-    → journal_from G (done ++ c ∷ []) ≡ journal_from G done ++ step_lines (after_lines G (journal_from G done)) c
-journal_from-more G [] c = append-nil _
-journal_from-more G (first ∷ done) c =
-    let ls = step_lines G first in
-    let H = after_lines G ls in
-    let facts : after_lines H (journal_from H done) ≡ after_lines G (ls ++ journal_from H done) = sym (after_lines-append G ls (journal_from H done)) in
-    ap (λ more. ls ++ more) (journal_from-more H done c) ∙ sym (append_assoc ls (journal_from H done) _) ∙ ap (λ K. (ls ++ journal_from H done) ++ step_lines K c) facts
 
 -- what was told so far, and what is to come of the command at hand, is the journal of the commands so far
 pub IsSoFar : List Line → Type 0
@@ -170,46 +145,46 @@ first_some : (ls : List Line) (line : Line) → slice_get ls 0 ≡ Some line →
 first_some [] line some = cc
 first_some (l ∷ ls) line some = let same : l ≡ line = cc in ap (λ x. x ∷ ls) same
 
-so_far-do : (front : List Line) (c : Command) → IsSoFar front → IsDueAt (onto front []) (lines.Do c) → IsSoFar (front ++ lines.Do c ∷ [])
+so_far-do : Laws → (front : List Line) (c : Command) → IsSoFar front → IsDueAt (onto front []) (lines.Do c) → IsSoFar (front ++ lines.Do c ∷ [])
 unfolding IsSoFar
-so_far-do front c is due =
+so_far-do laws front c is due =
     let past = onto front [] in
     let step = λ (G : Facts). step_lines G c in
     let none : rest_of past ≡ [] = first_none (rest_of past) (sym (due_line-first past) ∙ due) in
     let whole : journal_of (do_commands front) ≡ front = is ∙ ap (λ ls. front ++ ls) none ∙ append-nil front in
-    let facts : facts_at past ≡ after_lines no_facts front = facts_at-onto front [] in
-    let rest : rest_of (onto (front ++ lines.Do c ∷ []) []) ≡ command_lines (after_lines no_facts front) c = ap rest_of (onto-append front (lines.Do c ∷ []) []) ∙ rest_of-do c past ∙ ap (λ G. command_lines G c) facts in
-    let journal : journal_of (do_commands (front ++ lines.Do c ∷ [])) ≡ front ++ step (after_lines no_facts front) = ap journal_of (do_commands-append front (lines.Do c ∷ [])) ∙ journal_from-more no_facts (do_commands front) c ∙ ap (λ ls. ls ++ step (after_lines no_facts ls)) whole in
+    let facts : facts_at past ≡ after_lines no_facts front = laws.past.facts front [] in
+    let rest : rest_of (onto (front ++ lines.Do c ∷ []) []) ≡ command_lines (after_lines no_facts front) c = ap rest_of (laws.past.pasts front (lines.Do c ∷ []) []) ∙ rest_of-do c past ∙ ap (λ G. command_lines G c) facts in
+    let journal : journal_of (do_commands (front ++ lines.Do c ∷ [])) ≡ front ++ step (after_lines no_facts front) = ap journal_of (laws.past.commands front (lines.Do c ∷ [])) ∙ laws.journal.more (do_commands front) c ∙ ap (λ ls. ls ++ step (after_lines no_facts ls)) whole in
     journal ∙ sym (append_assoc front (lines.Do c ∷ []) (command_lines (after_lines no_facts front) c)) ∙ ap (λ ls. (front ++ lines.Do c ∷ []) ++ ls) (sym rest)
 
-so_far-act : (front : List Line) (line : Line) → is_do line ≡ false → IsSoFar front → IsDueAt (onto front []) line
+so_far-act : Laws → (front : List Line) (line : Line) → is_do line ≡ false → IsSoFar front → IsDueAt (onto front []) line
     → IsSoFar (front ++ line ∷ [])
 unfolding IsSoFar
-so_far-act front line act is due =
+so_far-act laws front line act is due =
     let past = onto front [] in
     let first : rest_of past ≡ line ∷ drop 1 (rest_of past) = first_some (rest_of past) line (sym (due_line-first past) ∙ due_of_act line past act due) in
-    let rest : rest_of (onto (front ++ line ∷ []) []) ≡ drop 1 (rest_of past) = ap rest_of (onto-append front (line ∷ []) []) ∙ rest_of-act line past act in
-    let commands : do_commands (front ++ line ∷ []) ≡ do_commands front = do_commands-append front (line ∷ []) ∙ ap (λ cs. do_commands front ++ cs) (do_commands-act line [] act) ∙ append-nil (do_commands front) in
+    let rest : rest_of (onto (front ++ line ∷ []) []) ≡ drop 1 (rest_of past) = ap rest_of (laws.past.pasts front (line ∷ []) []) ∙ rest_of-act line past act in
+    let commands : do_commands (front ++ line ∷ []) ≡ do_commands front = laws.past.commands front (line ∷ []) ∙ ap (λ cs. do_commands front ++ cs) (do_commands-act line [] act) ∙ append-nil (do_commands front) in
     ap journal_of commands ∙ is ∙ ap (λ ls. front ++ ls) first ∙ sym (append_assoc front (line ∷ []) (drop 1 (rest_of past))) ∙ ap (λ ls. (front ++ line ∷ []) ++ ls) (sym rest)
 
-so_far-line : (front : List Line) (line : Line) → IsSoFar front → IsDueAt (onto front []) line → IsSoFar (front ++ line ∷ [])
+so_far-line : Laws → (front : List Line) (line : Line) → IsSoFar front → IsDueAt (onto front []) line → IsSoFar (front ++ line ∷ [])
 unfolding is_do
-so_far-line front (lines.Do c) is due = so_far-do front c is due
-so_far-line front line is due = so_far-act front line refl is due
+so_far-line laws front (lines.Do c) is due = so_far-do laws front c is due
+so_far-line laws front line is due = so_far-act laws front line refl is due
 
-so_far-journal : (back front : List Line) → Follows IsDueAt (onto front []) back → IsSoFar front → IsSoFar (front ++ back)
-so_far-journal [] front told is = subst IsSoFar (sym (append-nil front)) is
-so_far-journal (line ∷ back) front told is =
-    let past : onto (front ++ line ∷ []) [] ≡ line ∷ onto front [] = onto-append front (line ∷ []) [] in
-    let more = so_far-journal back (front ++ line ∷ []) (subst (λ p. Follows IsDueAt p back) (sym past) told.1) (so_far-line front line is told.0) in
+so_far-journal : Laws → (back front : List Line) → Follows IsDueAt (onto front []) back → IsSoFar front → IsSoFar (front ++ back)
+so_far-journal laws [] front told is = subst IsSoFar (sym (append-nil front)) is
+so_far-journal laws (line ∷ back) front told is =
+    let past : onto (front ++ line ∷ []) [] ≡ line ∷ onto front [] = laws.past.pasts front (line ∷ []) [] in
+    let more = so_far-journal laws back (front ++ line ∷ []) (subst (λ p. Follows IsDueAt p back) (sym past) told.1) (so_far-line laws front line is told.0) in
     subst IsSoFar (append_assoc front (line ∷ []) back) more
 
 so_far-nil : IsSoFar []
 unfolding IsSoFar
 so_far-nil = sym rest_of-nil
 
-pub only_journal : (journal : List Line) → IsTold journal → IsWhole journal → journal ≡ journal_of (do_commands journal)
+pub only_journal : Laws → (journal : List Line) → IsTold journal → IsWhole journal → journal ≡ journal_of (do_commands journal)
 unfolding IsSoFar
-only_journal journal told whole =
+only_journal laws journal told whole =
     let none : rest_of (onto journal []) ≡ [] = first_none _ (sym (due_line-first (onto journal [])) ∙ whole) in
-    sym (so_far-journal journal [] told so_far-nil ∙ ap (λ ls. journal ++ ls) none ∙ append-nil journal)
+    sym (so_far-journal laws journal [] told so_far-nil ∙ ap (λ ls. journal ++ ls) none ∙ append-nil journal)

@@ -3,9 +3,10 @@ use Rattle.std.specs.Prelude.{◌≡◌, ℕ, List, [], ◌∷◌, length, filte
 use Rattle.xemem_language.specs.declared.command.Command.{Command}
 use Rattle.xemem_language.specs.declared.line.Line.{Line}
 use Rattle.xemem_language.specs.declared.line.Line.TheVariants as lines
+use Rattle.global_model.specs.Carriage.{IsCarried}
 use Rattle.global_model.specs.Due.{due_line}
+use Rattle.global_model.specs.Journals.{Follows, onto}
 use Rattle.history_laws.specs.Lawful.{IsLegalAt}
-use Rattle.global_model.specs.Carriage.{CarriedAt}
 
 -- told: a `do` line stands where nothing is due, and every other line is the one that is due
 abbrev pub IsDueAt : List Line → Line → Type 0

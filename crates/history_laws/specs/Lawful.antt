@@ -7,11 +7,12 @@ use Rattle.xemem_language.specs.declared.command.Command.TheVariants as commands
 use Rattle.xemem_language.specs.declared.line.Line.{Line}
 use Rattle.xemem_language.specs.declared.line.Line.TheVariants as lines
 use Rattle.xemem_wire.specs.Spelling.{is_valid, spellings_of}
-use Rattle.global_model.specs.Facts.{facts_at, is_living_enclave}
-use Rattle.global_model.specs.Channels.{is_neighbour, waiting_bytes}
-use Rattle.global_model.specs.Space.{IsUnmapped, space_of, unused_frames, free_blocks}
 use Rattle.enclave_rules.specs.Pages.{allows, block_frames}
+use Rattle.enclave_rules.specs.Steps.{refusal}
+use Rattle.global_model.specs.Facts.{facts_at}
+use Rattle.global_model.specs.Journals.{command_at}
 use Rattle.global_model.specs.Refusals.{refusal_of}
+use Rattle.global_model.specs.Space.{IsUnmapped, free_blocks, space_of, unused_frames}
 
 -- lending: what is allocated or lent are the lowest unused frames and the lowest free blocks, and none of it is mapped
 abbrev pub LawfulLending : List Line → Line → Type 0

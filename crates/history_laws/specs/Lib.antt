@@ -1,3 +1,4 @@
 pub mod Lawful
 pub mod History
 pub mod Ways
+pub mod Laws

@@ -1,28 +1,35 @@
-// Laws of the definitions: each is the contract of a function with an empty body, which a crate above calls to have it.
-ghost use Rattle.std.specs.Prelude.{◌≡◌, ◌≢◌, ◌≤◌, ◌-◌, ℕ, List, [], ◌∷◌, ◌++◌, length, take, drop, Bool, true, nat_lt, if◌then◌else◌, Some, All};
-ghost use Rattle.xm_num.specs.declared.Enclave.{Enclave as Enclaves};
-ghost use Rattle.xemem_language.specs.declared.record.Record.{Record as WireRecord};
-ghost use Rattle.xemem_wire.specs.Spelling.{spellings_of};
+// Laws of histories: each is the contract of a function that does nothing, which a crate above calls to have it.
+ghost use Rattle.std.specs.Prelude.{◌≡◌, ℕ, List, All};
+ghost use Rattle.xm_num.specs.Rows.{at};
 ghost use Rattle.xemem_language.specs.declared.command.Command.{Command as Commands};
 ghost use Rattle.xemem_language.specs.declared.line.Line.{Line as JournalLine};
-ghost use Rattle.xm_num.specs.Rows.{at};
-ghost use Rattle.global_model.specs.Place.{IsPlaced};
 ghost use Rattle.xemem_language.specs.Ranges.{IsSpelled};
-ghost use Rattle.global_model.specs.Facts.{Facts, after_lines, facts_at, facts_after, is_living_enclave};
-ghost use Rattle.global_model.specs.Channels.{whole_records};
-ghost use Rattle.xm_num.specs.declared.Cause.TheVariants as causes;
-ghost use Rattle.xemem_language.specs.declared.command.Command.TheVariants as command;
-ghost use Rattle.enclave_rules.specs.View.{View, own_lines, seen_lines, unborn_view};
-ghost use Rattle.global_model.specs.Views.{view_of};
-ghost use Rattle.enclave_rules.specs.Steps.{refusal, host_lines, first_blocks, lines_of_records};
-ghost use Rattle.global_model.specs.Known.{IsAnswered};
-ghost use Rattle.global_model.specs.Due.{got_lines, deliver_lines, next_rest, first_waiting, command_lines, journal_of, step_lines};
-ghost use Rattle.global_model.specs.Flow.{IsFlowing};
+ghost use Rattle.global_model.specs.Place.{IsPlaced};
+ghost use Rattle.global_model.specs.Facts.{facts_at};
+ghost use Rattle.global_model.specs.Due.{journal_of};
 ghost use Rattle.global_model.specs.Journals.{do_commands};
-ghost use Rattle.global_model.specs.Carriage.{IsCarried};
 ghost use Rattle.history_laws.specs.History.{IsLegal, IsTold, IsWhole};
-ghost use Rattle.global_model.specs.Rest.{EndsSettle};
 ghost use Rattle.history_laws.specs.Ways.{way_heard, back_heard, route_heard};
+ghost use Rattle.history_laws.specs.Laws.{Laws};
+
+use global_model::{
+    acts_are_plain, journals_are_carried, journals_grow, pasts_grow, refusals_come_first,
+};
+use xm_num::laws::rows;
+use xm_num::{Enclave, Page};
+
+// The laws of the crates below, all at once.
+fn laws()
+    ensures { Laws }
+{
+    pasts_grow();
+    journals_grow();
+    journals_are_carried();
+    acts_are_plain();
+    refusals_come_first();
+    rows::<Enclave>();
+    rows::<Page>();
+}
 
 /// Exactly one journal is told and whole and has given commands in its `do` lines.
 pub fn one_journal()
@@ -31,21 +38,29 @@ pub fn one_journal()
     ensures commands { (commands : List Commands) → do_commands (journal_of commands) ≡ commands }
     ensures only { (journal : List JournalLine) → IsTold journal → IsWhole journal
         → journal ≡ journal_of (do_commands journal) }
-{}
+{
+    laws();
+}
 
 /// The journal of commands, each of which may stand after those before it, is legal.
 pub fn journals_are_legal()
     ensures { (commands : List Commands) → IsPlaced commands → IsLegal (journal_of commands) }
-{}
+{
+    laws();
+}
 
 /// Each line of a journal has a spelling.
 pub fn journals_are_spelled()
     ensures { (commands : List Commands) → IsPlaced commands → All IsSpelled (journal_of commands) }
-{}
+{
+    laws();
+}
 
 /// The neighbours over which an enclave's ways go are those of which it heard last.
 pub fn ways_are_heard()
     ensures way { (e : ℕ) (past : List JournalLine) → (facts_at past).way e ≡ way_heard e past }
     ensures backs { (e d : ℕ) (past : List JournalLine) → at ((facts_at past).backs e) d ≡ back_heard e d past }
     ensures routes { (e d : ℕ) (past : List JournalLine) → at ((facts_at past).routes e) d ≡ route_heard e d past }
-{}
+{
+    laws();
+}

@@ -1,6 +1,6 @@
 //! What a lawful history is, and that every journal is one.
 //!
-//! Each law is the contract of a function with an empty body, which a crate above calls to have it.
+//! Each law is the contract of a function that does nothing, which a crate above calls to have it.
 #![tactic(auto)]
 
 mod laws;

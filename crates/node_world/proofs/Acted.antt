@@ -6,12 +6,13 @@ use Rattle.xemem_language.specs.declared.line.Line.{Line}
 use Rattle.global_model.specs.Facts.{Facts, ChannelFact, after_lines}
 use Rattle.global_model.specs.Flow.{IsFlowing}
 use Rattle.enclave_node.specs.Nodes.{NodeView}
-use Rattle.node_world.specs.declared.pair.Pair.{Pair}
+use Rattle.node_machine.specs.declared.pair.Pair.{Pair}
 use Rattle.node_world.specs.Links.{feed_of}
-use Rattle.node_world.specs.Machine.{MachineView, node_at, pair_at, with_carried, carried}
+use Rattle.node_machine.specs.Machine.{MachineView, node_at, pair_at, with_carried, carried}
 use Rattle.node_world.specs.Shown.{IsNodeOf, IsPairOf, IsShown}
 use Rattle.node_world.proofs.Flows.{link_of_channel, channel_of, feed_is}
 use Rattle.node_world.proofs.Carriage.{IsLinked, AreLinked, ArePlain, AreWithin, feed_by, carried-parent, carried-length, linked_lines, fed_lines, counted_lines}
+use Rattle.node_world.specs.Laws.{Laws}
 
 -- the decoder of the node for the channel from enclave a to enclave b has what was sent and taken
 abbrev pub HasFeed : (ℕ → ℕ → ChannelFact) → List NodeView → ℕ → ℕ → Type 0
@@ -36,13 +37,13 @@ pub record IsActed (G H : Facts) (m : MachineView) : Type 0 where
   pub feeds : (i : ℕ) → i < length m.pairs → IsFedPair G.channel m.nodes i (pair_at m.pairs i)
   pub strangers : (e c : ℕ) → G.born ≤ c → at (node_at m.nodes e).feeds c ≡ None
 
-pub shown_of : (G : Facts) (ls : List Line) (m : MachineView) → ArePlain ls → IsFlowing (after_lines G ls) → IsActed G (after_lines G ls) m → IsShown (after_lines G ls) (with_carried m ls)
-shown_of G ls m plain flowing h =
+pub shown_of : Laws → (G : Facts) (ls : List Line) (m : MachineView) → ArePlain ls → IsFlowing (after_lines G ls) → IsActed G (after_lines G ls) m → IsShown (after_lines G ls) (with_carried m ls)
+shown_of laws G ls m plain flowing h =
     let H = after_lines G ls in
     let count = counted_lines ls G plain in
     let size = carried-length (length m.nodes) ls m.pairs in
     let now : length m.pairs ≡ length m.nodes - 1 = h.pairs ∙ ap (λ n. n - 1) (sym h.born) in
-    let linked = linked_lines (length m.nodes) ls G m.pairs now plain h.links in
+    let linked = linked_lines laws (length m.nodes) ls G m.pairs now plain h.links in
     let born = count.born in
     record {
       pool = h.pool ∙ sym count.pool;
@@ -76,8 +77,8 @@ shown_of G ls m plain flowing h =
         }
 
 -- the same, with the facts after the lines by a name of their own
-pub shown_by : (G H : Facts) (ls : List Line) (m : MachineView) → H ≡ after_lines G ls → ArePlain ls → IsFlowing H → IsActed G H m → IsShown H (with_carried m ls)
-shown_by G H ls m is plain = subst (λ F. IsFlowing F → IsActed G F m → IsShown F (with_carried m ls)) (sym is) (shown_of G ls m plain)
+pub shown_by : Laws → (G H : Facts) (ls : List Line) (m : MachineView) → H ≡ after_lines G ls → ArePlain ls → IsFlowing H → IsActed G H m → IsShown H (with_carried m ls)
+shown_by laws G H ls m is plain = subst (λ F. IsFlowing F → IsActed G F m → IsShown F (with_carried m ls)) (sym is) (shown_of laws G ls m plain)
 
 -- ---- before a command
 

@@ -16,9 +16,9 @@ use Rattle.global_model.specs.Place.{IsPlaced}
 use Rattle.node_world.specs.declared.world.Which.{Which}
 use Rattle.node_world.specs.Appended.{is_by}
 use Rattle.node_world.specs.Laws.{Laws}
-use Rattle.node_world.specs.Links.{sent_in}
-use Rattle.node_world.specs.Machine.{MachineView, lines_by, after_command, next_delivery}
-use Rattle.node_world.specs.Ready.{IsReady, IsNoSettle, CanStep}
+use Rattle.node_machine.specs.Links.{sent_in}
+use Rattle.node_machine.specs.Machine.{MachineView, lines_by, after_command, next_delivery}
+use Rattle.node_machine.specs.Ready.{IsReady, IsNoSettle, CanStep}
 use Rattle.node_world.specs.Shown.{IsShown}
 use Rattle.node_world.specs.World.{most_words, IsAlong, IsShort, IsStopped}
 use Rattle.node_world.proofs.Counts.{AreCounted, counted_line, counted_delivery, hand_delivery}
@@ -115,12 +115,12 @@ module _ (laws : Laws) (m : MachineView) (journal : List Line) (along : IsAlong 
       facts = facts_next;
       shown = subst (λ F. IsShown F (after_command m d)) (sym facts_next) (stepped laws along.played d m no_settle placed_next shown_played).1;
       appended = subst (λ c. words_in (journal ++ lines_by m c) ≤ most_words → AreCounted (after_command m c) (journal ++ lines_by m c)) (sym due.is)
-          (counted_delivery m due.from due.to (next_rest (facts_after journal) due.from due.to) most journal ready_next hand along.appended) few;
+          (counted_delivery laws m due.from due.to (next_rest (facts_after journal) due.from due.to) most journal ready_next hand along.appended) few;
     }
 
     hand_next : (most : ℕ) → command_at (onto journal []) ≡ Some (commands.Settle most) → command_at (onto (journal ++ lines_by m d) []) ≡ Some (commands.Settle most)
     hand_next most hand = subst (λ c. command_at (onto (journal ++ lines_by m c) []) ≡ Some (commands.Settle most)) (sym due.is)
-        (hand_delivery m due.from due.to (next_rest (facts_after journal) due.from due.to) most journal ready_next hand)
+        (hand_delivery laws m due.from due.to (next_rest (facts_after journal) due.from due.to) most journal ready_next hand)
 
 -- ---- so many deliveries
 

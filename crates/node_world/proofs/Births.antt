@@ -13,7 +13,7 @@ use Rattle.enclave_rules.specs.View.{own_lines, seen_lines, host, unborn_view}
 use Rattle.enclave_rules.specs.Steps.{refusal, host_lines, first_blocks}
 use Rattle.global_model.specs.Due.{command_lines}
 use Rattle.enclave_node.specs.Nodes.{new_host}
-use Rattle.node_world.specs.Machine.{MachineView, node_at, lines_by, acted, with_carried, after_command}
+use Rattle.node_machine.specs.Machine.{MachineView, node_at, lines_by, acted, with_carried, after_command}
 use Rattle.node_world.specs.Shown.{IsNodeOf, IsShown}
 use Rattle.node_world.proofs.Carriage.{ArePlain, counted_lines}
 use Rattle.node_world.proofs.Acted.{IsActed, shown_by, within_of}
@@ -109,6 +109,6 @@ tied_host G H m blocks ns step h none first rule = by (ltb G.pool blocks) refl
         let K = after_line G (lines.Born host kinds.Host host ns (first_blocks blocks)) in
         let facts : H ≡ after_lines K (host_rest ns) = step.after ∙ ap (after_lines G) made in
         let born : H.born ≡ G.born + 1 = ap (λ F. F.born) facts ∙ (counted_lines (host_rest ns) K (plain_rest ns)).born in
-        let shown = shown_by K H (host_rest ns) w facts (plain_rest ns) step.flowing (host_acted G H m blocks ns step h none first made born) in
+        let shown = shown_by step.laws K H (host_rest ns) w facts (plain_rest ns) step.flowing (host_acted G H m blocks ns step h none first made born) in
         let after : after_command m c ≡ with_carried w (host_rest ns) = ap (λ n. with_carried n (lines_by m c)) machine ∙ ap (with_carried w) (ls ∙ made) in
         (ls, subst (IsShown H) (sym after) shown)

@@ -11,7 +11,6 @@ use Rattle.xm_num.specs.declared.Kind.{Kind}
 use Rattle.xm_num.specs.declared.Cause.{Cause}
 use Rattle.xm_num.specs.declared.Cause.TheVariants as causes
 use Rattle.xm_num.specs.Rows.{at}
-use Rattle.xm_num.proofs.RowLemmas.{at_put}
 use Rattle.byte_link.specs.Channel.{fresh}
 use Rattle.xemem_wire.specs.Decoding.{Decoding, nothing_taken}
 use Rattle.xemem_language.specs.declared.command.Command.{Command}
@@ -26,9 +25,10 @@ use Rattle.global_model.specs.Views.{view_of}
 use Rattle.enclave_rules.specs.Steps.{refusal, query_of, told_lines, child_lines, birth_lines, knows_way, adopt_lines, free_from}
 use Rattle.global_model.specs.Due.{command_lines}
 use Rattle.enclave_node.specs.Nodes.{NodeView, unborn_node, wrote, new_node, lent, adopted}
-use Rattle.node_world.specs.declared.pair.Pair.{Pair}
-use Rattle.node_world.specs.Machine.{MachineView, no_pair, node_at, pair_at, at_node, lines_by, acted, next_enclave, free_of, is_short, booted_lines, booted_nodes, with_carried, after_command}
-use Rattle.node_world.specs.Shown.{IsNodeOf, IsShown, enclave}
+use Rattle.node_machine.specs.declared.pair.Pair.{Pair}
+use Rattle.node_machine.specs.Machine.{MachineView, no_pair, node_at, pair_at, at_node, lines_by, acted, next_enclave, free_of, is_short, booted_lines, booted_nodes, with_carried, after_command}
+use Rattle.node_machine.specs.Machine.{enclave}
+use Rattle.node_world.specs.Shown.{IsNodeOf, IsShown}
 use Rattle.node_world.proofs.Lists.{cond_case, set_case, set_field, push_case}
 use Rattle.node_world.proofs.Flows.{IsLinkOf, fresh_link}
 use Rattle.node_world.proofs.Carriage.{IsLinked, AreLinked, ArePlain, plain_append, feed_by, counted_lines}
@@ -330,7 +330,7 @@ module _ (G H : Facts) (m : MachineView) (kind : Kind) (parent : Enclave) (block
 
   parent_feed : (a : ℕ) → a ≢ child.0 → at (taking base).feeds a ≡ at node.feeds a
   parent_feed a far =
-      at_put base.feeds child.0 a nothing_taken ∙ ap (λ b. cond b (Some nothing_taken) (at base.feeds a)) (ne_eqb child.0 a (λ same. far (sym same))) ∙ ap (λ (rows : List (ℕ × Decoding)). at rows a) base_feed
+      step.laws.put base.feeds child.0 a nothing_taken ∙ ap (λ b. cond b (Some nothing_taken) (at base.feeds a)) (ne_eqb child.0 a (λ same. far (sym same))) ∙ ap (λ (rows : List (ℕ × Decoding)). at rows a) base_feed
 
   old_feed : (a b : ℕ) → a ≢ child.0 → b < length m.nodes → HasFeed G.channel m.nodes a b → HasFeed K.channel nodes a b
   old_feed a b far within old = place (λ n. at n.feeds a ≡ Some (feed_by (K.channel a b))) b (let long = size in omega (arith, long, within))
@@ -354,7 +354,7 @@ module _ (G H : Facts) (m : MachineView) (kind : Kind) (parent : Enclave) (block
       let next : i + 1 ≡ length m.nodes = omega (arith, count, pairs, last, lives) in
       let quiet = silent G step.before (i + 1) parent.0 (omega (arith, pairs, last)) lives in
       let mine : eqb child.0 (i + 1) ≡ true = eq-eqb child.0 (i + 1) (sym next) in
-      let up : at (taking base).feeds (i + 1) ≡ Some nothing_taken = at_put base.feeds child.0 (i + 1) nothing_taken ∙ ap (λ b. cond b (Some nothing_taken) (at base.feeds (i + 1))) mine in
+      let up : at (taking base).feeds (i + 1) ≡ Some nothing_taken = step.laws.put base.feeds child.0 (i + 1) nothing_taken ∙ ap (λ b. cond b (Some nothing_taken) (at base.feeds (i + 1))) mine in
       record {
         up = place (λ n. at n.feeds (i + 1) ≡ Some (feed_by (K.channel (i + 1) parent.0))) parent.0 (omega (arith, long, within)) (λ same. up ∙ ap (λ f. Some (feed_by f)) (sym quiet.0)) (λ apart is_first. absurd (apart refl))
             (λ apart far lt. absurd (apart refl)) (λ none. absurd (omega (arith, none, within)));
@@ -402,7 +402,7 @@ module _ (G H : Facts) (m : MachineView) (kind : Kind) (parent : Enclave) (block
       let is : command_lines G (commands.Boot kind parent blocks ns) ≡ birth ∷ ls = sym tells ∙ made in
       let facts : H ≡ after_lines K ls = step.after ∙ ap (after_lines G) is in
       let born : H.born ≡ G.born + 1 = ap (λ F. F.born) facts ∙ (counted_lines ls K plain).born in
-      let shown = shown_by K H ls w facts plain step.flowing (booted_acted is born) in
+      let shown = shown_by step.laws K H ls w facts plain step.flowing (booted_acted is born) in
       let end : after_command m (commands.Boot kind parent blocks ns) ≡ with_carried w ls = ap (λ n. with_carried n (lines_by m (commands.Boot kind parent blocks ns))) machine ∙ ap (with_carried w) made in
       (tells, subst (IsShown H) (sym end) shown)
 

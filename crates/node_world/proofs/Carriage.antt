@@ -10,14 +10,15 @@ use Rattle.xemem_wire.specs.Decoding.{Decoding}
 use Rattle.xemem_language.specs.declared.line.Line.{Line}
 use Rattle.xemem_language.specs.declared.line.Line.TheVariants as lines
 use Rattle.global_model.specs.Facts.{Facts, EnclaveFact, ChannelFact, at_number, at_pair, as_admitted, with_sent, with_got, after_line, after_lines, fact_of}
-use Rattle.node_world.specs.declared.pair.Pair.{Pair}
-use Rattle.node_world.specs.declared.pair.Hop.{Hop}
-use Rattle.node_world.specs.declared.pair.Hop.TheVariants as hops
-use Rattle.node_world.specs.Machine.{no_pair, pair_at, hop_of, link_of, with_link, carried}
+use Rattle.node_machine.specs.declared.pair.Pair.{Pair}
+use Rattle.node_machine.specs.declared.pair.Hop.{Hop}
+use Rattle.node_machine.specs.declared.pair.Hop.TheVariants as hops
+use Rattle.node_machine.specs.Machine.{no_pair, pair_at, hop_of, link_of, with_link, carried}
 use Rattle.node_world.proofs.Lists.{set_case, set_field}
 use Rattle.node_world.proofs.Flows.{IsLinkOf, link_sent, feed_from, feed_sent}
 use Rattle.node_world.proofs.Fronts.{spellings-length}
-use Rattle.node_world.proofs.Hops.{AreAbove, IsPairAt, up_is, down_is, is_up, is_down}
+use Rattle.node_machine.specs.Machine.{AreAbove, IsPairAt}
+use Rattle.node_world.specs.Laws.{Laws}
 
 -- ---- a channel changes
 
@@ -51,7 +52,7 @@ pub record IsLinked (enclaves : ℕ → Option EnclaveFact) (channels : ℕ → 
 abbrev pub AreLinked : (ℕ → Option EnclaveFact) → (ℕ → ℕ → ChannelFact) → List Pair → Type 0
 AreLinked enclaves channels pairs = (i : ℕ) → i < length pairs → IsLinked enclaves channels i (pair_at pairs i)
 
-module _ (enclaves : ℕ → Option EnclaveFact) (channels : ℕ → ℕ → ChannelFact) (pairs : List Pair) (all : AreLinked enclaves channels pairs) where
+module _ (laws : Laws) (enclaves : ℕ → Option EnclaveFact) (channels : ℕ → ℕ → ChannelFact) (pairs : List Pair) (all : AreLinked enclaves channels pairs) where
   pub above_of : AreAbove pairs
   above_of i within = (all i within).above
 
@@ -107,16 +108,16 @@ module _ (enclaves : ℕ → Option EnclaveFact) (channels : ℕ → ℕ → Cha
   over_none born x y h count not_up not_down i within =
       let q = all i within in let low = q.above in
       linked_other x.0 y.0 h i (pair_at pairs i) q
-      (λ a b. not_up i (is_up pairs born x y i (record { within = within; child_is = sym a; parent_is = b }) (omega (arith, a, count, within)) (omega (arith, b, low, count, within))))
-      (λ a b. not_down i (is_down pairs born x y i above_of (record { within = within; child_is = sym b; parent_is = a }) (omega (arith, a, low, count, within)) (omega (arith, b, count, within))))
+      (λ a b. not_up i (laws.hops.to_up pairs born x y i (record { within = within; child_is = sym a; parent_is = b }) (omega (arith, a, count, within)) (omega (arith, b, low, count, within))))
+      (λ a b. not_down i (laws.hops.to_down pairs born x y i above_of (record { within = within; child_is = sym b; parent_is = a }) (omega (arith, a, low, count, within)) (omega (arith, b, count, within))))
 
   -- the channel from x to y changes, and its link with it
   pub over : (born : ℕ) (x y : Enclave) (h : ChannelFact → ChannelFact) (link : Channel) (hop : Hop) → hop_of pairs born x y ≡ hop → length pairs ≡ born - 1
       → (IsLinkOf (channels x.0 y.0) (link_of pairs hop) → IsLinkOf (h (channels x.0 y.0)) link) → AreLinked enclaves (at_pair x.0 y.0 h channels) (with_link pairs hop link)
   over born x y h link hops.NoEnclave is count new = over_none born x y h count (λ j up. let no : hops.NoEnclave ≡ hops.Up j = sym is ∙ up in cc) (λ j down. let no : hops.NoEnclave ≡ hops.Down j = sym is ∙ down in cc)
   over born x y h link hops.NoLink is count new = over_none born x y h count (λ j up. let no : hops.NoLink ≡ hops.Up j = sym is ∙ up in cc) (λ j down. let no : hops.NoLink ≡ hops.Down j = sym is ∙ down in cc)
-  over born x y h link (hops.Up j) is count new = over_up x y h link j (up_is pairs born x y j is) new
-  over born x y h link (hops.Down j) is count new = over_down x y h link j (down_is pairs born x y j is) new
+  over born x y h link (hops.Up j) is count new = over_up x y h link j (laws.hops.up pairs born x y j is) new
+  over born x y h link (hops.Down j) is count new = over_down x y h link j (laws.hops.down pairs born x y j is) new
 
   -- a record is got, and an enclave is admitted
   got_linked : (x y : ℕ) → AreLinked enclaves (at_pair x y with_got channels) pairs
@@ -194,21 +195,21 @@ carried-length born (lines.Sent x y r ∷ ls) pairs =
 carried-length born (_ ∷ ls) pairs = carried-length born ls pairs
 
 -- the channels show the facts after plain lines, once what they send is carried
-pub linked_lines : (born : ℕ) (ls : List Line) (G : Facts) (pairs : List Pair) → length pairs ≡ born - 1 → ArePlain ls → AreLinked G.enclave G.channel pairs
+pub linked_lines : Laws → (born : ℕ) (ls : List Line) (G : Facts) (pairs : List Pair) → length pairs ≡ born - 1 → ArePlain ls → AreLinked G.enclave G.channel pairs
     → AreLinked (after_lines G ls).enclave (after_lines G ls).channel (carried born pairs ls)
-linked_lines born [] G pairs count plain all = all
-linked_lines born (lines.Sent x y r ∷ ls) G pairs count plain all =
+linked_lines laws born [] G pairs count plain all = all
+linked_lines laws born (lines.Sent x y r ∷ ls) G pairs count plain all =
     let hop = hop_of pairs born x y in
     let link = sent (link_of pairs hop) (spelling_of r) in
-    linked_lines born ls (after_line G (lines.Sent x y r)) (with_link pairs hop link) (with_link-length pairs hop link ∙ count) plain.1
-    (over G.enclave G.channel pairs all born x y (with_sent r) link hop refl count (λ k. link_sent (G.channel x.0 y.0) (link_of pairs hop) r k))
-linked_lines born (lines.Got x y ∷ ls) G pairs count plain all = linked_lines born ls (after_line G (lines.Got x y)) pairs count plain.1 (got_linked G.enclave G.channel pairs all x.0 y.0)
-linked_lines born (lines.Admitted e ∷ ls) G pairs count plain all = linked_lines born ls (after_line G (lines.Admitted e)) pairs count plain.1 (admitted_linked G.enclave G.channel pairs all e.0)
-linked_lines born (lines.Do command ∷ ls) G pairs count plain all = absurd plain.0
-linked_lines born (lines.Born child kind parent ns blocks ∷ ls) G pairs count plain all = absurd plain.0
-linked_lines born (lines.Proc e p uid gid ∷ ls) G pairs count plain all = absurd plain.0
-linked_lines born (lines.Took x y n ∷ ls) G pairs count plain all = absurd plain.0
-linked_lines born (line ∷ ls) G pairs count plain all = linked_lines born ls (after_line G line) pairs count plain.1 all
+    linked_lines laws born ls (after_line G (lines.Sent x y r)) (with_link pairs hop link) (with_link-length pairs hop link ∙ count) plain.1
+    (over laws G.enclave G.channel pairs all born x y (with_sent r) link hop refl count (λ k. link_sent laws.links (G.channel x.0 y.0) (link_of pairs hop) r k))
+linked_lines laws born (lines.Got x y ∷ ls) G pairs count plain all = linked_lines laws born ls (after_line G (lines.Got x y)) pairs count plain.1 (got_linked laws G.enclave G.channel pairs all x.0 y.0)
+linked_lines laws born (lines.Admitted e ∷ ls) G pairs count plain all = linked_lines laws born ls (after_line G (lines.Admitted e)) pairs count plain.1 (admitted_linked laws G.enclave G.channel pairs all e.0)
+linked_lines laws born (lines.Do command ∷ ls) G pairs count plain all = absurd plain.0
+linked_lines laws born (lines.Born child kind parent ns blocks ∷ ls) G pairs count plain all = absurd plain.0
+linked_lines laws born (lines.Proc e p uid gid ∷ ls) G pairs count plain all = absurd plain.0
+linked_lines laws born (lines.Took x y n ∷ ls) G pairs count plain all = absurd plain.0
+linked_lines laws born (line ∷ ls) G pairs count plain all = linked_lines laws born ls (after_line G line) pairs count plain.1 all
 
 -- ---- decoders
 

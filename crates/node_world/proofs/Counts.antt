@@ -22,17 +22,18 @@ use Rattle.xemem_language.specs.Spelling.{line_words, words_in}
 use Rattle.global_model.specs.Journals.{onto, command_at}
 use Rattle.enclave_rules.specs.View.{View, host}
 use Rattle.enclave_rules.specs.Steps.{refusal, host_lines, first_blocks, start_lines, alloc_lines, touch_answer, route_lines, state_lines, birth_lines, adopt_lines}
-use Rattle.global_model.proofs.Pasts.{onto-append}
 use Rattle.enclave_node.specs.Nodes.{NodeView, unborn_node, raised, wrote, new_host, new_node, lent, adopted, fed, fed_lines, after_feed}
-use Rattle.node_world.specs.declared.pair.Hop.{Hop}
-use Rattle.node_world.specs.declared.pair.Hop.TheVariants as hops
+use Rattle.node_machine.specs.declared.pair.Hop.{Hop}
+use Rattle.node_machine.specs.declared.pair.Hop.TheVariants as hops
 use Rattle.node_world.specs.Appended.{refuses, is_by, words_by}
-use Rattle.node_world.specs.Machine.{MachineView, node_at, with_node, hop_in, link_of, with_link, taken_by, is_idle, next_enclave, free_of, is_full, is_short, booted_lines, booted_nodes, touch_by, over_lines, over_machine, deliver_by, after_deliver, routes_by, shown_by, lines_by, acted, after_command}
-use Rattle.node_world.specs.Ready.{IsReady, Stands}
+use Rattle.node_machine.specs.Machine.{MachineView, node_at, with_node, hop_in, link_of, with_link, taken_by, is_idle, next_enclave, free_of, is_full, is_short, booted_lines, booted_nodes, touch_by, over_lines, over_machine, deliver_by, after_deliver, routes_by, shown_by, lines_by, acted, after_command}
+use Rattle.node_machine.specs.Ready.{IsReady, Stands}
 use Rattle.node_world.specs.World.{most_words}
 use Rattle.node_world.proofs.Lists.{cond_case, set_field}
 use Rattle.node_world.proofs.Stills.{AreStill, still_answer, still_states, still_bytes}
 use Rattle.node_world.proofs.Appends.{IsBy, AreBy, nobody, only, Adds, share, adds_append, adds_by, few_by, by_still, by_birth, by_host, by_adopt, by_records, by_alloc}
+use Rattle.node_world.proofs.Words.{onto-append}
+use Rattle.node_world.specs.Laws.{Laws}
 
 abbrev count_at : List NodeView → ℕ → ℕ
 count_at nodes e = (node_at nodes e).appended
@@ -245,7 +246,7 @@ counts_alloc m e p page count me = by (ltb e.0 (length m.nodes)) refl
 -- ---- deliveries
 
 -- The command at hand is the delivery's own, or a settle.
-module _ (hand : Command) (quiet : (e : ℕ) (cause : Cause) → refuses e (Some hand) cause ≡ false) (m : MachineView) (x y : Enclave) (count : ℕ) (me : y.0 < length m.nodes → (node_at m.nodes y.0).view.me ≡ y) where
+module _ (laws : Laws) (hand : Command) (quiet : (e : ℕ) (cause : Cause) → refuses e (Some hand) cause ≡ false) (m : MachineView) (x y : Enclave) (count : ℕ) (me : y.0 < length m.nodes → (node_at m.nodes y.0).view.me ≡ y) where
   -- nothing goes to an enclave that isn't born
   unborn_hop : ltb y.0 (length m.nodes) ≡ false → hop_in m x y ≡ hops.NoEnclave
   unborn_hop is = rw is refl
@@ -275,7 +276,7 @@ module _ (hand : Command) (quiet : (e : ℕ) (cause : Cause) → refuses e (Some
       busy = record {
         gain = λ e. share nobody took e + share (only y) ls e;
         adds = adds_append hand took ls (share nobody took) (share (only y) ls) (adds_by hand nobody took (λ e. refl, tt))
-            (adds_by hand (only y) ls (subst (λ e. AreBy hand (only e) ls) (me within) (by_records hand node.view x (fed node x piece).records)));
+            (adds_by hand (only y) ls (subst (λ e. AreBy hand (only e) ls) (me within) (by_records laws.views hand node.view x (fed node x piece).records)));
         raises = λ e few. raises_one m.nodes y (after_feed node x piece) (words_in ls) within refl e (omega (arith, few)) ∙ omega arith;
       }
 
@@ -342,19 +343,19 @@ counts_show_pool m = counts_still commands.ShowPool (λ e cause. refl) (lines_by
 
 -- ---- any command
 
-pub counted : (m : MachineView) (c : Command) → IsReady m → Stands m c → Counts c (lines_by m c) m.nodes (acted m c).nodes
-counted m (commands.Pool blocks) ready stands = counts_none (commands.Pool blocks) [] m.nodes tt
-counted m (commands.Host blocks ns) ready stands = counts_host m blocks ns stands.0
-counted m (commands.Boot kind parent blocks ns) ready stands = counts_boot m kind parent blocks ns (λ within. (ready.nodes parent.0 within).me)
-counted m (commands.Proc e uid gid) ready stands = counts_start m e uid gid (λ within. (ready.nodes e.0 within).me)
-counted m (commands.Alloc e p page count) ready stands = counts_alloc m e p page count (λ within. (ready.nodes e.0 within).me)
-counted m (commands.Touch e p addr want) ready stands = counts_touch m e p addr want
-counted m (commands.Deliver x y count) ready stands = counts_deliver (commands.Deliver x y count) (λ e cause. refl) m x y count (λ within. (ready.nodes y.0 within).me)
-counted m (commands.Settle most) ready stands = absurd stands
-counted m (commands.ShowRoutes e) ready stands = counts_show_routes m e
-counted m (commands.ShowLink x y) ready stands = counts_show_link m x y
-counted m commands.ShowPool ready stands = counts_show_pool m
-counted m c ready stands = counts_none c [] m.nodes tt
+pub counted : Laws → (m : MachineView) (c : Command) → IsReady m → Stands m c → Counts c (lines_by m c) m.nodes (acted m c).nodes
+counted laws m (commands.Pool blocks) ready stands = counts_none (commands.Pool blocks) [] m.nodes tt
+counted laws m (commands.Host blocks ns) ready stands = counts_host m blocks ns stands.0
+counted laws m (commands.Boot kind parent blocks ns) ready stands = counts_boot m kind parent blocks ns (λ within. (ready.nodes parent.0 within).me)
+counted laws m (commands.Proc e uid gid) ready stands = counts_start m e uid gid (λ within. (ready.nodes e.0 within).me)
+counted laws m (commands.Alloc e p page count) ready stands = counts_alloc m e p page count (λ within. (ready.nodes e.0 within).me)
+counted laws m (commands.Touch e p addr want) ready stands = counts_touch m e p addr want
+counted laws m (commands.Deliver x y count) ready stands = counts_deliver laws (commands.Deliver x y count) (λ e cause. refl) m x y count (λ within. (ready.nodes y.0 within).me)
+counted laws m (commands.Settle most) ready stands = absurd stands
+counted laws m (commands.ShowRoutes e) ready stands = counts_show_routes m e
+counted laws m (commands.ShowLink x y) ready stands = counts_show_link m x y
+counted laws m commands.ShowPool ready stands = counts_show_pool m
+counted laws m c ready stands = counts_none c [] m.nodes tt
 
 -- ---- a journal
 
@@ -378,17 +379,17 @@ counted_more hand m ls journal after k at old short e =
     k.raises e (omega (arith, sum, few, short)) ∙ sum
 
 -- those of a command at hand
-pub counted_after : (m : MachineView) (c : Command) (journal : List Line) → IsReady m → Stands m c → command_at (onto journal []) ≡ Some c → AreCounted m journal → words_in (journal ++ lines_by m c) ≤ most_words
+pub counted_after : Laws → (m : MachineView) (c : Command) (journal : List Line) → IsReady m → Stands m c → command_at (onto journal []) ≡ Some c → AreCounted m journal → words_in (journal ++ lines_by m c) ≤ most_words
     → AreCounted (after_command m c) (journal ++ lines_by m c)
-counted_after m c journal ready stands at old short = counted_more c m (lines_by m c) journal (acted m c).nodes (counted m c ready stands) at old short
+counted_after laws m c journal ready stands at old short = counted_more c m (lines_by m c) journal (acted m c).nodes (counted laws m c ready stands) at old short
 
 -- those of a delivery, while a settle is at hand, which stays so
-module _ (m : MachineView) (x y : Enclave) (count most : ℕ) (journal : List Line) (ready : IsReady m) (at : command_at (onto journal []) ≡ Some (commands.Settle most)) where
+module _ (laws : Laws) (m : MachineView) (x y : Enclave) (count most : ℕ) (journal : List Line) (ready : IsReady m) (at : command_at (onto journal []) ≡ Some (commands.Settle most)) where
   abbrev ls : List Line
   ls = lines_by m (commands.Deliver x y count)
 
   made : Counts (commands.Settle most) ls m.nodes (acted m (commands.Deliver x y count)).nodes
-  made = counts_deliver (commands.Settle most) (λ e cause. refl) m x y count (λ within. (ready.nodes y.0 within).me)
+  made = counts_deliver laws (commands.Settle most) (λ e cause. refl) m x y count (λ within. (ready.nodes y.0 within).me)
 
   pub counted_delivery : AreCounted m journal → words_in (journal ++ ls) ≤ most_words → AreCounted (after_command m (commands.Deliver x y count)) (journal ++ ls)
   counted_delivery old short = counted_more (commands.Settle most) m ls journal (acted m (commands.Deliver x y count)).nodes made at old short

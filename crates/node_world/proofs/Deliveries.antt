@@ -6,7 +6,6 @@ use Rattle.std.proofs.lemmas.List.{length-set}
 use Rattle.xm_num.specs.declared.Enclave.{Enclave}
 use Rattle.xm_num.specs.declared.Cause.TheVariants as causes
 use Rattle.xm_num.specs.Rows.{at, less}
-use Rattle.xm_num.proofs.RowLemmas.{at_put}
 use Rattle.byte_link.specs.Channel.{Channel, taken, waiting_bytes}
 use Rattle.xemem_language.specs.declared.record.Record.{Record}
 use Rattle.xemem_language.specs.declared.record.Body.{Body}
@@ -25,10 +24,11 @@ use Rattle.enclave_rules.specs.Steps.{refusal, knows_way, here_of, register_of, 
 use Rattle.global_model.specs.Refusals.{link_conditions, first_cause}
 use Rattle.global_model.specs.Due.{command_lines, got_lines, took_lines, deliver_lines}
 use Rattle.enclave_node.specs.Nodes.{NodeView, unborn_node, feed_at, fed, fed_lines, after_feed}
-use Rattle.node_world.specs.declared.pair.Hop.{Hop}
-use Rattle.node_world.specs.declared.pair.Hop.TheVariants as hops
-use Rattle.node_world.specs.Machine.{MachineView, node_at, pair_at, with_node, hop_in, link_of, with_link, taken_by, is_idle, over_lines, over_machine, deliver_by, after_deliver, lines_by, acted, with_carried, after_command}
-use Rattle.node_world.specs.Shown.{IsNodeOf, IsShown, enclave}
+use Rattle.node_machine.specs.declared.pair.Hop.{Hop}
+use Rattle.node_machine.specs.declared.pair.Hop.TheVariants as hops
+use Rattle.node_machine.specs.Machine.{MachineView, node_at, pair_at, with_node, hop_in, link_of, with_link, taken_by, is_idle, over_lines, over_machine, deliver_by, after_deliver, lines_by, acted, with_carried, after_command}
+use Rattle.node_machine.specs.Machine.{enclave}
+use Rattle.node_world.specs.Shown.{IsNodeOf, IsShown}
 use Rattle.node_world.specs.Laws.{WireLaws, ViewLaws}
 use Rattle.node_world.proofs.Lists.{cond_case, same_either, set_case}
 use Rattle.node_world.proofs.Flows.{waiting-length, link_taken, got_is, IsFed, feed_from, feed_fed}
@@ -163,10 +163,10 @@ module _ (wire : WireLaws) (views : ViewLaws) (G H : Facts) (m : MachineView) (x
       by : b ≡ y.0 → (t : Bool) → eqb x.0 a ≡ t → at after.feeds a ≡ Some (feed_by (T.channel a b))
       by same true is =
           let one : a ≡ x.0 = sym (eqb-true x.0 a is) in
-          at_put node.feeds x.0 a (record d { records = [] }) ∙ ap (λ b. cond b (Some (record d { records = [] })) (at node.feeds a)) is ∙ ap Some is_fed.feed ∙ ap (λ f. Some (feed_by f)) (sym (pair_here x.0 y.0 (with_taken n) G.channel a b one same))
+          step.laws.put node.feeds x.0 a (record d { records = [] }) ∙ ap (λ b. cond b (Some (record d { records = [] })) (at node.feeds a)) is ∙ ap Some is_fed.feed ∙ ap (λ f. Some (feed_by f)) (sym (pair_here x.0 y.0 (with_taken n) G.channel a b one same))
       by same false is =
           let apart = eqb-false x.0 a is in
-          at_put node.feeds x.0 a (record d { records = [] }) ∙ ap (λ b. cond b (Some (record d { records = [] })) (at node.feeds a)) is ∙ ap (λ e. at (node_at m.nodes e).feeds a) (sym same) ∙ old
+          step.laws.put node.feeds x.0 a (record d { records = [] }) ∙ ap (λ b. cond b (Some (record d { records = [] })) (at node.feeds a)) is ∙ ap (λ e. at (node_at m.nodes e).feeds a) (sym same) ∙ old
           ∙ ap (λ f. Some (feed_by f)) (sym (pair_other x.0 y.0 (with_taken n) G.channel a b (λ one two. apart (sym one))))
 
   stranger_after : (e c : ℕ) → G.born ≤ c → at (node_at w.nodes e).feeds c ≡ None
@@ -174,7 +174,7 @@ module _ (wire : WireLaws) (views : ViewLaws) (G H : Facts) (m : MachineView) (x
       (λ same.
       let mine = k.mine in
       let apart : eqb x.0 c ≡ false = ne_eqb x.0 c (λ one. omega (arith, one, far, mine)) in
-      at_put node.feeds x.0 c (record d { records = [] }) ∙ ap (λ b. cond b (Some (record d { records = [] })) (at node.feeds c)) apart ∙ h.strangers y.0 c far)
+      step.laws.put node.feeds x.0 c (record d { records = [] }) ∙ ap (λ b. cond b (Some (record d { records = [] })) (at node.feeds c)) apart ∙ h.strangers y.0 c far)
       (λ apart. h.strangers e c far)
 
   within_after : AreWithin T.channel
@@ -192,7 +192,7 @@ module _ (wire : WireLaws) (views : ViewLaws) (G H : Facts) (m : MachineView) (x
         born = length-set m.nodes y.0 after ∙ h.born;
         pairs = with_link-length m.pairs hop (taken link n) ∙ h.pairs;
         nodes = node_after is born;
-        links = over G.enclave G.channel m.pairs (linked_of G m step.before h) (length m.nodes) x y (with_taken n) (taken link n) hop k.hop_is count (λ old. link_taken f link n fits old);
+        links = over step.laws G.enclave G.channel m.pairs (linked_of G m step.before h) (length m.nodes) x y (with_taken n) (taken link n) hop k.hop_is count (λ old. link_taken step.laws.links f link n fits old);
         within = within_after;
         feeds = pair_after;
         strangers = stranger_after;
@@ -225,7 +225,7 @@ module _ (wire : WireLaws) (views : ViewLaws) (G H : Facts) (m : MachineView) (x
           let plain : ArePlain ls = plain_records node.view x d.records in
           let facts : H ≡ after_lines T ls = step.after ∙ ap (after_lines G) busy in
           let born : H.born ≡ G.born = ap (λ F. F.born) facts ∙ (counted_lines ls T plain).born in
-          let shown = shown_by T H ls w facts plain step.flowing (busy_acted busy born) in
+          let shown = shown_by step.laws T H ls w facts plain step.flowing (busy_acted busy born) in
           let end : after_command m (commands.Deliver x y count) ≡ with_carried w ls = ap (λ n. with_carried n (lines_by m (commands.Deliver x y count))) (machine ∙ ap (λ b. cond b m w) is) ∙ ap (with_carried w) (made ∙ sym all ∙ busy) in
           (made ∙ sym all, subst (IsShown H) (sym end) shown)
 
@@ -246,5 +246,5 @@ tied_deliver wire views G H m x y count step h = by (hop_in m x y) refl
     by : (hop : Hop) → hop_in m x y ≡ hop → IsTied G H c m
     by hops.NoEnclave is = let cause = refused hops.NoEnclave is in still (refusal causes.NoEnclave) (rw cause refl) (tt, tt) (ap (deliver_by m x y count) is) (ap (after_deliver m x y count) is)
     by hops.NoLink is = let cause = refused hops.NoLink is in still (refusal causes.NoLink) (rw cause refl) (tt, tt) (ap (deliver_by m x y count) is) (ap (after_deliver m x y count) is)
-    by (hops.Up i) is = let cause = refused (hops.Up i) is in tied_over wire views G H m x y count step h (hops.Up i) (over_up G m step.before h x y i is) (rw cause refl) (ap (deliver_by m x y count) is) (ap (after_deliver m x y count) is)
-    by (hops.Down i) is = let cause = refused (hops.Down i) is in tied_over wire views G H m x y count step h (hops.Down i) (over_down G m step.before h x y i is) (rw cause refl) (ap (deliver_by m x y count) is) (ap (after_deliver m x y count) is)
+    by (hops.Up i) is = let cause = refused (hops.Up i) is in tied_over wire views G H m x y count step h (hops.Up i) (over_up G m step.before h step.laws x y i is) (rw cause refl) (ap (deliver_by m x y count) is) (ap (after_deliver m x y count) is)
+    by (hops.Down i) is = let cause = refused (hops.Down i) is in tied_over wire views G H m x y count step h (hops.Down i) (over_down G m step.before h step.laws x y i is) (rw cause refl) (ap (deliver_by m x y count) is) (ap (after_deliver m x y count) is)

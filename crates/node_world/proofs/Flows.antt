@@ -5,7 +5,6 @@ use Rattle.std.proofs.Math.Seq.{take-append-add, drop-append-add}
 use Rattle.std.proofs.lemmas.List.{drop_at, drop-append-le, take-append-le, take-append-drop, length-take-le, map-append}
 use Rattle.byte_link.specs.Channel.{Channel, fresh, waiting_bytes, taken, sent}
 use Rattle.byte_link.specs.Passage.{left_of}
-use Rattle.byte_link.proofs.LawLemmas.{waiting-taken, waiting-sent, pieces-sent, pieces-taken}
 use Rattle.xemem_language.specs.declared.record.Record.{Record}
 use Rattle.xemem_wire.specs.Spelling.{spelling_of, spellings_of, AreValid}
 use Rattle.xemem_wire.specs.Stream.{Reading, reading_of, first_bad}
@@ -13,8 +12,9 @@ use Rattle.xemem_wire.specs.Decoding.{Decoding, after_piece}
 use Rattle.global_model.specs.Facts.{ChannelFact, no_channel, with_sent, with_taken}
 use Rattle.global_model.specs.Channels.{whole_records, arriving, waiting_of}
 use Rattle.global_model.specs.Flow.{IsFlow}
-use Rattle.node_world.specs.Links.{IsFlowing, IsChannel, got_bytes, feed_of}
-use Rattle.node_world.specs.Laws.{WireLaws}
+use Rattle.node_machine.specs.Links.{IsFlowing}
+use Rattle.node_world.specs.Links.{IsChannel, got_bytes, feed_of}
+use Rattle.node_world.specs.Laws.{LinkLaws, WireLaws}
 use Rattle.node_world.proofs.Fronts.{spelling_of-length, IsFront, front_of, spellings-append, spellings-length, whole-after, whole-take, whole-length, whole-bytes, whole-more}
 
 -- ---- what waits in a link
@@ -37,14 +37,14 @@ fresh_link = record { within = omega arith; waiting = refl; pieces = refl; open_
 pub waiting-length : (f : ChannelFact) (link : Channel) → IsLinkOf f link → f.taken + length (waiting_bytes link) ≡ length (spellings_of f.sent)
 waiting-length f link h = let size = ap length h.waiting ∙ length-drop f.taken (spellings_of f.sent) in omega (arith, size, h.within)
 
-pub link_sent : (f : ChannelFact) (link : Channel) (r : Record) → IsLinkOf f link → IsLinkOf (with_sent r f) (sent link (spelling_of r))
-link_sent f link r h =
+pub link_sent : LinkLaws → (f : ChannelFact) (link : Channel) (r : Record) → IsLinkOf f link → IsLinkOf (with_sent r f) (sent link (spelling_of r))
+link_sent laws f link r h =
     let one : spellings_of (r ∷ []) ≡ spelling_of r = append-nil (spelling_of r) in
     let all : spellings_of (f.sent ++ r ∷ []) ≡ spellings_of f.sent ++ spelling_of r = spellings-append f.sent (r ∷ []) ∙ ap (λ xs. spellings_of f.sent ++ xs) one in
     record {
       within = let size = ap length all ∙ length-append (spellings_of f.sent) (spelling_of r) in omega (arith, size, h.within);
-      waiting = waiting-sent link (spelling_of r) ∙ ap (λ xs. xs ++ spelling_of r) h.waiting ∙ sym (ap (drop f.taken) all ∙ drop-append-le f.taken (spellings_of f.sent) (spelling_of r) h.within);
-      pieces = pieces-sent link (map spelling_of f.sent) f.taken (spelling_of r) (let same = ap length (spellings-concat f.sent) in omega (arith, same, h.within)) (omega (arith, spelling_of-length r)) h.pieces
+      waiting = laws.send link (spelling_of r) ∙ ap (λ xs. xs ++ spelling_of r) h.waiting ∙ sym (ap (drop f.taken) all ∙ drop-append-le f.taken (spellings_of f.sent) (spelling_of r) h.within);
+      pieces = laws.sent link (map spelling_of f.sent) f.taken (spelling_of r) (let same = ap length (spellings-concat f.sent) in omega (arith, same, h.within)) (omega (arith, spelling_of-length r)) h.pieces
           ∙ ap (λ rows. left_of rows f.taken) (sym (map-append spelling_of f.sent (r ∷ [])));
       open_end = h.open_end;
     }
@@ -56,11 +56,11 @@ drop-more (suc t) zero [] = let one : suc t + 0 ≡ suc t = omega arith in sym (
 drop-more (suc t) (suc n) [] = let one : suc t + suc n ≡ suc (t + suc n) = omega arith in sym (ap (λ k. drop k []) one)
 drop-more (suc t) n (x ∷ xs) = let one : suc t + n ≡ suc (t + n) = omega arith in drop-more t n xs ∙ sym (ap (λ k. drop k (x ∷ xs)) one)
 
-pub link_taken : (f : ChannelFact) (link : Channel) (n : ℕ) → n ≤ length (waiting_bytes link) → IsLinkOf f link → IsLinkOf (with_taken n f) (taken link n)
-link_taken f link n fits h = record {
+pub link_taken : LinkLaws → (f : ChannelFact) (link : Channel) (n : ℕ) → n ≤ length (waiting_bytes link) → IsLinkOf f link → IsLinkOf (with_taken n f) (taken link n)
+link_taken laws f link n fits h = record {
   within = let size = waiting-length f link h in omega (arith, size, fits);
-  waiting = waiting-taken link n ∙ ap (drop n) h.waiting ∙ drop-more f.taken n (spellings_of f.sent);
-  pieces = pieces-taken link (map spelling_of f.sent) f.taken n h.pieces;
+  waiting = laws.take link n ∙ ap (drop n) h.waiting ∙ drop-more f.taken n (spellings_of f.sent);
+  pieces = laws.taken link (map spelling_of f.sent) f.taken n h.pieces;
   open_end = h.open_end;
 }
 

@@ -11,17 +11,17 @@ use Rattle.xemem_language.specs.Spelling.{words_in}
 use Rattle.global_model.specs.Facts.{facts_after, after_line}
 use Rattle.global_model.specs.Due.{command_lines, journal_of, settle_from, step_lines}
 use Rattle.global_model.specs.Journals.{do_commands, onto, command_at}
-use Rattle.global_model.proofs.Pasts.{onto-append}
 use Rattle.node_world.specs.declared.world.Which.{Which}
 use Rattle.node_world.specs.Laws.{Laws}
-use Rattle.node_world.specs.Links.{sent_in}
-use Rattle.node_world.specs.Machine.{MachineView, lines_by, after_command}
-use Rattle.node_world.specs.Ready.{IsReady, IsNoSettle, CanStep}
+use Rattle.node_machine.specs.Links.{sent_in}
+use Rattle.node_machine.specs.Machine.{MachineView, lines_by, after_command}
+use Rattle.node_machine.specs.Ready.{IsReady, IsNoSettle, CanStep}
 use Rattle.node_world.specs.Shown.{IsShown}
 use Rattle.node_world.specs.World.{most_words, IsHistoryOf, IsAlong, IsCut, IsStopped}
 use Rattle.node_world.proofs.Steps.{stepped, ready, can_step, sent_valid}
 use Rattle.node_world.proofs.Counts.{AreCounted, counted_line, counted_after}
 use Rattle.node_world.proofs.Stops.{stopped_more, stopped_behind}
+use Rattle.node_world.proofs.Words.{onto-append}
 
 placed_more : (n : ℕ) (before : List Command) (c : Command) → IsPlacedAfter n before → may_stand (n + length before) c ≡ true → IsInRange c → IsPlacedAfter n (before ++ c ∷ [])
 placed_more n [] c placed may range = let none : n + 0 ≡ n = omega arith in (subst (λ k. may_stand k c ≡ true) none may, range, tt)
@@ -99,7 +99,7 @@ module _ (laws : Laws) (m : MachineView) (journal : List Line) (h : IsHistoryOf 
           history_of v after whole
           (subst (λ v. IsShown (facts_after after) v) (sym then) (subst (λ j. IsShown (facts_after j) (after_command m c)) (sym whole) (stepped laws (do_commands journal) c m quiet placed shown).1))
           (subst (λ v. AreCounted v after) (sym then) (subst (AreCounted (after_command m c)) (sym written)
-          (counted_after m c begun (ready laws (do_commands journal) m h.placed shown) (can_step laws (do_commands journal) c m quiet placed shown).stands at_hand counted_begun (subst (λ j. words_in j ≤ most_words) written few))))
+          (counted_after laws m c begun (ready laws (do_commands journal) m h.placed shown) (can_step laws (do_commands journal) c m quiet placed shown).stands at_hand counted_begun (subst (λ j. words_in j ≤ most_words) written few))))
 
     -- ---- a settle
 

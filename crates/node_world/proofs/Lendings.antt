@@ -12,11 +12,11 @@ use Rattle.global_model.specs.Flow.{IsFlowing}
 use Rattle.global_model.specs.Refusals.{link_conditions, first_cause}
 use Rattle.enclave_node.specs.Nodes.{NodeView, unborn_node}
 use Rattle.enclave_rules.specs.View.{host}
-use Rattle.node_world.specs.declared.pair.Hop.{Hop}
-use Rattle.node_world.specs.declared.pair.Hop.TheVariants as hops
+use Rattle.node_machine.specs.declared.pair.Hop.{Hop}
+use Rattle.node_machine.specs.declared.pair.Hop.TheVariants as hops
 use Rattle.node_world.specs.Appended.{words_by}
 use Rattle.node_world.specs.Laws.{Laws}
-use Rattle.node_world.specs.Machine.{MachineView, node_at, pair_at, hop_in, link_by, link_between}
+use Rattle.node_machine.specs.Machine.{MachineView, node_at, pair_at, hop_in, link_by, link_between}
 use Rattle.node_world.specs.Shown.{IsNodeOf, Feeds, IsFedBy, IsShown}
 use Rattle.node_world.specs.World.{IsHistoryOf}
 use Rattle.node_world.proofs.Flows.{feed_is}
@@ -83,14 +83,14 @@ far_refused G x y far = by (is_living_enclave (G.enclave y.0) && is_some (G.encl
 -- ---- links
 
 -- a link is lent between neighbours, and its bytes are those that wait
-pub link_waits : (G : Facts) (m : MachineView) → IsFlowing G → IsShown G m → (x y : Enclave) (link : Channel) → link_between m x y ≡ Some link → waiting_bytes link ≡ waiting_in G x.0 y.0
-link_waits G m flowing h x y link is = by (hop_in m x y) refl is
+pub link_waits : Laws → (G : Facts) (m : MachineView) → IsFlowing G → IsShown G m → (x y : Enclave) (link : Channel) → link_between m x y ≡ Some link → waiting_bytes link ≡ waiting_in G x.0 y.0
+link_waits laws G m flowing h x y link is = by (hop_in m x y) refl is
   where
     by : (hop : Hop) → hop_in m x y ≡ hop → link_by m.pairs hop ≡ Some link → waiting_bytes link ≡ waiting_in G x.0 y.0
     by hops.NoEnclave is none = cc
     by hops.NoLink is none = cc
-    by (hops.Up i) is some = let same : (pair_at m.pairs i).up ≡ link = cc in ap waiting_bytes (sym same) ∙ (over_up G m flowing h x y i is).link.waiting
-    by (hops.Down i) is some = let same : (pair_at m.pairs i).down ≡ link = cc in ap waiting_bytes (sym same) ∙ (over_down G m flowing h x y i is).link.waiting
+    by (hops.Up i) is some = let same : (pair_at m.pairs i).up ≡ link = cc in ap waiting_bytes (sym same) ∙ (over_up G m flowing h laws x y i is).link.waiting
+    by (hops.Down i) is some = let same : (pair_at m.pairs i).down ≡ link = cc in ap waiting_bytes (sym same) ∙ (over_down G m flowing h laws x y i is).link.waiting
 
 pub link_none : (G : Facts) (m : MachineView) → IsFlowing G → IsShown G m → (x y : Enclave) → link_between m x y ≡ None → is_neighbour G x.0 y.0 ≡ false
 link_none G m flowing h x y none = by (is_neighbour G x.0 y.0) refl (hop_in m x y) refl none
@@ -126,8 +126,8 @@ lent_node G m h e node is =
 pub lent_appended : (m : MachineView) (journal : List Line) → IsHistoryOf m journal → (e : ℕ) (node : NodeView) → slice_get m.nodes e ≡ Some node → node.appended ≡ words_by e (onto journal [])
 lent_appended m journal h e node is = ap (λ n. n.appended) (sym (node_found m.nodes e node is).1) ∙ h.appended e
 
-pub lent_feeds : (G : Facts) (m : MachineView) → IsFlowing G → IsShown G m → (e : ℕ) (node : NodeView) → slice_get m.nodes e ≡ Some node → IsFedBy G e node
-lent_feeds G m flowing h e node is x near = subst (Feeds G x e) (node_found m.nodes e node is).1 (by (hop_in m from to) refl)
+pub lent_feeds : Laws → (G : Facts) (m : MachineView) → IsFlowing G → IsShown G m → (e : ℕ) (node : NodeView) → slice_get m.nodes e ≡ Some node → IsFedBy G e node
+lent_feeds laws G m flowing h e node is x near = subst (Feeds G x e) (node_found m.nodes e node is).1 (by (hop_in m from to) refl)
   where
     from : Enclave
     from = record { 0 = x }
@@ -138,8 +138,8 @@ lent_feeds G m flowing h e node is x near = subst (Feeds G x e) (node_found m.no
     by : (hop : Hop) → hop_in m from to ≡ hop → Feeds G x e (node_at m.nodes e)
     by hops.NoEnclave is = let clash : cause_of hops.NoEnclave ≡ None = ap cause_of (sym is) ∙ sym (refused_is G m flowing h from to) ∙ near_fine G flowing from to near in cc
     by hops.NoLink is = let clash : cause_of hops.NoLink ≡ None = ap cause_of (sym is) ∙ sym (refused_is G m flowing h from to) ∙ near_fine G flowing from to near in cc
-    by (hops.Up i) is = (over_up G m flowing h from to i is).feed ∙ ap Some (sym (feed_is (G.channel x e) (flowing.flows x e) (flowing.arrived x e)))
-    by (hops.Down i) is = (over_down G m flowing h from to i is).feed ∙ ap Some (sym (feed_is (G.channel x e) (flowing.flows x e) (flowing.arrived x e)))
+    by (hops.Up i) is = (over_up G m flowing h laws from to i is).feed ∙ ap Some (sym (feed_is (G.channel x e) (flowing.flows x e) (flowing.arrived x e)))
+    by (hops.Down i) is = (over_down G m flowing h laws from to i is).feed ∙ ap Some (sym (feed_is (G.channel x e) (flowing.flows x e) (flowing.arrived x e)))
 
 -- no node is lent exactly where the enclave doesn't live
 pub no_node : (G : Facts) (m : MachineView) → IsFlowing G → IsShown G m → (e : ℕ) → (slice_get m.nodes e ≡ None) ↔ (is_living_enclave (G.enclave e) ≡ false)

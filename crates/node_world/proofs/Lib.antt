@@ -1,8 +1,6 @@
 pub mod Lists
 pub mod Fronts
-pub mod IndexLemmas
 pub mod Flows
-pub mod Hops
 pub mod Carriage
 pub mod Acted
 pub mod Stills
@@ -14,9 +12,6 @@ pub mod Boots
 pub mod Readiness
 pub mod Steps
 pub mod Nexts
-pub mod ByteLemmas
-pub mod DeliveryLemmas
-pub mod BearLemmas
 pub mod Appends
 pub mod Counts
 pub mod Words

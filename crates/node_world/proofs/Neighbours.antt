@@ -15,14 +15,14 @@ use Rattle.global_model.specs.Refusals.{when, link_conditions, first_cause}
 use Rattle.enclave_rules.specs.Steps.{refusal, bytes_lines}
 use Rattle.global_model.specs.Due.{command_lines, show_lines}
 use Rattle.byte_link.specs.Channel.{waiting_bytes}
-use Rattle.node_world.specs.declared.pair.Hop.{Hop}
-use Rattle.node_world.specs.declared.pair.Hop.TheVariants as hops
-use Rattle.node_world.specs.Machine.{MachineView, no_pair, pair_at, is_parent, hop_in, link_of, lines_by, shown_by}
+use Rattle.node_machine.specs.declared.pair.Hop.{Hop}
+use Rattle.node_machine.specs.declared.pair.Hop.TheVariants as hops
+use Rattle.node_machine.specs.Machine.{MachineView, no_pair, pair_at, is_parent, hop_in, link_of, lines_by, shown_by}
 use Rattle.node_world.specs.Shown.{IsShown}
 use Rattle.node_world.proofs.Flows.{IsLinkOf}
-use Rattle.node_world.proofs.Hops.{up_is, down_is}
 use Rattle.node_world.proofs.Acted.{HasFeed, linked_of, fed_of}
 use Rattle.node_world.proofs.Stills.{IsStep, IsTied, AreStill, tied_still, still_bytes}
+use Rattle.node_world.specs.Laws.{Laws}
 
 -- the cause for which nothing goes over a channel
 abbrev pub cause_of : Hop → Option Cause
@@ -85,9 +85,9 @@ module _ (G : Facts) (m : MachineView) (flowing : IsFlowing G) (h : IsShown G m)
           let down = child_same y.0 x.0 (ltb-true y.0 G.born both.0) in
           rw (← up, ← down) (tests_are true (is_parent m.pairs x.0 y.0) (is_parent m.pairs y.0 x.0) (x.0 - 1) (y.0 - 1))
 
-  pub over_up : (x y : Enclave) (i : ℕ) → hop_in m x y ≡ hops.Up i → IsOver G m x y (hops.Up i)
-  over_up x y i is =
-      let k = up_is m.pairs (length m.nodes) x y i is in
+  pub over_up : Laws → (x y : Enclave) (i : ℕ) → hop_in m x y ≡ hops.Up i → IsOver G m x y (hops.Up i)
+  over_up laws x y i is =
+      let k = laws.hops.up m.pairs (length m.nodes) x y i is in
       let child = k.child_is in let parent = k.parent_is in
       let linked = linked_of G m flowing h i k.within in
       let fed = fed_of G m flowing h i k.within in
@@ -100,9 +100,9 @@ module _ (G : Facts) (m : MachineView) (flowing : IsFlowing G) (h : IsShown G m)
         feed = subst (λ a. HasFeed G.channel m.nodes a y.0) (sym child) (subst (HasFeed G.channel m.nodes (i + 1)) parent fed.up);
       }
 
-  pub over_down : (x y : Enclave) (i : ℕ) → hop_in m x y ≡ hops.Down i → IsOver G m x y (hops.Down i)
-  over_down x y i is =
-      let k = down_is m.pairs (length m.nodes) x y i is in
+  pub over_down : Laws → (x y : Enclave) (i : ℕ) → hop_in m x y ≡ hops.Down i → IsOver G m x y (hops.Down i)
+  over_down laws x y i is =
+      let k = laws.hops.down m.pairs (length m.nodes) x y i is in
       let child = k.child_is in let parent = k.parent_is in
       let linked = linked_of G m flowing h i k.within in
       let fed = fed_of G m flowing h i k.within in
@@ -137,7 +137,7 @@ tied_show_link G H m x y step h = by (hop_in m x y) refl
     by hops.NoLink is = let cause = refused hops.NoLink is in still (refusal causes.NoLink) (rw cause refl) (tt, tt) (ap (shown_by m x y) is)
     by (hops.Up i) is =
         let cause = refused (hops.Up i) is in
-        still (bytes (hops.Up i)) (rw cause (show_over G m x y (hops.Up i) (over_up G m step.before h x y i is))) (still_bytes x y _ 0 _) (ap (shown_by m x y) is)
+        still (bytes (hops.Up i)) (rw cause (show_over G m x y (hops.Up i) (over_up G m step.before h step.laws x y i is))) (still_bytes x y _ 0 _) (ap (shown_by m x y) is)
     by (hops.Down i) is =
         let cause = refused (hops.Down i) is in
-        still (bytes (hops.Down i)) (rw cause (show_over G m x y (hops.Down i) (over_down G m step.before h x y i is))) (still_bytes x y _ 0 _) (ap (shown_by m x y) is)
+        still (bytes (hops.Down i)) (rw cause (show_over G m x y (hops.Down i) (over_down G m step.before h step.laws x y i is))) (still_bytes x y _ 0 _) (ap (shown_by m x y) is)

@@ -17,10 +17,11 @@ use Rattle.global_model.specs.Facts.{Facts, ChannelFact, is_living_enclave}
 use Rattle.global_model.specs.Channels.{size_of, waiting_bytes as waiting_in}
 use Rattle.global_model.specs.Flow.{IsFlowing}
 use Rattle.global_model.specs.Due.{rest_of_record, next_rest, channels_of, waits, waiting_channels, first_waiting}
-use Rattle.node_world.specs.declared.pair.Pair.{Pair}
-use Rattle.node_world.specs.declared.pair.Hop.TheVariants as hops
-use Rattle.node_world.specs.Machine.{MachineView, pair_at, is_idle, waiting_hops_of, waiting_hops, delivery_over, next_delivery}
-use Rattle.node_world.specs.Shown.{IsShown, enclave}
+use Rattle.node_machine.specs.declared.pair.Pair.{Pair}
+use Rattle.node_machine.specs.declared.pair.Hop.TheVariants as hops
+use Rattle.node_machine.specs.Machine.{MachineView, pair_at, is_idle, waiting_hops_of, waiting_hops, delivery_over, next_delivery}
+use Rattle.node_machine.specs.Machine.{enclave}
+use Rattle.node_world.specs.Shown.{IsShown}
 use Rattle.node_world.proofs.Flows.{IsLinkOf}
 use Rattle.node_world.proofs.Acted.{linked_of}
 

@@ -23,8 +23,9 @@ use Rattle.enclave_rules.specs.Steps.{refusal, start_lines, process_at, own_line
 use Rattle.global_model.specs.Known.{at_born}
 use Rattle.global_model.specs.Due.{command_lines}
 use Rattle.enclave_node.specs.Nodes.{NodeView, unborn_node, wrote}
-use Rattle.node_world.specs.Machine.{MachineView, node_at, pair_at, at_node, lines_by, acted, with_carried, after_command}
-use Rattle.node_world.specs.Shown.{IsNodeOf, IsShown, enclave}
+use Rattle.node_machine.specs.Machine.{MachineView, node_at, pair_at, at_node, lines_by, acted, with_carried, after_command}
+use Rattle.node_machine.specs.Machine.{enclave}
+use Rattle.node_world.specs.Shown.{IsNodeOf, IsShown}
 use Rattle.node_world.proofs.Lists.{cond_case, same_either, set_case}
 use Rattle.node_world.proofs.Carriage.{ArePlain, counted_lines}
 use Rattle.node_world.proofs.Acted.{IsActed, shown_by, linked_of, within_of, fed_of}
@@ -149,7 +150,7 @@ tied_proc G H m e uid gid step h = by (ltb e.0 G.born) (leb 1024 G.starts) refl 
         let K = after_lines G (start_lines v uid gid) in
         let facts : H ≡ K = step.after ∙ ap (after_lines G) started in
         let made = own_acted G H c m step h e (ltb-true e.0 G.born one) (start_lines v uid gid) started (refl, tt) (ap (λ F. F.born) facts) (m.starts + 1) K.starts K.started K.process (ap (λ n. n + 1) h.starts) in
-        let shown = shown_by K H [] (record m { nodes = slice_set m.nodes e.0 (wrote (node_at m.nodes e.0) (start_lines v uid gid)); starts = m.starts + 1 }) facts tt step.flowing made in
+        let shown = shown_by step.laws K H [] (record m { nodes = slice_set m.nodes e.0 (wrote (node_at m.nodes e.0) (start_lines v uid gid)); starts = m.starts + 1 }) facts tt step.flowing made in
         let after : after_command m c ≡ record m { nodes = slice_set m.nodes e.0 (wrote (node_at m.nodes e.0) (start_lines v uid gid)); starts = m.starts + 1 } =
         ap (λ n. with_carried n (lines_by m c)) machine ∙ ap (with_carried (record m { nodes = slice_set m.nodes e.0 (wrote (node_at m.nodes e.0) (start_lines v uid gid)); starts = m.starts + 1 })) (ls ∙ started) in
         (ls, subst (IsShown H) (sym after) shown)
@@ -199,6 +200,6 @@ tied_alloc G H m e p page count step h = by (ltb e.0 G.born) refl
         let facts : H ≡ after_lines G own = step.after ∙ ap (after_lines G) own_is in
         let none_born : H.born ≡ G.born = ap (λ F. F.born) facts ∙ (counted_lines own G plain).born in
         let made = own_acted G H c m step h e (ltb-true e.0 G.born is) own own_is about none_born m.starts G.starts G.started G.process h.starts in
-        let shown = shown_by G H own w facts plain step.flowing made in
+        let shown = shown_by step.laws G H own w facts plain step.flowing made in
         let after : after_command m c ≡ with_carried w own = ap (λ n. with_carried n (lines_by m c)) machine ∙ ap (with_carried w) (ls ∙ own_is) in
         (ls, subst (IsShown H) (sym after) shown)

@@ -18,10 +18,11 @@ use Rattle.enclave_rules.specs.View.{View, host}
 use Rattle.global_model.specs.Views.{child_row}
 use Rattle.enclave_node.specs.Nodes.{NodeView, unborn_node, feed_at}
 use Rattle.byte_link.specs.Channel.{Channel}
-use Rattle.node_world.specs.Links as links
-use Rattle.node_world.specs.Machine.{MachineView, node_at, pair_at}
-use Rattle.node_world.specs.Shown.{IsShown, enclave}
-use Rattle.node_world.specs.Ready.{IsPairReady, IsReady}
+use Rattle.node_machine.specs.Links as links
+use Rattle.node_machine.specs.Machine.{MachineView, node_at, pair_at}
+use Rattle.node_machine.specs.Machine.{enclave}
+use Rattle.node_world.specs.Shown.{IsShown}
+use Rattle.node_machine.specs.Ready.{IsPairReady, IsReady}
 use Rattle.node_world.proofs.Flows.{flowing_of}
 use Rattle.node_world.proofs.Births.{at_nil}
 

@@ -17,10 +17,10 @@ use Rattle.global_model.specs.Carriage.{CarriedAt}
 use Rattle.xemem_language.specs.Ranges.{IsWithin, IsInRange}
 use Rattle.enclave_rules.specs.Built.{is_cokernel}
 use Rattle.global_model.specs.Place.{may_stand, IsPlaced, IsPlacedAfter}
-use Rattle.node_world.specs.Links.{sent_in}
-use Rattle.node_world.specs.Machine.{MachineView, no_machine, lines_by, after_command}
+use Rattle.node_machine.specs.Links.{sent_in}
+use Rattle.node_machine.specs.Machine.{MachineView, no_machine, lines_by, after_command}
 use Rattle.node_world.specs.Shown.{IsShown}
-use Rattle.node_world.specs.Ready.{IsReady, IsNoSettle, Stands, CanStep}
+use Rattle.node_machine.specs.Ready.{IsReady, IsNoSettle, Stands, CanStep}
 use Rattle.node_world.specs.Laws.{Laws}
 use Rattle.node_world.proofs.Flows.{more-valid}
 use Rattle.node_world.proofs.Stills.{placed_before, step_of, tied_touch, tied_show_routes, tied_show_pool}

@@ -22,16 +22,18 @@ use Rattle.enclave_rules.specs.Steps.{refusal, answer_lines, touch_answer, way_l
 use Rattle.global_model.specs.Known.{IsAnswered, at_born}
 use Rattle.global_model.specs.Due.{command_lines, step_lines, journal_of}
 use Rattle.global_model.specs.Place.{IsPlaced, IsPlacedAfter}
-use Rattle.node_world.specs.declared.pair.Pair.{Pair}
-use Rattle.node_world.specs.Machine.{MachineView, node_at, at_node, lines_by, acted, carried, with_carried, after_command}
-use Rattle.node_world.specs.Shown.{IsShown, enclave}
+use Rattle.node_machine.specs.declared.pair.Pair.{Pair}
+use Rattle.node_machine.specs.Machine.{MachineView, node_at, at_node, lines_by, acted, carried, with_carried, after_command}
+use Rattle.node_machine.specs.Machine.{enclave}
+use Rattle.node_world.specs.Shown.{IsShown}
 use Rattle.node_world.specs.Laws.{Laws}
 use Rattle.node_world.proofs.Lists.{cond_case}
 
 -- ---- a step by the facts
 
--- the facts before and after a command, and the views of the enclaves that then live
+-- the laws, the facts before and after a command, and the views of the enclaves that then live
 pub record IsStep (G H : Facts) (c : Command) : Type 0 where
+  pub laws : Laws
   pub after : H ≡ after_lines G (step_lines G c)
   pub before : IsFlowing G
   pub flowing : IsFlowing H
@@ -50,6 +52,7 @@ step_of laws commands c placed =
     let first = placed_before 0 commands (c ∷ []) placed in
     let flowing = laws.flowing (commands ++ c ∷ []) placed in
     record {
+      laws = laws;
       after = ap facts_after (laws.journal commands c) ∙ laws.facts (journal_of commands) (step_lines G c);
       before = laws.flowing commands first;
       flowing = flowing;

@@ -8,7 +8,7 @@ use Rattle.node_world.specs.declared.world.Which.{Which}
 use Rattle.node_world.specs.declared.world.Which.TheVariants as whiches
 use Rattle.node_world.specs.declared.world.Progress.{Progress}
 use Rattle.node_world.specs.declared.world.Progress.TheVariants as progresses
-use Rattle.node_world.specs.Machine.{MachineView}
+use Rattle.node_machine.specs.Machine.{MachineView}
 use Rattle.node_world.specs.World.{most_words, most_deliveries, IsShort, IsNext, IsStopped, IsOfWorlds, IsKept, PassesBy}
 use Rattle.node_world.proofs.Words.{words-append, deliveries-append}
 

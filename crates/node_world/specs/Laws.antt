@@ -1,16 +1,21 @@
 -- The laws on which the world rests, as the functions of the crates below ensure them.
-use Rattle.std.specs.Prelude.{◌≡◌, ◌≢◌, ◌<◌, ◌≤◌, ◌++◌, ◌∷◌, [], ℕ, List, Bool, length, take, None, Some, true, nat_lt, if◌then◌else◌}
+use Rattle.std.specs.Prelude.{◌≡◌, ◌≢◌, ◌+◌, ◌<◌, ◌≤◌, ◌==◌, ◌++◌, ◌∷◌, [], ℕ, List, Bool, length, take, drop, None, Some, true, nat_lt, if◌then◌else◌}
+use Rattle.std.specs.List.{concat}
 use Rattle.std.specs.Option.{option_map}
 use Rattle.xm_num.specs.declared.Enclave.{Enclave}
 use Rattle.xm_num.specs.declared.Cause.TheVariants as causes
+use Rattle.xm_num.specs.Rows.{at, put}
+use Rattle.byte_link.specs.Channel.{Channel, waiting_bytes, sent, taken}
+use Rattle.byte_link.specs.Passage.{left_of}
 use Rattle.xemem_language.specs.declared.record.Record.{Record}
 use Rattle.xemem_wire.specs.Spelling.{spelling_of, spellings_of, is_valid, AreValid}
+use Rattle.xemem_wire.specs.Decoding.{Decoding}
 use Rattle.xemem_wire.specs.Stream.{reading_of, onto, after_records, nothing_read, first_bad, moved}
 use Rattle.xemem_language.specs.declared.command.Command.{Command}
 use Rattle.xemem_language.specs.declared.command.Command.TheVariants as commands
 use Rattle.xemem_language.specs.declared.line.Line.{Line}
 use Rattle.global_model.specs.Facts.{Facts, facts_after, after_lines, is_living_enclave}
-use Rattle.enclave_rules.specs.View.{View, own_lines, seen_lines, unborn_view}
+use Rattle.enclave_rules.specs.View.{View, own_lines, seen_lines, unborn_view, AreOf}
 use Rattle.global_model.specs.Views.{view_of}
 use Rattle.enclave_rules.specs.Steps.{refusal, host_lines, first_blocks, lines_of_records}
 use Rattle.global_model.specs.Known.{IsAnswered}
@@ -18,9 +23,11 @@ use Rattle.global_model.specs.Due.{got_lines, deliver_lines, next_rest, first_wa
 use Rattle.global_model.specs.Flow.{IsFlowing}
 use Rattle.global_model.specs.Journals.{do_commands}
 use Rattle.global_model.specs.Carriage.{IsCarried}
-use Rattle.history_laws.specs.History.{IsLegal, IsTold, IsWhole}
 use Rattle.global_model.specs.Place.{IsPlaced}
 use Rattle.global_model.specs.Rest.{EndsSettle}
+use Rattle.node_machine.specs.declared.pair.Pair.{Pair}
+use Rattle.node_machine.specs.declared.pair.Hop.TheVariants as hops
+use Rattle.node_machine.specs.Machine.{AreAbove, IsPairAt, hop_of}
 
 -- what a decoder makes of spellings
 pub record WireLaws : Type 0 where
@@ -31,6 +38,7 @@ pub record WireLaws : Type 0 where
 
 -- what an enclave writes and keeps follows from its view
 pub record ViewLaws : Type 0 where
+  pub at : (v : View) (x : Enclave) (rs : List Record) → AreOf v.me (lines_of_records v x rs)
   pub records : (G : Facts) (x y : Enclave) (rs : List Record) → is_living_enclave (G.enclave y.0) ≡ true → got_lines G x y rs ≡ lines_of_records (view_of G y) x rs
   pub own : (v : View) (x : Enclave) (rs : List Record) → seen_lines v (lines_of_records v x rs) ≡ own_lines v (lines_of_records v x rs)
   pub others : (v w : View) (x : Enclave) (rs : List Record) → w.me.0 ≢ v.me.0 → seen_lines w (lines_of_records v x rs) ≡ w
@@ -50,16 +58,30 @@ pub record SettleLaws : Type 0 where
   pub ends : (before : List Command) (most : ℕ) → IsPlaced before
       → EndsSettle most (command_lines (facts_after (journal_of before)) (commands.Settle most)) (facts_after (journal_of (before ++ commands.Settle most ∷ [])))
 
--- the journal of commands
+-- what a link has once bytes are sent or taken
+pub record LinkLaws : Type 0 where
+  pub send : (c : Channel) (bytes : List ℕ) → waiting_bytes (sent c bytes) ≡ waiting_bytes c ++ bytes
+  pub take : (c : Channel) (n : ℕ) → waiting_bytes (taken c n) ≡ drop n (waiting_bytes c)
+  pub sent : (c : Channel) (records : List (List ℕ)) (gone : ℕ) (bytes : List ℕ) → gone ≤ length (concat records) → 0 < length bytes → c.pieces ≡ left_of records gone → (sent c bytes).pieces ≡ left_of (records ++ bytes ∷ []) gone
+  pub taken : (c : Channel) (records : List (List ℕ)) (gone n : ℕ) → c.pieces ≡ left_of records gone → (taken c n).pieces ≡ left_of records (gone + n)
+
+-- which channel goes from one enclave to another
+pub record HopLaws : Type 0 where
+  pub up : (pairs : List Pair) (born : ℕ) (x y : Enclave) (i : ℕ) → hop_of pairs born x y ≡ hops.Up i → IsPairAt pairs i x.0 y.0
+  pub down : (pairs : List Pair) (born : ℕ) (x y : Enclave) (i : ℕ) → hop_of pairs born x y ≡ hops.Down i → IsPairAt pairs i y.0 x.0
+  pub to_up : (pairs : List Pair) (born : ℕ) (x y : Enclave) (i : ℕ) → IsPairAt pairs i x.0 y.0 → x.0 < born → y.0 < born → hop_of pairs born x y ≡ hops.Up i
+  pub to_down : (pairs : List Pair) (born : ℕ) (x y : Enclave) (i : ℕ) → AreAbove pairs → IsPairAt pairs i y.0 x.0 → x.0 < born → y.0 < born → hop_of pairs born x y ≡ hops.Down i
+
+-- all of them, and what holds of the journal of commands and of a table after a change
 pub record Laws : Type 0 where
-  pub told : (commands : List Command) → IsTold (journal_of commands)
-  pub whole : (commands : List Command) → IsWhole (journal_of commands)
   pub commands : (commands : List Command) → do_commands (journal_of commands) ≡ commands
-  pub legal : (commands : List Command) → IsPlaced commands → IsLegal (journal_of commands)
   pub carried : (commands : List Command) → IsPlaced commands → IsCarried (journal_of commands)
   pub flowing : (commands : List Command) → IsPlaced commands → IsFlowing (facts_after (journal_of commands))
   pub journal : (commands : List Command) (command : Command) → journal_of (commands ++ command ∷ []) ≡ journal_of commands ++ step_lines (facts_after (journal_of commands)) command
   pub facts : (journal lines : List Line) → facts_after (journal ++ lines) ≡ after_lines (facts_after journal) lines
+  pub put : (table : List (ℕ × Decoding)) (k q : ℕ) (v : Decoding) → at (put table k v) q ≡ (if k == q then Some v else at table q)
   pub wire : WireLaws
+  pub links : LinkLaws
+  pub hops : HopLaws
   pub views : ViewLaws
   pub settles : SettleLaws

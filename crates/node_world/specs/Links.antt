@@ -9,16 +9,6 @@ use Rattle.xemem_language.specs.declared.line.Line.{Line}
 use Rattle.xemem_language.specs.declared.line.Line.TheVariants as lines
 use Rattle.global_model.specs.Facts.{ChannelFact}
 
--- What isn't decoded yet are the spellings of valid records, no field is bad, every whole record was given, and the link goes
--- on.
-pub record IsFlowing (link : Channel) (d : Decoding) : Type 0 where
-  pub coming : List Record
-  pub valid : AreValid coming
-  pub bytes : d.rest ++ waiting_bytes link ≡ spellings_of coming
-  pub fine : d.bad ≡ None
-  pub given : d.records ≡ []
-  pub open_end : link.ended ≡ false
-
 -- how many bytes the records that were got have
 abbrev pub got_bytes : ChannelFact → ℕ
 got_bytes fact = length (spellings_of (take fact.got fact.sent))
@@ -42,9 +32,3 @@ pub record IsChannel (fact : ChannelFact) (link : Channel) (d : Decoding) : Type
   pub given : d.records ≡ []
   pub open_end : link.ended ≡ false
   pub pieces : link.pieces ≡ left_of (map spelling_of fact.sent) fact.taken
-
--- the records that lines send
-abbrev pub sent_in : List Line → List Record
-sent_in [] = []
-sent_in (lines.Sent x y r ∷ journal) = r ∷ sent_in journal
-sent_in (line ∷ journal) = sent_in journal

@@ -6,12 +6,9 @@ use Rattle.global_model.specs.Facts.{Facts, fact_of}
 use Rattle.global_model.specs.Channels.{is_neighbour}
 use Rattle.global_model.specs.Views.{view_of}
 use Rattle.enclave_node.specs.Nodes.{NodeView}
-use Rattle.node_world.specs.declared.pair.Pair.{Pair}
+use Rattle.node_machine.specs.declared.pair.Pair.{Pair}
 use Rattle.node_world.specs.Links.{IsChannel, feed_of}
-use Rattle.node_world.specs.Machine.{MachineView, node_at, pair_at}
-
-abbrev pub enclave : ℕ → Enclave
-enclave e = record { 0 = e }
+use Rattle.node_machine.specs.Machine.{MachineView, node_at, pair_at, enclave}
 
 -- the node is seen as the view of its enclave, and hasn't failed
 pub record IsNodeOf (G : Facts) (e : ℕ) (node : NodeView) : Type 0 where

@@ -12,7 +12,7 @@ use Rattle.node_world.specs.declared.world.Which.TheVariants as whiches
 use Rattle.node_world.specs.declared.world.Progress.{Progress}
 use Rattle.node_world.specs.declared.world.Progress.TheVariants as progresses
 use Rattle.node_world.specs.Appended.{words_by}
-use Rattle.node_world.specs.Machine.{MachineView, no_machine, node_at}
+use Rattle.node_machine.specs.Machine.{MachineView, no_machine, node_at}
 use Rattle.node_world.specs.Shown.{IsShown}
 
 -- ---- limits

@@ -1,7 +1,7 @@
 // How many lines pass no limit.
 ghost use Rattle.std.specs.Prelude.{◌≡◌, ◌+◌, ◌≤◌, ◌<◌, ◌^◌, length, take, true, None, Some};
 ghost use Rattle.xemem_language.specs.Spelling.{line_words, words_in};
-ghost use Rattle.history_laws.specs.History as history;
+ghost use Rattle.global_model.specs.Journals as history;
 ghost use Rattle.node_world.specs.World.{PassesBy, most_words, most_deliveries};
 ghost use Rattle.node_world.specs.World as spec;
 

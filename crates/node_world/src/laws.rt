@@ -1,17 +1,20 @@
 // The laws on which the world rests.
 ghost use Rattle.node_world.specs.Laws.{Laws};
 
-use global_model::{journals_are_carried, journals_grow, settles_deliver, view_step, views_answer, views_follow};
-use history_laws::{journals_are_legal, one_journal};
+use byte_link::{bytes_follow_calls, pieces_follow_calls};
+use global_model::{
+    journals_are_carried, journals_grow, settles_deliver, view_step, views_answer, views_follow,
+};
+use node_machine::hops_are_pairs;
+use xemem_wire::Decoder;
 use xemem_wire::laws::{cut_spelling, spellings_are_read};
+use xm_num::laws::rows;
 
 /// All of them at once.
 pub fn laws()
     ensures { Laws }
 {
-    one_journal();
     journals_grow();
-    journals_are_legal();
     journals_are_carried();
     view_step();
     views_answer();
@@ -19,4 +22,8 @@ pub fn laws()
     settles_deliver();
     cut_spelling();
     spellings_are_read();
+    bytes_follow_calls();
+    pieces_follow_calls();
+    hops_are_pairs();
+    rows::<Decoder>();
 }

@@ -4,14 +4,8 @@
 //! they name, carries bytes, and writes the journal.
 #![tactic(auto)]
 
-mod channels;
 mod count;
-mod delivery;
 mod laws;
-mod machine;
-mod pair;
-#[cfg(test)]
-mod tests;
 mod world;
 
 pub use world::{Progress, Which, World, WorldFault};

@@ -11,22 +11,22 @@ ghost use Rattle.global_model.specs.Due.{command_lines, journal_of, settle_from}
 ghost use Rattle.global_model.specs.Journals.{deliveries_in, do_commands, is_delivery, onto, command_at};
 ghost use Rattle.xemem_wire.specs.Spelling.{AreValid};
 ghost use Rattle.node_world.specs.Appended.{words_by};
-ghost use Rattle.node_world.specs.Links.{sent_in};
-ghost use Rattle.node_world.specs.Machine.{after_command, lines_by};
-ghost use Rattle.node_world.specs.Ready.{IsReady, CanStep};
+ghost use Rattle.node_machine.specs.Links.{sent_in};
+ghost use Rattle.node_machine.specs.Machine.{after_command, lines_by};
+ghost use Rattle.node_machine.specs.Ready.{IsReady, CanStep};
 ghost use Rattle.node_world.specs.Shown.{IsNodeOf, IsFedBy};
 ghost use Rattle.node_world.specs.World as spec;
 ghost use Rattle.node_world.specs.World.{IsAlong, IsCut, IsHistoryOf, IsOfWorlds, IsShort, IsStopped};
 
 use crate::count::{fitting, passed};
 use crate::laws::laws;
-use crate::machine::Machine;
 use byte_link::Link;
 use enclave_node::Node;
-use xemem_language::{Command, Line, Lines, word_count};
+use node_machine::Machine;
 use page_table::PageTable;
 use std::alloc::{AllocError, Global};
 use std::marker::Model;
+use xemem_language::{Command, Line, Lines, word_count};
 use xm_num::Enclave;
 
 /// A limit of a run.

@@ -10,7 +10,7 @@ use Rattle.std.proofs.lemmas.Map.Keys.{sorted_head, sorted_tail}
 use Rattle.std.proofs.lemmas.Bool.{cases_lt, cases_eq, leb-true, leb-false, le-leb, lt-leb}
 use Rattle.std.proofs.lemmas.Bool.Decides.{nat_tests}
 use Rattle.xm_num.specs.Rows.{at, IsAscending}
-use Rattle.xm_num.proofs.RunLemmas.{at_head, at_later, at_before, at_none}
+use Rattle.xm_num.specs.RowLaws.{RowLaws}
 use Rattle.page_table.specs.Spaces.{AreWithin, IsGap, IsFirstGap}
 
 -- where the search ends that has come to `first`, with these numbers before it
@@ -36,16 +36,16 @@ module _ {V : Type 0} where
     pub full : (v : ℕ) → first ≤ v → v < stop → (k : ℕ) × (v ≤ k) × (k < v + n) × IsSome (at rows k)
     pub free : (v : ℕ) → stop ≤ v → v < stop + n → at rows v ≡ None
 
-  ends : (n first : ℕ) (rows : List (ℕ × V)) → IsAscending rows → AllFrom first (keys_of rows) → Ends rows n first (end_of n first (keys_of rows))
-  ends n first [] ascends all = record { from = omega arith; full = λ v low high. absurd (omega arith); free = λ v low high. at_none v }
-  ends n first (row ∷ rows) ascends all =
+  ends : RowLaws V → (n first : ℕ) (rows : List (ℕ × V)) → IsAscending rows → AllFrom first (keys_of rows) → Ends rows n first (end_of n first (keys_of rows))
+  ends laws n first [] ascends all = record { from = omega arith; full = λ v low high. absurd (omega arith); free = λ v low high. laws.none v }
+  ends laws n first (row ∷ rows) ascends all =
       by (nat_le n (row.0 - first)) refl
-      (ends n (row.0 + 1) rows (sorted_tail nat_cmp row.0 (keys_of rows) ascends) (all_after first row.0 (keys_of rows) (sorted_head nat_cmp row.0 (keys_of rows) ascends) all.1))
+      (ends laws n (row.0 + 1) rows (sorted_tail nat_cmp row.0 (keys_of rows) ascends) (all_after first row.0 (keys_of rows) (sorted_head nat_cmp row.0 (keys_of rows) ascends) all.1))
     where
       by : (b : Bool) → nat_le n (row.0 - first) ≡ b → Ends rows n (row.0 + 1) (end_of n (row.0 + 1) (keys_of rows)) → Ends (row ∷ rows) n first (cond b first (end_of n (row.0 + 1) (keys_of rows)))
       by true enough rest =
           let room : n ≤ row.0 - first = leb-true _ _ enough in
-          record { from = omega arith; full = λ v low high. absurd (omega arith); free = λ v low high. at_before row rows v ascends (omega (arith, all.0)) }
+          record { from = omega arith; full = λ v low high. absurd (omega arith); free = λ v low high. laws.before row rows v ascends (omega (arith, all.0)) }
       by false short rest =
           let near : row.0 - first < n = leb-false _ _ short in
           record {
@@ -53,20 +53,20 @@ module _ {V : Type 0} where
             full = λ v low high. elim (cases_lt row.0 v) [
               | inl later ↦
                   let found = rest.full v (omega arith) high in
-                  (found.0, found.1, found.2, rw (at_later row rows found.0 (λ e. omega (arith, found.1))) found.3)
-              | inr upto ↦ (row.0, upto, omega arith, rw (at_head row rows) refl)
+                  (found.0, found.1, found.2, rw (laws.later row rows found.0 (λ e. omega (arith, found.1))) found.3)
+              | inr upto ↦ (row.0, upto, omega arith, rw (laws.head row rows) refl)
             ];
-            free = λ v low high. at_later row rows v (λ e. omega (arith, rest.from)) ∙ rest.free v low high;
+            free = λ v low high. laws.later row rows v (λ e. omega (arith, rest.from)) ∙ rest.free v low high;
           }
 
-  all_within : (rows : List (ℕ × V)) → AreWithin rows → AllFrom 1 (keys_of rows)
-  all_within [] within = tt
-  all_within (row ∷ rows) within = (within row.0 (rw (at_head row rows) refl), all_within rows (λ v some. within v (also v some)))
+  all_within : RowLaws V → (rows : List (ℕ × V)) → AreWithin rows → AllFrom 1 (keys_of rows)
+  all_within laws [] within = tt
+  all_within laws (row ∷ rows) within = (within row.0 (rw (laws.head row rows) refl), all_within laws rows (λ v some. within v (also v some)))
     where
       also : (v : ℕ) → IsSome (at rows v) → IsSome (at (row ∷ rows) v)
       also v some = elim (cases_eq v row.0) [
-        | inl same ↦ rw (same, at_head row rows) refl
-        | inr other ↦ rw (at_later row rows v other) some
+        | inl same ↦ rw (same, laws.head row rows) refl
+        | inr other ↦ rw (laws.later row rows v other) some
       ]
 
   -- an end that leaves room is the first gap, and one that leaves none shows that there is no gap
@@ -93,8 +93,8 @@ module _ {V : Type 0} where
     pub all : AllFrom first left
     pub high : first ≤ 2 ^ 24
 
-  pub starts : (rows : List (ℕ × V)) (n : ℕ) → IsAscending rows → AreWithin rows → Searches rows n 1 (keys_of rows)
-  starts rows n ascends within = record { stop = refl; sorted = ascends; all = all_within rows within; high = omega arith }
+  pub starts : RowLaws V → (rows : List (ℕ × V)) (n : ℕ) → IsAscending rows → AreWithin rows → Searches rows n 1 (keys_of rows)
+  starts laws rows n ascends within = record { stop = refl; sorted = ascends; all = all_within laws rows within; high = omega arith }
 
   -- the next number isn't below the place that the search has come to
   pub comes_to : (rows : List (ℕ × V)) (n first k : ℕ) (left more : List ℕ) → Searches rows n first left → left ≡ k ∷ more → first ≤ k
@@ -113,21 +113,21 @@ module _ {V : Type 0} where
         high = omega (arith, these.0.1);
       }
 
-  ends_at : (rows : List (ℕ × V)) (n first : ℕ) (left : List ℕ) → IsAscending rows → AreWithin rows → Searches rows n first left → end_of n first left ≡ first → Ends rows n 1 first
-  ends_at rows n first left ascends within search here =
+  ends_at : RowLaws V → (rows : List (ℕ × V)) (n first : ℕ) (left : List ℕ) → IsAscending rows → AreWithin rows → Searches rows n first left → end_of n first left ≡ first → Ends rows n 1 first
+  ends_at laws rows n first left ascends within search here =
       let is : first ≡ end_of n 1 (keys_of rows) = sym here ∙ search.stop in
-      rw is (ends n 1 rows ascends (all_within rows within))
+      rw is (ends laws n 1 rows ascends (all_within laws rows within))
 
   -- it ends before a number that is far enough, or where no number is left
-  pub found_here : (rows : List (ℕ × V)) (n first k : ℕ) (left more : List ℕ) → IsAscending rows → AreWithin rows → Searches rows n first left → left ≡ k ∷ more → n ≤ k - first → IsFirstGap rows n (Some first)
-  found_here rows n first k left more ascends within search is room =
+  pub found_here : RowLaws V → (rows : List (ℕ × V)) (n first k : ℕ) (left more : List ℕ) → IsAscending rows → AreWithin rows → Searches rows n first left → left ≡ k ∷ more → n ≤ k - first → IsFirstGap rows n (Some first)
+  found_here laws rows n first k left more ascends within search is room =
       let these : AllFrom first (k ∷ more) = rw is at search.all in
-      found rows n first (ends_at rows n first left ascends within search (rw (is, le-leb n (k - first) room) refl)) (omega (arith, these.0))
+      found rows n first (ends_at laws rows n first left ascends within search (rw (is, le-leb n (k - first) room) refl)) (omega (arith, these.0))
 
-  pub found_last : (rows : List (ℕ × V)) (n first : ℕ) (left : List ℕ) → IsAscending rows → AreWithin rows → Searches rows n first left → left ≡ [] → n ≤ 2 ^ 24 - first → IsFirstGap rows n (Some first)
-  found_last rows n first left ascends within search is room =
-      found rows n first (ends_at rows n first left ascends within search (rw is refl)) (omega (arith, search.high))
+  pub found_last : RowLaws V → (rows : List (ℕ × V)) (n first : ℕ) (left : List ℕ) → IsAscending rows → AreWithin rows → Searches rows n first left → left ≡ [] → n ≤ 2 ^ 24 - first → IsFirstGap rows n (Some first)
+  found_last laws rows n first left ascends within search is room =
+      found rows n first (ends_at laws rows n first left ascends within search (rw is refl)) (omega (arith, search.high))
 
-  pub found_nowhere : (rows : List (ℕ × V)) (n first : ℕ) (left : List ℕ) → IsAscending rows → AreWithin rows → Searches rows n first left → left ≡ [] → 2 ^ 24 - first < n → IsFirstGap rows n None
-  found_nowhere rows n first left ascends within search is short =
-      not_found rows n first (ends_at rows n first left ascends within search (rw is refl)) (omega arith)
+  pub found_nowhere : RowLaws V → (rows : List (ℕ × V)) (n first : ℕ) (left : List ℕ) → IsAscending rows → AreWithin rows → Searches rows n first left → left ≡ [] → 2 ^ 24 - first < n → IsFirstGap rows n None
+  found_nowhere laws rows n first left ascends within search is short =
+      not_found rows n first (ends_at laws rows n first left ascends within search (rw is refl)) (omega arith)

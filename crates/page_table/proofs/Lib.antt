@@ -1,3 +1,4 @@
+pub mod FirstLemmas
 pub mod Gaps
 pub mod Within
 pub mod Runs

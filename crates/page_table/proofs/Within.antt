@@ -4,15 +4,15 @@ use Rattle.std.specs.Prelude.{nat_le, nat_lt, IsSome, slice_get, if◌then◌els
 use Rattle.std.proofs.lemmas.Bool.{and_parts, leb-true, ltb-true}
 use Rattle.xm_num.specs.Rows.{at, put_all, less_all, IsAscending}
 use Rattle.xm_num.specs.declared.Page.{Page}
-use Rattle.xm_num.proofs.RunLemmas.{at_none, at_put_all, at_less_all}
+use Rattle.xm_num.specs.RowLaws.{RowLaws}
 use Rattle.page_table.specs.Spaces.{AreWithin, AreOwn, own_frame}
 
-pub within_nothing : AreWithin {V = Page} []
-within_nothing v some = let bad : IsSome {T = Page} None = rw (at_none v) at some in cc
+pub within_nothing : RowLaws Page → AreWithin {V = Page} []
+within_nothing laws v some = let bad : IsSome {T = Page} None = rw (laws.none v) at some in cc
 
-module _ {V : Type 0} where
+module _ {V : Type 0} (laws : RowLaws V) where
   pub within_put_all : (rows : List (ℕ × V)) (k : ℕ) (vs : List V) → AreWithin rows → 1 ≤ k → k + length vs ≤ 2 ^ 24 → AreWithin (put_all rows k vs)
-  within_put_all rows k vs within low high v some = by (nat_le k v && nat_lt v (k + length vs)) refl (rw (at_put_all rows k v vs) at some)
+  within_put_all rows k vs within low high v some = by (nat_le k v && nat_lt v (k + length vs)) refl (rw (laws.put_all_at rows k v vs) at some)
     where
       by : (b : Bool) → (nat_le k v && nat_lt v (k + length vs)) ≡ b → IsSome (if b then slice_get vs (v - k) else at rows v) → (1 ≤ v) × (v < 2 ^ 24)
       by true among some =
@@ -23,7 +23,7 @@ module _ {V : Type 0} where
       by false apart some = within v some
 
   pub within_less_all : (rows : List (ℕ × V)) (k n : ℕ) → IsAscending rows → AreWithin rows → AreWithin (less_all rows k n)
-  within_less_all rows k n ascends within v some = by (nat_le k v && nat_lt v (k + n)) (rw (at_less_all rows k n v ascends) at some)
+  within_less_all rows k n ascends within v some = by (nat_le k v && nat_lt v (k + n)) (rw (laws.less_all_at rows k n v ascends) at some)
     where
       by : (b : Bool) → IsSome (if b then None else at rows v) → (1 ≤ v) × (v < 2 ^ 24)
       by true some = cc

@@ -7,8 +7,6 @@
 mod rows;
 mod space;
 mod table;
-#[cfg(test)]
-mod tests;
 
 pub use space::{AddressSpace, MapFault, MapRight};
 pub use table::PageTable;

@@ -6,6 +6,7 @@ ghost use Rattle.page_table.specs.Spaces.{AreWithin, IsFirstGap};
 use std::alloc::{AllocError, Global};
 use std::collections::BTreeMap;
 use std::marker::Model;
+use xm_num::laws::row_laws;
 
 // The number after the last page.
 const END: u32 = 1 << 24;
@@ -91,6 +92,7 @@ impl<V: Copy> Rows<V> {
         requires within { AreWithin self.now }
         ensures { IsFirstGap self.now n result }
     {
+        row_laws::<V>();
         let mut first = 1;
         for number in self.items.keys() {
             if *number - first >= n {
@@ -109,6 +111,7 @@ impl<V: Copy> Rows<V> {
         ensures was_ascending { spec.IsAscending self.old }
         ensures within { AreWithin self.old → AreWithin self.new }
     {
+        row_laws::<V>();
         let _ = &self.items;
         for number in first..first + n {
             self.remove(number);

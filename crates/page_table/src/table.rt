@@ -1,12 +1,15 @@
 // A space as an ordered table of its pages.
 ghost use Rattle.std.specs.Prelude.{◌≡◌, ℕ, ◌+◌, ◌^◌, ◌<◌, ◌≤◌, ◌↔◌, List, length, map, IsErrOf, OnOk, OnErr, None};
 ghost use Rattle.xm_num.specs.Rows as spec;
+ghost use Rattle.xm_num.specs.RowLaws.{RowLaws};
+ghost use Rattle.xm_num.specs.declared.Page.{Page};
 ghost use Rattle.page_table.specs.Spaces.{page_of, AreWithin};
 ghost use Rattle.page_table.specs.Held.{AreHeld};
 
 use crate::rows::Rows;
 use crate::space::{AddressSpace, MapFault, MapRight};
 use std::alloc::{AllocError, Global};
+use xm_num::laws::row_laws;
 use xm_num::{Access, Frame, Page, Vpn};
 
 /// A space whose pages stand in one ordered table. A look-up takes time logarithmic in the pages that are mapped, a
@@ -17,6 +20,15 @@ pub struct PageTable {
     rights: Rows<u32>,
     ghost within: { AreWithin pages },
     ghost held: { AreHeld pages rights },
+}
+
+// The laws of a table's rows.
+fn table_laws()
+    ensures pages { RowLaws Page }
+    ensures rights { RowLaws ℕ }
+{
+    row_laws::<Page>();
+    row_laws::<u32>();
 }
 
 // Maps the pages from `first` on, none of which is mapped, or none of them for want of memory.
@@ -33,6 +45,7 @@ fn insert_all(
     ensures ok { OnOk result (pages.new ≡ spec.put_all pages.old first (map (page_of access own) frames.now)) }
     ensures err { OnErr result (pages.new ≡ pages.old) }
 {
+    row_laws::<Page>();
     for (i, frame) in frames.iter().enumerate() {
         let page = Page {
             frame: *frame,
@@ -67,6 +80,7 @@ fn map_all(
     ensures now_within { AreWithin pages.new }
     ensures held { (out : List (ℕ × ℕ)) → AreHeld pages.old out → AreHeld pages.new out }
 {
+    table_laws();
     let n = frames.len() as u32;
     if let Some(page) = pages.lowest_in(first.0, first.0 + n) {
         return Err(MapFault::Taken(Vpn(page)));
@@ -83,6 +97,7 @@ impl AddressSpace for PageTable {
     ghost out = { λ table. table.rights };
 
     fn new(alloc: Global) -> Result<Self, AllocError> {
+        table_laws();
         Ok(PageTable {
             pages: Rows::new(alloc),
             rights: Rows::new(alloc),
@@ -94,10 +109,12 @@ impl AddressSpace for PageTable {
     }
 
     fn disown(&mut self, at: Vpn, n: u32) {
+        table_laws();
         self.pages.remove_all(at.0, n);
     }
 
     fn map(&mut self, at: Vpn, frames: &[Frame], access: Access) -> Result<MapRight, MapFault> {
+        table_laws();
         let count = frames.len() as u32;
         map_all(&mut self.pages, at, frames, access, false)?;
         let Ok(()) = self.rights.insert(at.0, count) else {
@@ -110,6 +127,7 @@ impl AddressSpace for PageTable {
     // By `held` each page of the range is mapped. The contract needn't say so: taking away the row of a page that isn't
     // mapped would change nothing.
     fn unmap(&mut self, right: MapRight) {
+        table_laws();
         let (first, n) = right.spend();
         self.pages.remove_all(first.0, n);
         self.rights.remove(first.0);

@@ -1,5 +1,5 @@
 -- What is known of ways once calls were made is the filters of their past.
-use Rattle.std.proofs.Common.{◌≡◌, ℕ, Bool, true, false, not, ◌&&◌, ◌||◌, List, [], ◌∷◌, ◌++◌, reverse, Option, None, Some, refl, sym, ap, ◌∙◌, subst, append-nil, append_assoc, arith}
+use Rattle.std.proofs.Common.{◌≡◌, ℕ, Bool, true, false, not, ◌&&◌, ◌||◌, List, [], ◌∷◌, ◌++◌, reverse, Option, None, Some, refl, sym, ap, ◌∙◌, subst, append-nil, append_assoc}
 use Rattle.std.specs.Prelude.{◌==◌, is_some, if◌then◌else◌}
 use Rattle.std.specs.Option.{option_or}
 use Rattle.std.specs.List.Sorted.{IsStrictlySortedBy}
@@ -7,18 +7,12 @@ use Rattle.std.proofs.lemmas.Bool.{eqb-true}
 use Rattle.std.proofs.lemmas.List.{reverse-append}
 use Rattle.xm_num.specs.declared.Enclave.{Enclave}
 use Rattle.xm_num.specs.declared.Neighbour.{Neighbour}
-use Rattle.xm_num.specs.declared.Neighbour.TheVariants.{Up, Down}
-use Rattle.xm_num.specs.Rows.{at, put, less, IsAscending}
+use Rattle.xm_num.specs.RowLaws.{RowLaws}
+use Rattle.xm_num.specs.Rows.{at}
 use Rattle.route_learn.specs.Routes.{RouteView, AreAscending, place_of, no_routes, knows_way, with_asker, with_way, with_route}
 use Rattle.route_learn.specs.Filters.{Event, after_event, after_events, first_here, way_of, is_told, back_of, route_of, is_same, is_asker, asker_of}
-use Rattle.route_learn.specs.Filters.Event.{Asked, Here, Back, Learn, Forget, AskersTaken}
-
--- what changes do to look-ups and to the order of rows
-pub record Laws : Type 0 where
-  pub put_at : (table : List (ℕ × Neighbour)) (k q : ℕ) (v : Neighbour) → at (put table k v) q ≡ (if k == q then Some v else at table q)
-  pub less_at : (table : List (ℕ × Neighbour)) (k q : ℕ) → IsAscending table → at (less table k) q ≡ (if k == q then None else at table q)
-  pub put_ascends : (table : List (ℕ × Neighbour)) (k : ℕ) (v : Neighbour) → IsAscending table → IsAscending (put table k v)
-  pub less_ascends : (table : List (ℕ × Neighbour)) (k : ℕ) → IsAscending table → IsAscending (less table k)
+use Rattle.route_learn.proofs.AskerLemmas.{one_place, picked, left_asks, left_ascends}
+use Rattle.route_learn.specs.Filters.Event.{Asked, Here, Back, Learn, Forget, AskerTaken}
 
 -- each part is its filter of the past, and the tables ascend
 pub record AreFilters (holder : Bool) (past : List Event) (v : RouteView) : Type 0 where
@@ -28,13 +22,6 @@ pub record AreFilters (holder : Bool) (past : List Event) (v : RouteView) : Type
   pub routes : (d : ℕ) → at v.routes d ≡ route_of d past
   pub askers : (n : Neighbour) → at v.askers (place_of n) ≡ asker_of holder n past
   pub ascending : AreAscending v
-
--- neighbours at one place are one
-one_place : (a b : Neighbour) → place_of a ≡ place_of b → a ≡ b
-one_place Up Up is = refl
-one_place Up (Down d) is = absurd (omega (arith, is))
-one_place (Down c) Up is = absurd (omega (arith, is))
-one_place (Down c) (Down d) is = let same : c.0 ≡ d.0 = omega (arith, is) in λ i. Down (record { 0 = same i })
 
 told : (holder : Bool) (past : List Event) (v : RouteView) → AreFilters holder past v → knows_way v ≡ is_told holder past
 told holder past v f = ap (λ h. h || is_some v.way) f.held ∙ ap (λ w. holder || is_some w) f.way ∙ by holder
@@ -57,11 +44,7 @@ way_comes true first from is = cc
 way_comes false None from is = refl
 way_comes false (Some x) from is = cc
 
--- the neighbour, where the test holds
-abbrev pub picked : Neighbour → Bool → Option Neighbour
-picked n b = if b then Some n else None
-
-module _ (laws : Laws) (holder : Bool) (past : List Event) (v : RouteView) (f : AreFilters holder past v) where
+module _ (laws : RowLaws Neighbour) (holder : Bool) (past : List Event) (v : RouteView) (f : AreFilters holder past v) where
   asked : (by : Neighbour) (b : Bool) → is_told holder past ≡ b → AreFilters holder (Asked by ∷ past) (if b then v else with_asker v by)
   asked by true is = record {
     held = f.held;
@@ -199,16 +182,15 @@ module _ (laws : Laws) (holder : Bool) (past : List Event) (v : RouteView) (f : 
     };
   }
 
-  taken : AreFilters holder (AskersTaken ∷ past) (after_event v AskersTaken)
-  unfolding at IsStrictlySortedBy
+  taken : AreFilters holder (AskerTaken ∷ past) (after_event v AskerTaken)
   taken = record {
     held = f.held;
     way = f.way;
     back = f.back;
     routes = f.routes;
-    askers = λ n. refl;
+    askers = left_asks holder past laws v.askers f.askers f.ascending.askers;
     ascending = record {
-      askers = tt;
+      askers = left_ascends laws v.askers f.ascending.askers;
       back = f.ascending.back;
       routes = f.ascending.routes;
     };
@@ -220,9 +202,9 @@ module _ (laws : Laws) (holder : Bool) (past : List Event) (v : RouteView) (f : 
   one_more (Back of over) = backed of over
   one_more (Learn of) = learn of (at v.back of.0) refl
   one_more (Forget of) = forgot of
-  one_more AskersTaken = taken
+  one_more AskerTaken = taken
 
-more : Laws → (holder : Bool) (events past : List Event) (v : RouteView) → AreFilters holder past v
+more : RowLaws Neighbour → (holder : Bool) (events past : List Event) (v : RouteView) → AreFilters holder past v
     → AreFilters holder (reverse events ++ past) (after_events v events)
 more laws holder [] past v f = f
 more laws holder (event ∷ events) past v f =
@@ -246,7 +228,7 @@ nothing holder = record {
     by true = refl
     by false = refl
 
-pub filters : Laws → (holder : Bool) (events : List Event) → AreFilters holder (reverse events) (after_events (no_routes holder) events)
+pub filters : RowLaws Neighbour → (holder : Bool) (events : List Event) → AreFilters holder (reverse events) (after_events (no_routes holder) events)
 filters laws holder events =
     let P : List Event → Type 0 = λ p. AreFilters holder p (after_events (no_routes holder) events) in
     subst P (append-nil (reverse events)) (more laws holder events [] (no_routes holder) (nothing holder))

@@ -3,6 +3,7 @@ use Rattle.std.specs.Prelude.{◌≡◌, ◌<◌, ℕ, zero, suc, Bool, true, fa
 use Rattle.std.specs.Option.{option_or}
 use Rattle.xm_num.specs.declared.Enclave.{Enclave}
 use Rattle.xm_num.specs.declared.Neighbour.{Neighbour}
+use Rattle.xm_num.specs.declared.Neighbour.TheVariants.{Up, Down}
 use Rattle.route_learn.specs.Routes.{RouteView, place_of, after_asked, after_here, with_back, after_learn, forgotten, without_first_asker}
 
 -- the calls that change what is known of ways
@@ -12,8 +13,8 @@ pub data Event : Type 0 where
   Back : (of : Enclave) (over : Neighbour) → Event
   Learn : (of : Enclave) → Event
   Forget : (of : Enclave) → Event
-  -- the next asker was taken until there was none
-  AskersTaken : Event
+  -- the first asker was taken, where there was one
+  AskerTaken : Event
 
 abbrev pub after_event : RouteView → Event → RouteView
 after_event v (Asked by) = after_asked v by
@@ -21,17 +22,12 @@ after_event v (Here from) = after_here v from
 after_event v (Back of over) = with_back v of over
 after_event v (Learn of) = after_learn v of
 after_event v (Forget of) = forgotten v of
-after_event v AskersTaken = record v { askers = [] }
+after_event v AskerTaken = without_first_asker v
 
 -- what is known once these events came, the oldest first
 abbrev pub after_events : RouteView → List Event → RouteView
 after_events v [] = v
 after_events v (event ∷ events) = after_events (after_event v event) events
-
--- what is known once the first asker was taken so often
-abbrev pub without_askers : ℕ → RouteView → RouteView
-without_askers zero v = v
-without_askers (suc n) v = without_askers n (without_first_asker v)
 
 -- who told the way first
 abbrev pub first_here : List Event → Option Neighbour
@@ -64,12 +60,27 @@ route_of d (_ ∷ past) = route_of d past
 abbrev pub is_same : Neighbour → Neighbour → Bool
 is_same a b = place_of a == place_of b
 
--- the neighbour asked while the way wasn't told, and since then no asker was taken, nor did the neighbour tell the way first
+-- the neighbour at a place
+abbrev pub neighbour_at : ℕ → Neighbour
+neighbour_at zero = Up
+neighbour_at (suc k) = Down (record { 0 = k })
+
+-- some number below this one passes
+abbrev pub any_below : (ℕ → Bool) → ℕ → Bool
+any_below p zero = false
+any_below p (suc k) = p k || any_below p k
+
+-- some neighbour with a lower place passes
+abbrev pub any_lower : (Neighbour → Bool) → Neighbour → Bool
+any_lower p n = any_below (λ k. p (neighbour_at k)) (place_of n)
+
+-- the neighbour asked while the way wasn't told, and since then it wasn't taken as the first of those that ask, nor did it
+-- tell the way first. Where an asker was taken, those go on asking before whom another one asks
 abbrev pub is_asker : Bool → Neighbour → List Event → Bool
 is_asker holder n [] = false
 is_asker holder n (Asked by ∷ past) = (is_same by n && not (is_told holder past)) || is_asker holder n past
 is_asker holder n (Here from ∷ past) = not (is_same from n && not (is_told holder past)) && is_asker holder n past
-is_asker holder n (AskersTaken ∷ past) = false
+is_asker holder n (AskerTaken ∷ past) = is_asker holder n past && any_lower (λ m. is_asker holder m past) n
 is_asker holder n (_ ∷ past) = is_asker holder n past
 
 -- the neighbour, where it asks

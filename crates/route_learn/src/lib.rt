@@ -11,8 +11,6 @@ ghost use Rattle.route_learn.specs.Routes as spec;
 
 pub mod laws;
 mod tables;
-#[cfg(test)]
-mod tests;
 
 use std::alloc::{AllocError, Global};
 use std::marker::Model;

@@ -7,6 +7,7 @@ ghost use Rattle.route_learn.specs.Routes.{place_of, AreNumbers};
 use std::alloc::{AllocError, Global};
 use std::collections::BTreeMap;
 use std::marker::Model;
+use xm_num::laws::row_laws;
 use xm_num::{Enclave, Neighbour};
 
 // The place of a neighbour among those that asked: Up first, then the children by their numbers.
@@ -119,6 +120,7 @@ impl Ways {
     pub fn get(&self, of: Enclave) -> Option<Neighbour>
         ensures { result ≡ rows.at self.now of.0 }
     {
+        row_laws::<Neighbour>();
         self.items.get(of.0 as usize).copied().flatten()
     }
 
@@ -127,6 +129,7 @@ impl Ways {
         ensures ok { OnOk result (self.new ≡ rows.put self.old of.0 over) }
         ensures err { OnErr result (self.new ≡ self.old) }
     {
+        row_laws::<Neighbour>();
         let number = of.0 as usize;
         make_room(&mut self.items, number)?;
         self.items[number] = Some(over);
@@ -137,6 +140,7 @@ impl Ways {
     pub fn remove(&mut self, of: Enclave)
         ensures { self.new ≡ rows.less self.old of.0 }
     {
+        row_laws::<Neighbour>();
         let number = of.0 as usize;
         if number < self.items.len() {
             self.items[number] = None;
@@ -150,6 +154,7 @@ impl Ways {
         ensures ascending { rows.IsAscending self.now }
         ensures numbers { AreNumbers self.now }
     {
+        row_laws::<Neighbour>();
         for number in low as usize..self.items.len() {
             if let Some(over) = self.items[number] {
                 return Some((Enclave(number as u16), over));

@@ -3,8 +3,9 @@ use Rattle.std.proofs.Common.{◌≡◌, ◌⊎◌, ◌++◌, ℕ, List, Option,
 use Rattle.std.specs.Io.KnownBytes.{Appends}
 use Rattle.xm_edge.specs.Whole.{GivesAll}
 use Rattle.global_model.specs.Due.{journal_of}
-use Rattle.scenario_text.specs.declared.fault.SyntaxFault.{SyntaxFault}
-use Rattle.scenario_text.specs.Scenario.{Ending, Stop, TooMany, TooLong, Faulty, Unbuilt, most_lines, most_line_bytes, scenario_of}
+use Rattle.scenario_text.specs.declared.SyntaxFault.{SyntaxFault}
+use Rattle.scenario_text.specs.Scenario.{Ending, Stop, TooMany, TooLong, Faulty, Unbuilt, most_lines, most_line_bytes}
+use Rattle.scenario_run.specs.Scenario.{scenario_of}
 use Rattle.node_world.specs.declared.world.Which.{Which}
 use Rattle.node_world.specs.declared.world.Which.TheVariants as whiches
 use Rattle.node_world.specs.World.{WorldView, IsOfWorlds, IsShort, most_of}

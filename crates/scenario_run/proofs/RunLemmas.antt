@@ -13,9 +13,9 @@ use Rattle.global_model.specs.Journals.{do_commands}
 use Rattle.history_laws.specs.History.{IsHistory, IsDueAt}
 use Rattle.history_laws.specs.Lawful.{IsLegalAt}
 use Rattle.global_model.specs.Carriage.{CarriedAt}
-use Rattle.global_model.proofs.Told.{do_commands-append}
 use Rattle.scenario_text.specs.Words.{lines_of}
-use Rattle.scenario_text.specs.Scenario.{Ending, Stop, TooMany, TooLong, Faulty, Unbuilt, Scenario, scenario_of, scenario_from, said, onto_scenario}
+use Rattle.scenario_text.specs.Scenario.{Ending, Stop, TooMany, TooLong, Faulty, Unbuilt, Scenario, onto_scenario}
+use Rattle.scenario_run.specs.Scenario.{scenario_of, scenario_from, said}
 use Rattle.node_world.specs.declared.world.Which.{Which}
 use Rattle.node_world.specs.declared.world.Which.TheVariants as whiches
 use Rattle.node_world.specs.World.{WorldView, IsCut, IsShort, Passes, most_of, no_world}
@@ -187,7 +187,7 @@ run_full laws bytes which done c left journal is cut =
     let all = done ++ c ∷ [] in
     let rest = cut.2.line ∷ cut.2.rest in
     let whole = cut_whole which done c journal cut in
-    let commands : all ≡ do_commands journal ++ do_commands rest = sym (laws.commands all) ∙ ap do_commands whole ∙ do_commands-append journal rest in
+    let commands : all ≡ do_commands journal ++ do_commands rest = sym (laws.commands all) ∙ ap do_commands whole ∙ laws.parts journal rest in
     record {
       journal = journal;
       text = refl;

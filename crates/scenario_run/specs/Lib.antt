@@ -1,3 +1,4 @@
+pub mod Scenario
 pub mod Laws
 pub mod Run
 pub mod Status

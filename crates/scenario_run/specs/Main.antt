@@ -5,7 +5,8 @@ use Rattle.std.specs.Global.{Global}
 use Rattle.std.specs.Io.KnownBytes.{Appends, Consumes, IsAtEnd, Keeps}
 use Rattle.xm_edge.specs.Whole.{GivesAll}
 use Rattle.node_world.specs.declared.world.Which.{Which}
-use Rattle.scenario_text.specs.Scenario.{Ending, scenario_of}
+use Rattle.scenario_text.specs.Scenario.{Ending}
+use Rattle.scenario_run.specs.Scenario.{scenario_of}
 use Rattle.node_world.specs.World.{WorldView}
 use Rattle.scenario_run.specs.Run.{IsRun, IsRunSoFar, IsRunCut, IsRunFull, HasRun, HasFilled}
 

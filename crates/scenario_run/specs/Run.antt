@@ -4,7 +4,8 @@ use Rattle.std.specs.Io.KnownBytes.{Appends}
 use Rattle.xm_edge.specs.Whole.{AppendsFront}
 use Rattle.xemem_language.specs.declared.command.Command.{Command}
 use Rattle.xemem_language.specs.declared.line.Line.{Line}
-use Rattle.scenario_text.specs.Scenario.{Ending, Stop, TooMany, TooLong, Faulty, Unbuilt, scenario_of}
+use Rattle.scenario_text.specs.Scenario.{Ending, Stop, TooMany, TooLong, Faulty, Unbuilt}
+use Rattle.scenario_run.specs.Scenario.{scenario_of}
 use Rattle.xemem_language.specs.Spelling.{text_of}
 use Rattle.global_model.specs.Due.{journal_of}
 use Rattle.global_model.specs.Journals.{do_commands}

@@ -2,8 +2,8 @@
 use Rattle.std.specs.Prelude.{ℕ, List, [], ◌++◌, codes, decimal}
 use Rattle.node_world.specs.declared.world.Which.{Which}
 use Rattle.node_world.specs.declared.world.Which.TheVariants as whiches
-use Rattle.scenario_text.specs.declared.fault.SyntaxFault.{SyntaxFault}
-use Rattle.scenario_text.specs.declared.fault.SyntaxFault.TheVariants as faults
+use Rattle.scenario_text.specs.declared.SyntaxFault.{SyntaxFault}
+use Rattle.scenario_text.specs.declared.SyntaxFault.TheVariants as faults
 use Rattle.scenario_run.specs.declared.status.Status.{Status}
 use Rattle.scenario_run.specs.declared.status.Status.TheVariants as statuses
 

@@ -11,9 +11,9 @@ ghost use Rattle.scenario_run.specs.Run.{IsGoing, Writes, FaultLeaves, LinesLeav
 
 use crate::laws::laws;
 use crate::print::print_lines;
-use xemem_language::{Command, Lines};
 use memchr::memchr;
 use node_world::{Which, World, WorldFault};
+use xemem_language::{Command, Lines};
 use xm_edge::{Sink, WriteFailed, write_all};
 
 /// Why a command wasn't carried through.

@@ -1,7 +1,7 @@
 // The laws on which a run rests.
 ghost use Rattle.scenario_run.specs.Laws.{Laws};
 
-use global_model::{journals_are_carried, journals_grow};
+use global_model::{journals_are_carried, journals_grow, pasts_grow};
 use history_laws::{journals_are_legal, one_journal};
 use scenario_text::scenarios_are_placed;
 
@@ -11,6 +11,7 @@ pub fn laws()
 {
     one_journal();
     journals_grow();
+    pasts_grow();
     journals_are_legal();
     journals_are_carried();
     scenarios_are_placed();

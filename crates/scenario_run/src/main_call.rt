@@ -2,7 +2,8 @@
 ghost use Rattle.std.specs.Prelude.{◌≡◌, ◌≤◌, ◌↔◌, ◌⊎◌, ℕ, List, length, None, Some, IsTrue};
 ghost use Rattle.std.specs.Io.KnownBytes.{Keeps};
 ghost use Rattle.xm_edge.specs.Faults.{Rose};
-ghost use Rattle.scenario_text.specs.Scenario.{TooMany, TooLong, Faulty, Unbuilt, most_lines, most_line_bytes, scenario_of};
+ghost use Rattle.scenario_text.specs.Scenario.{TooMany, TooLong, Faulty, Unbuilt, most_lines, most_line_bytes};
+ghost use Rattle.scenario_run.specs.Scenario.{scenario_of};
 ghost use Rattle.global_model.specs.Due.{journal_of};
 ghost use Rattle.node_world.specs.World.{IsOfWorlds, IsShort, most_of, no_world};
 ghost use Rattle.scenario_run.specs.Main.{most, AsksRun, WritesHistory, StopsAtLine, StopsFull, StopsWriting, StopsForMemory, StopsAtLimit, StopsReading};

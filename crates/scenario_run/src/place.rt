@@ -1,6 +1,6 @@
 // Which commands are built.
 ghost use Rattle.std.specs.Prelude.{◌≡◌};
-ghost use Rattle.global_model.specs.Place as spec;
+ghost use Rattle.enclave_rules.specs.Built as spec;
 
 use xemem_language::Command;
 use xm_num::Kind;

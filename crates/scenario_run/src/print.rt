@@ -2,9 +2,9 @@
 ghost use Rattle.std.specs.Prelude.{◌≡◌, ◌++◌, OnOk};
 ghost use Rattle.xemem_language.specs.Spelling.{text_of};
 
-use xemem_language::Line;
 use scenario_text::print_line;
 use std::alloc::AllocError;
+use xemem_language::Line;
 
 /// Appends the texts of lines. For want of memory a part of them may stand.
 pub fn print_lines(lines: &[Line], out: &mut Vec<u8>) -> Result<(), AllocError>

@@ -2,7 +2,7 @@
 ghost use Rattle.std.specs.Prelude.{◌≡◌, ◌≤◌, ◌<◌, ◌^◌, ◌-◌, length};
 ghost use Rattle.xm_edge.specs.Faults.{Rose};
 ghost use Rattle.node_world.specs.World.{most_of, no_world};
-ghost use Rattle.scenario_text.specs.Scenario.{said};
+ghost use Rattle.scenario_run.specs.Scenario.{said};
 ghost use Rattle.scenario_run.specs.Run as spec;
 ghost use Rattle.scenario_run.specs.Run.{LeavesIn};
 
@@ -10,10 +10,10 @@ use crate::Status;
 use crate::execute::{Fault, execute};
 use crate::laws::laws;
 use crate::place::is_built;
-use xemem_language::Command;
 use node_world::{Which, World};
 use scenario_text::{SyntaxFault, first_line, place_ok, read_command};
 use std::alloc::Global;
+use xemem_language::Command;
 use xm_edge::Sink;
 
 // How a run ends at a fault.

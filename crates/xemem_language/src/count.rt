@@ -3,7 +3,6 @@ ghost use Rattle.xemem_language.specs.Spelling.{body_words, command_words, line_
 
 use crate::{Body, Command, Line};
 
-
 // How many words spell the command.
 fn count_of_command(command: &Command) -> u32
     ensures { result ≡ length (command_words command.now) }

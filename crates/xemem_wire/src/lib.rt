@@ -10,8 +10,6 @@ mod judge;
 pub mod laws;
 mod read;
 mod spell;
-#[cfg(test)]
-mod tests;
 
 pub use decoder::Decoder;
 pub use format::{BadField, FeedFault, WireFault};

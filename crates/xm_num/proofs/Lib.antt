@@ -1,4 +1,3 @@
 pub mod Tables
 pub mod RowLemmas
 pub mod RunLemmas
-pub mod FirstLemmas

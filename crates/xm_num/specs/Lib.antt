@@ -1,3 +1,4 @@
 pub mod Causes
+pub mod RowLaws
 pub mod Rows
 pub mod Sizes

@@ -1,6 +1,7 @@
 // Laws of tables as rows, for the crates above. They are proved from the definitions alone.
 ghost use Rattle.std.specs.Prelude.{◌≡◌, ℕ, ◌+◌, ◌-◌, ◌<◌, ◌≤◌, ◌==◌, ◌&&◌, ◌↔◌, List, length, slice_get, is_some, nat_le, nat_lt, if◌then◌else◌};
 ghost use Rattle.std.specs.List.{list_any, range_with_len};
+ghost use Rattle.xm_num.specs.RowLaws.{RowLaws};
 ghost use Rattle.xm_num.specs.Rows.{at, put, less, put_all, less_all, any_between, lowest_in, next_from, IsAscending, IsLowestFrom};
 
 /// What a table has at a number after a change, which numbers of a range it has, and that look-ups tell ascending
@@ -34,4 +35,9 @@ pub fn runs<V>()
         (next_from table low ≡ Some k) ↔ IsLowestFrom table low k }
     ensures no_next { (table : List (ℕ × V)) (low : ℕ) →
         (next_from table low ≡ None) ↔ ((q : ℕ) → low ≤ q → at table q ≡ None) }
+{}
+
+/// Laws of rows as one definition, for lemmas that need several.
+pub fn row_laws<V>()
+    ensures { RowLaws V }
 {}

@@ -11,9 +11,9 @@ use crate::births::{child_birth, host_birth, tell_child, tell_host};
 use crate::feeds::{Feed, Feeds};
 use crate::state::{Birth, State};
 use frame_pool::PoolFault;
-use xemem_language::Lines;
 use page_table::AddressSpace;
 use std::alloc::{AllocError, Global};
+use xemem_language::Lines;
 use xm_num::{Block, Enclave, EnclaveList, Kind};
 
 // The decoders of a child as it is born: that of its parent's channel alone.

@@ -8,11 +8,11 @@ ghost use Rattle.enclave_rules.specs.Steps as steps;
 ghost use Rattle.enclave_node.specs.Calls.{IsCallInRange, call_lines};
 
 use super::State;
-use crate::call::Call;
+use crate::Call;
 use crate::process::Process;
-use xemem_language::{Line, Lines};
 use page_table::AddressSpace;
 use std::alloc::AllocError;
+use xemem_language::{Line, Lines};
 use xm_num::{Cause, Frame, Pid, Vpn, Want};
 
 // How many pages a space has, its page 0 counted.

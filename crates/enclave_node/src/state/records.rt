@@ -8,10 +8,9 @@ ghost use Rattle.enclave_node.specs.Sides as spec;
 
 use super::{State, plain};
 use crate::feeds::Feed;
-use xemem_language::{Line, Lines};
 use page_table::AddressSpace;
 use std::alloc::AllocError;
-use xemem_language::{Body, Record};
+use xemem_language::{Body, Line, Lines, Record};
 use xm_num::Enclave;
 use xm_num::laws::rows;
 

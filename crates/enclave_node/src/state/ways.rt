@@ -9,12 +9,12 @@ ghost use Rattle.enclave_node.specs.Sides as spec;
 
 use super::{State, plain};
 use crate::sides::{enclave_of, side_of};
-use xemem_language::{Line, Lines};
 use page_table::AddressSpace;
 use route_learn::Way;
 use std::alloc::AllocError;
-use xemem_language::Body;
+use xemem_language::{Body, Line, Lines};
 use xm_num::Enclave;
+use xm_num::laws::runs;
 
 impl<A: AddressSpace> State<A> {
     // Whether the way to the name server is known. Where it isn't, the neighbour that asks for it is remembered.
@@ -125,6 +125,7 @@ impl<A: AddressSpace> State<A> {
     fn show_learned(&self, out: &mut Lines) -> Result<(), AllocError>
         ensures { OnOk result (out.new ≡ out.old ++ spec.learned_lines self.now.me self.now.routes) }
     {
+        runs::<Enclave>();
         let mut number = 0;
         while let Some((of, over)) = self.next_route(number) {
             out.push(Line::AtRoute {

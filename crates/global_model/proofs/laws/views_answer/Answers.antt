@@ -5,4 +5,4 @@ use Rattle.global_model.proofs.Answered.{answered, host_answered}
 use Rattle.global_model.proofs.laws.views_answer.Goals as goal
 
 pub returns : goal.returns
-returns c = record { answered = λ commands placed. answered (facts_after (journal_of commands)) (known_after commands placed); host = host_answered }
+returns c = record { answered = λ commands placed. answered c.rows.ensures.any_at (facts_after (journal_of commands)) (known_after commands placed); host = host_answered }

@@ -1,10 +1,9 @@
-use Rattle.route_learn.proofs.PastLemmas.{Laws, filters}
+use Rattle.route_learn.proofs.PastLemmas.{filters}
 use Rattle.route_learn.proofs.laws.routes_are_filters.Goals as goal
 
 pub returns : goal.returns
 returns c =
-    let law = c.rows.ensures in
-    let laws : Laws = record { put_at = law.put; less_at = law.less; put_ascends = law.put_ascends; less_ascends = law.less_ascends } in
+    let laws = c.row_laws.ensures in
     record {
       way = λ holder events. (filters laws holder events).way;
       back = λ holder events d. (filters laws holder events).back d;

@@ -24,7 +24,7 @@ returns-in_default-checked_add g c =
     let routes = c.args.self.now.routes in
     let more = c.in_ok-push.ensures.ok ∙ ap (λ v. c.loop-of.out ++ lines.AtRoute v.me c.in-Some.of c.in-Some.over ∷ []) c.self.view_is in
     let high : 2 ^ 16 ≤ c.in-Some.of.0 + 1 = omega (arith, c.in_default-checked_add.ensures) in
-    let none = none_above routes (c.in-Some.of.0 + 1) c.in-Some.ensures.ascending c.in-Some.ensures.numbers high in
+    let none = none_above c.runs.ensures.next routes (c.in-Some.of.0 + 1) c.in-Some.ensures.ascending c.in-Some.ensures.numbers high in
     sym (append-nil c.push.new.self) ∙ ap (λ rows. c.push.new.self ++ learned_lines me rows) (sym none)
     ∙ route_told me c.in-Some.of c.in-Some.over routes c.loop-of.number c.loop-of.out c.push.new.self _
     c.in-Some.ensures.ascending c.in-Some.ensures.next c.in-Some.ensures.over more c.loop-of.invariant

@@ -12,7 +12,7 @@ returns-clause-some c =
     let flowing = flowing_in c.laws.ensures c.self.inside.machine c.self.inside.journal h in
     let P : _ → Channel → Type 0 = λ journal link. waiting_bytes link ≡ waiting_in (facts_after journal) c.args.from.0 c.args.to.0 in
     subst (λ j. IfSome c.link.result (λ b. P j b.now)) (ap (λ w. w.journal) c.self.view_is)
-    (some_lent c.link.result (P c.self.inside.journal) (λ link is. link_waits _ c.self.inside.machine flowing h.shown c.args.from c.args.to link (sym c.link.ensures ∙ is)))
+    (some_lent c.link.result (P c.self.inside.journal) (λ link is. link_waits c.laws.ensures _ c.self.inside.machine flowing h.shown c.args.from c.args.to link (sym c.link.ensures ∙ is)))
 
 pub returns-clause-none : goal.returns-clause-none
 returns-clause-none c =

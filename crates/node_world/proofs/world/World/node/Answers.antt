@@ -22,7 +22,7 @@ returns-clause-feeds c =
     let flowing = flowing_in c.laws.ensures c.self.inside.machine c.self.inside.journal h in
     let P : _ → NodeView → Type 0 = λ journal node. IsFedBy (facts_after journal) c.args.e.0 node in
     subst (λ j. IfSome c.node.result (λ b. P j b.now)) (ap (λ w. w.journal) c.self.view_is)
-    (some_lent c.node.result (P c.self.inside.journal) (λ node is. lent_feeds _ c.self.inside.machine flowing h.shown c.args.e.0 node (sym c.node.ensures ∙ is)))
+    (some_lent c.node.result (P c.self.inside.journal) (λ node is. lent_feeds c.laws.ensures _ c.self.inside.machine flowing h.shown c.args.e.0 node (sym c.node.ensures ∙ is)))
 
 pub returns-clause-appended : goal.returns-clause-appended
 returns-clause-appended c =

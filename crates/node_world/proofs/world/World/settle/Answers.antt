@@ -1,6 +1,6 @@
 use Rattle.std.proofs.Common.{◌≡◌, ◌+◌, Ok, None, Some, refl, ap, sym, ◌∙◌, subst}
 use Rattle.xemem_language.specs.declared.line.Line.TheVariants as lines
-use Rattle.node_world.specs.Machine.{next_delivery}
+use Rattle.node_machine.specs.Machine.{next_delivery}
 use Rattle.node_world.specs.World.{IsAlong}
 use Rattle.node_world.proofs.Amids.{IsAmid, ready_next, can_next, valid_next, amid_start, due_now, amid_next, amid_stopped, amid_last, amid_last_stopped, last_settled, last_waiting, along_settled, along_waiting, amid_all}
 use Rattle.node_world.proofs.world.World.settle.Goals as goal

@@ -1,7 +1,7 @@
 use Rattle.std.proofs.Common.{ℕ, ◌&&◌, ◌∙◌}
 use Rattle.std.specs.Prelude.{nat_le, nat_lt}
 use Rattle.xm_num.specs.Rows.{lowest_in}
-use Rattle.xm_num.proofs.FirstLemmas.{is_between, no_key, first_key}
+use Rattle.page_table.proofs.FirstLemmas.{is_between, no_key, first_key}
 use Rattle.page_table.proofs.rows.Rows.lowest_in.Goals as goal
 
 pub returns-in_err-number-clause-lowest : goal.returns-in_err-number-clause-lowest

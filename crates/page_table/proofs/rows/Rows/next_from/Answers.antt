@@ -1,7 +1,7 @@
 use Rattle.std.proofs.Common.{ℕ, ◌∙◌}
 use Rattle.std.specs.Prelude.{nat_le}
 use Rattle.xm_num.specs.Rows.{next_from}
-use Rattle.xm_num.proofs.FirstLemmas.{is_from, no_key, first_key}
+use Rattle.page_table.proofs.FirstLemmas.{is_from, no_key, first_key}
 use Rattle.page_table.proofs.rows.Rows.next_from.Goals as goal
 
 pub returns-in_err-number-clause-next : goal.returns-in_err-number-clause-next

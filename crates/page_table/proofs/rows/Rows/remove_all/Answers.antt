@@ -13,4 +13,4 @@ returns-clause-within g c =
     let ascends : IsAscending c.args.self.now = rw (← c.self.view_is) c.self.invariant in
     let done : c.args.first + c.args.n - c.loop-number.number ≡ 0 = omega arith in
     let is : c.loop-number.self ≡ less_all c.args.self.now c.args.first c.args.n = rw done at c.loop-number.invariant.rows in
-    λ within. rw is (within_less_all c.args.self.now c.args.first c.args.n ascends within)
+    λ within. rw is (within_less_all c.row_laws.ensures c.args.self.now c.args.first c.args.n ascends within)

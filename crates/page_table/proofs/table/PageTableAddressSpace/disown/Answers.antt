@@ -6,5 +6,5 @@ invariant_of-self c =
     record {
       within = c.remove_all.ensures.within c.args.self.now.within;
       held = rw c.remove_all.ensures.rows
-          (held_less_all c.args.self.now.pages c.args.self.now.rights c.args.at.0 c.args.n c.remove_all.ensures.was_ascending c.requires c.args.self.now.held);
+          (held_less_all c.table_laws.ensures.pages c.table_laws.ensures.rights c.args.self.now.pages c.args.self.now.rights c.args.at.0 c.args.n c.remove_all.ensures.was_ascending c.requires c.args.self.now.held);
     }

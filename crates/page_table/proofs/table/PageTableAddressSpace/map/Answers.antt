@@ -13,12 +13,12 @@ pub returns-clause-taken : goal.returns-clause-taken
 returns-clause-taken c v = let known = c.in_ok-map_all.ensures.taken v in (λ e. cc, λ h. let bad = known.1 h in cc)
 
 pub returns-clause-fresh : goal.returns-clause-fresh
-returns-clause-fresh c = no_right c.args.self.now.pages c.args.self.now.rights c.args.at.0 (length c.args.frames.now) c.in_ok-map_all.ensures.free c.requires.some c.args.self.now.held
+returns-clause-fresh c = no_right c.table_laws.ensures.pages c.table_laws.ensures.rights c.args.self.now.pages c.args.self.now.rights c.args.at.0 (length c.args.frames.now) c.in_ok-map_all.ensures.free c.requires.some c.args.self.now.held
 
 pub invariant_of-self-in-Ok : goal.invariant_of-self-in-Ok
 invariant_of-self-in-Ok c =
     record {
       within = c.in_ok-map_all.ensures.now_within;
       held = rw (c.in_ok-map_all.ensures.ok, c.in-Ok.ensures.ok)
-          (held_map c.args.self.now.pages c.args.self.now.rights c.args.at.0 c.args.access c.args.frames.now c.in_ok-map_all.ensures.free c.requires.some c.args.self.now.held);
+          (held_map c.table_laws.ensures.pages c.table_laws.ensures.rights c.args.self.now.pages c.args.self.now.rights c.args.at.0 c.args.access c.args.frames.now c.in_ok-map_all.ensures.free c.requires.some c.args.self.now.held);
     }

@@ -3,4 +3,4 @@ use Rattle.page_table.proofs.Held.{held_nothing}
 use Rattle.page_table.proofs.table.PageTableAddressSpace.new.Goals as goal
 
 pub invariant_of-result : goal.invariant_of-result
-invariant_of-result c = record { within = rw c.new.ensures within_nothing; held = rw (c.new.ensures, c.new-2.ensures) held_nothing }
+invariant_of-result c = record { within = rw c.new.ensures (within_nothing c.table_laws.ensures.pages); held = rw (c.new.ensures, c.new-2.ensures) (held_nothing c.table_laws.ensures.pages c.table_laws.ensures.rights) }

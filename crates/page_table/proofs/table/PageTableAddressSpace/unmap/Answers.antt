@@ -6,5 +6,5 @@ invariant_of-self c =
     record {
       within = c.remove_all.ensures.within c.args.self.now.within;
       held = rw (c.remove_all.ensures.rows, c.remove.ensures.rows, c.spend-n.ensures.first, c.spend-n.ensures.pages)
-          (held_unmap c.args.self.now.pages c.args.self.now.rights c.args.right.first.0 c.args.right.pages c.remove_all.ensures.was_ascending c.remove.ensures.was_ascending c.requires c.args.self.now.held);
+          (held_unmap c.table_laws.ensures.pages c.table_laws.ensures.rights c.args.self.now.pages c.args.self.now.rights c.args.right.first.0 c.args.right.pages c.remove_all.ensures.was_ascending c.remove.ensures.was_ascending c.requires c.args.self.now.held);
     }

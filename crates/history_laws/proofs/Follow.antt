@@ -1,0 +1,9 @@
+-- Laws along a journal.
+use Rattle.std.proofs.Common.{List, [], ◌∷◌, ◌++◌}
+use Rattle.xemem_language.specs.declared.line.Line.{Line}
+use Rattle.global_model.specs.Journals.{Follows, onto}
+
+pub Follows-append : (Law : List Line → Line → Type 0) (ls ms past : List Line) → Follows Law past ls → Follows Law (onto ls past) ms
+    → Follows Law past (ls ++ ms)
+Follows-append Law [] ms past f g = g
+Follows-append Law (l ∷ ls) ms past f g = (f.0, Follows-append Law ls ms (l ∷ past) f.1 g)
