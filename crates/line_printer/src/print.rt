@@ -8,8 +8,8 @@ use crate::names::ns_mark;
 use crate::print_command::print_command;
 use crate::print_record::sent;
 use crate::row::row;
-use xemem_language::Line;
 use std::alloc::AllocError;
+use xemem_language::Line;
 
 /// Appends the text of a line, with its line feed. For want of memory the buffer stays as it was.
 pub fn print_line(line: &Line, out: &mut Vec<u8>) -> Result<(), AllocError>

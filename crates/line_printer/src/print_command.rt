@@ -6,8 +6,8 @@ ghost use Rattle.line_printer.specs.Tables.{command_table_of};
 
 use crate::item::Item;
 use crate::row::row;
-use xemem_language::Command;
 use std::alloc::AllocError;
+use xemem_language::Command;
 
 // The row on which a command with these words begins.
 macro_rules! begin {

@@ -97,7 +97,10 @@ pub fn sent(from: Enclave, to: Enclave, rec: &Record, out: &mut Vec<u8>) -> Resu
         Item::from(from),
         (
             Item::from(to),
-            (Item::from(name(&rec.body)), (Item::from(rec.origin), header)),
+            (
+                Item::from(name(&rec.body)),
+                (Item::from(rec.origin), header),
+            ),
         ),
     );
     print_row(out, "sent", &row)

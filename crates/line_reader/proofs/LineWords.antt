@@ -1,8 +1,5 @@
 -- The words of a line are words.
-use Rattle.std.proofs.Common.{◌≡◌, ◌≢◌, ◌/◌, ◌%◌, ℕ, zero, suc, List, [], ◌∷◌, ◌++◌, length, map, Bool, true, false, cond, eqb, None, Some, decimal, codes, slice_index, refl, sym, ap, ◌∙◌, arith, append_assoc, append-nil, if◌then◌else◌}
-use Rattle.std.proofs.lemmas.Bool.{ne_eqb, eqb-true}
-use Rattle.std.proofs.lemmas.List.Elements.{All-head, All-tail}
-use Rattle.std.specs.List.{onto_first, join_with_byte, All}
+use Rattle.std.proofs.Common.{◌/◌, ◌%◌, ℕ, zero, suc, List, [], ◌∷◌, length, map, Bool, true, false, decimal, codes, slice_index, refl, arith, if◌then◌else◌}
 use Rattle.hex.specs.Hex.{encode_lower, encode_with, lower_digits}
 use Rattle.xm_num.specs.declared.Access.{Access}
 use Rattle.xm_num.specs.declared.Access.TheVariants as accesses
@@ -18,14 +15,9 @@ use Rattle.xemem_language.specs.declared.record.Body.TheVariants as bodies
 use Rattle.xemem_language.specs.declared.record.Record.{Record}
 use Rattle.xemem_language.specs.declared.line.Line.{Line}
 use Rattle.xemem_language.specs.declared.line.Line.TheVariants as lines
-use Rattle.xemem_language.specs.Ranges.{IsSpelled}
-use Rattle.xemem_language.specs.Spelling.{access_word, kind_word, cause_word, name_word, body_words, record_words, hex_words, line_words, text_of}
+use Rattle.xemem_language.specs.Spelling.{access_word, kind_word, cause_word, name_word, body_words, record_words, hex_words, line_words}
 use Rattle.text_words.specs.Solid.{IsSolidByte, IsSolid, IsWord, AreWords}
-use Rattle.text_words.specs.Words.{lines_of, words_of}
 use Rattle.line_reader.specs.Laws.{Laws}
-use Rattle.line_reader.specs.Slots.{pieces, is_done, whole, Read, row_read}
-use Rattle.line_reader.specs.Lines.{line_of, line_rows, text_line}
-use Rattle.line_reader.specs.Typed.{IsTyped}
 
 -- ---- each word of a line is one
 

@@ -2,8 +2,8 @@
 ghost use Rattle.std.specs.Prelude.{◌≡◌, ◌≢◌, ◌<◌, ◌≤◌, ℕ, length, slice_index, [], option_map, IfSome, MatchOption};
 ghost use Rattle.line_reader.specs.Slots as slot;
 
-use text_words::number_of;
 use std::marker::Model;
+use text_words::number_of;
 
 /// The words of a text that are left: its pieces between single spaces.
 #[derive(Drop)]

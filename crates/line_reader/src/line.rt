@@ -6,8 +6,8 @@ ghost use Rattle.line_reader.specs.Slots as slot;
 use crate::cursor::Words;
 use crate::fixed_lines::fixed_line;
 use crate::records::sent;
-use xemem_language::Line;
 use std::alloc::{AllocError, Global};
+use xemem_language::Line;
 
 // An enclave is born with the blocks that stand to the end.
 #[tactic(auto, unfolding(crate::specs::Lines::born_form))]

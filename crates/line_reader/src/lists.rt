@@ -7,8 +7,8 @@ ghost use Rattle.line_reader.specs.Slots as slot;
 
 use crate::cursor::Words;
 use crate::laws::laws;
-use xemem_language::ByteList;
 use std::alloc::{AllocError, Global};
+use xemem_language::ByteList;
 use xm_num::{BlockList, FrameList};
 
 // The most bytes of a line.

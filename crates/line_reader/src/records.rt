@@ -4,9 +4,8 @@ ghost use Rattle.line_reader.specs.Lines as spec;
 ghost use Rattle.line_reader.specs.Slots as slot;
 
 use crate::cursor::Words;
-use xemem_language::Line;
 use std::alloc::{AllocError, Global};
-use xemem_language::{Body, Record};
+use xemem_language::{Body, Line, Record};
 
 // The kinds that end something.
 #[tactic(auto, unfolding(crate::specs::Lines::ended_body_rows))]
