@@ -2,6 +2,5 @@ pub mod Nodes
 pub mod Layout
 pub mod Blocks
 pub mod Births
-pub mod Calls
 pub mod Answers
 pub mod Sides

@@ -5,7 +5,8 @@ ghost use Rattle.enclave_rules.specs.Steps as steps;
 ghost use Rattle.xemem_language.specs.Spelling.{words_in};
 ghost use Rattle.enclave_node.specs.Nodes as spec;
 ghost use Rattle.enclave_node.specs.Answers.{handled};
-ghost use Rattle.enclave_node.specs.Calls.{IsCallInRange, call_lines, HasShown, show_lines};
+ghost use Rattle.xemem_language.specs.Calls.{IsCallInRange};
+ghost use Rattle.enclave_rules.specs.Calls.{call_lines, HasShown, show_lines};
 
 mod boot;
 

@@ -3,3 +3,4 @@ pub mod Blocks
 pub mod Pages
 pub mod View
 pub mod Steps
+pub mod Calls

@@ -1,5 +1,5 @@
 -- What a command writes follows from the views of the enclaves that it names.
-use Rattle.std.proofs.Common.{◌≡◌, ◌+◌, ◌-◌, ◌/◌, ◌<◌, ◌≤◌, ℕ, zero, suc, List, [], ◌∷◌, length, take, map, Bool, true, false, cond, not, ◌&&◌, eqb, leb, ltb, Option, None, Some, Result, Ok, Err, refl, sym, ap, ◌∙◌, arith}
+use Rattle.std.proofs.Common.{subst, ◌≡◌, ◌+◌, ◌-◌, ◌/◌, ◌<◌, ◌≤◌, ℕ, zero, suc, List, [], ◌∷◌, length, take, map, Bool, true, false, cond, not, ◌&&◌, eqb, leb, ltb, Option, None, Some, Result, Ok, Err, refl, sym, ap, ◌∙◌, arith}
 use Rattle.std.specs.Prelude.{is_some, is_none, slice_get}
 use Rattle.std.specs.List.{range_with_len, filter, list_any}
 use Rattle.std.specs.Option.{option_map, option_map_or}
@@ -16,7 +16,14 @@ use Rattle.xm_num.specs.declared.Frame.{Frame}
 use Rattle.xm_num.specs.declared.Cause.{Cause}
 use Rattle.xm_num.specs.declared.Cause.TheVariants as causes
 use Rattle.xm_num.specs.Rows.{at, any_between}
+use Rattle.xemem_language.specs.declared.command.Command.{Command}
 use Rattle.xemem_language.specs.declared.command.Command.TheVariants as commands
+use Rattle.xemem_language.specs.declared.call.Call.TheVariants as calls
+use Rattle.xemem_language.specs.declared.call.ProcessCall.{ProcessCall}
+use Rattle.xemem_language.specs.declared.call.Show.TheVariants as shows
+use Rattle.xemem_language.specs.declared.call.NodeShow.{NodeShow}
+use Rattle.xemem_language.specs.Calls.{call_of, show_of}
+use Rattle.enclave_rules.specs.Calls.{call_lines, show_lines}
 use Rattle.xemem_language.specs.declared.line.Line.{Line}
 use Rattle.xemem_language.specs.declared.line.Line.TheVariants as lines
 use Rattle.global_model.specs.Facts.{Facts, is_living_enclave, is_living_process}
@@ -180,12 +187,30 @@ host_answered pool blocks ns = either_way (ltb pool blocks) causes.NoBlocks None
     let drawn : take blocks (free_blocks (pool_facts pool)) ≡ first_blocks blocks = ap (take blocks) (free_pool_blocks pool) ∙ take-map-range_with_len (λ b. record { 0 = b }) 0 pool blocks within in
     ap (λ bs. host_lines bs ns) drawn)
 
+-- ---- calls and what is shown
+
+call_answered : AnyMapped → (G : Facts) → IsKnown G → (command : Command) (k : ProcessCall) → call_of command ≡ Some k
+    → command_lines G command ≡ at_born G.born k.enclave (call_lines (view_of G k.enclave) k.pid k.call)
+call_answered any G known (commands.Alloc e p page count) k is =
+    let same : record { enclave = e; pid = p; call = calls.Alloc page count } ≡ k = cc in
+    subst (λ (k : ProcessCall). command_lines G (commands.Alloc e p page count) ≡ at_born G.born k.enclave (call_lines (view_of G k.enclave) k.pid k.call)) same (alloc_answered any G known e p page count)
+call_answered any G known _ k is = cc
+
+show_answered : (G : Facts) → IsKnown G → (command : Command) (s : NodeShow) → show_of command ≡ Some s
+    → command_lines G command ≡ at_born G.born s.enclave (show_lines (view_of G s.enclave) s.show)
+show_answered G known (commands.ShowRoutes e) s is =
+    let same : record { enclave = e; show = shows.Routes } ≡ s = cc in
+    subst (λ (s : NodeShow). command_lines G (commands.ShowRoutes e) ≡ at_born G.born s.enclave (show_lines (view_of G s.enclave) s.show)) same (routes_answered G known e)
+show_answered G known commands.ShowPool s is =
+    let same : record { enclave = host; show = shows.Pool } ≡ s = cc in
+    subst (λ (s : NodeShow). command_lines G commands.ShowPool ≡ at_born G.born s.enclave (show_lines (view_of G s.enclave) s.show)) same (pool_answered G known)
+show_answered G known _ s is = cc
+
 pub answered : AnyMapped → (G : Facts) → IsKnown G → IsAnswered G
 answered any G known = record {
   boot = boot_answered G known;
   proc = proc_answered G known;
-  alloc = alloc_answered any G known;
+  call = call_answered any G known;
   touch = touch_answered G known;
-  routes = routes_answered G known;
-  pool = pool_answered G known;
+  show = show_answered G known;
 }

@@ -12,7 +12,7 @@ use Rattle.global_model.specs.Channels.{waiting_bytes, arriving}
 use Rattle.enclave_rules.specs.View.{View, host}
 use Rattle.global_model.specs.Views.{view_of}
 use Rattle.enclave_rules.specs.Steps.{knows_way, query_of, record_lines, child_lines, told_lines, adopt_lines, route_lines, state_lines}
-use Rattle.global_model.specs.Due.{got_lines, took_lines, deliver_lines, show_lines, next_rest, first_waiting, settle_end, settle_from}
+use Rattle.global_model.specs.Due.{got_lines, took_lines, deliver_lines, link_lines, next_rest, first_waiting, settle_end, settle_from}
 use Rattle.global_model.specs.Plain.{IsPlain, ArePlain}
 use Rattle.global_model.proofs.Tells.{MayTell, tells_told, tells_bytes, tells_end, tells_routes, tells_states}
 use Rattle.global_model.proofs.Writes.{EachIs, each-append, each_either, writes_record}
@@ -93,7 +93,7 @@ plain_settle (suc left) made G =
     plain-append own (settle_from left (made + 1) H) (plain_deliver G channel.0 channel.1 _) (plain_settle left (made + 1) H))
     (tells_end IsPlain plain_tells G made, tt)
 
-pub plain_show : (G : Facts) (x y : Enclave) → ArePlain (show_lines G x y)
+pub plain_show : (G : Facts) (x y : Enclave) → ArePlain (link_lines G x y)
 plain_show G x y = tells_bytes IsPlain plain_tells x y _ 0 _
 
 -- ---- births

@@ -45,8 +45,8 @@ deliver_lines G x y count =
     if waiting == 0 then lines.Idle x y ∷ [] else took_lines G x y (min count waiting)
 
 -- the bytes that wait, 32 a line
-abbrev pub show_lines : Facts → Enclave → Enclave → List Line
-show_lines G x y = let waiting = waiting_bytes G x.0 y.0 in bytes_lines x y (length waiting) 0 waiting
+abbrev pub link_lines : Facts → Enclave → Enclave → List Line
+link_lines G x y = let waiting = waiting_bytes G x.0 y.0 in bytes_lines x y (length waiting) 0 waiting
 
 -- ---- settling
 
@@ -102,7 +102,7 @@ acts_of G (commands.Touch e p addr want) = touched_lines e p (record { 0 = addr 
 acts_of G (commands.Deliver x y count) = deliver_lines G x y count
 acts_of G (commands.Settle most) = settle_from most 0 G
 acts_of G (commands.ShowRoutes e) = route_lines (view_of G e)
-acts_of G (commands.ShowLink x y) = show_lines G x y
+acts_of G (commands.ShowLink x y) = link_lines G x y
 acts_of G commands.ShowPool = state_lines 0 (map G.block (range_with_len 0 G.pool))
 acts_of G command = []
 

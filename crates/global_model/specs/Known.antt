@@ -1,14 +1,18 @@
 -- What a command writes, by the views of the enclaves.
-use Rattle.std.specs.Prelude.{◌≡◌, ℕ, List, ◌++◌, length, take, Bool, ◌&&◌, nat_le, nat_lt, if◌then◌else◌}
+use Rattle.std.specs.Prelude.{Some, ◌≡◌, ℕ, List, ◌++◌, length, take, Bool, ◌&&◌, nat_le, nat_lt, if◌then◌else◌}
 use Rattle.xm_num.specs.declared.Enclave.{Enclave}
 use Rattle.xm_num.specs.declared.Pid.{Pid}
-use Rattle.xm_num.specs.declared.Vpn.{Vpn}
 use Rattle.xm_num.specs.declared.Want.{Want}
 use Rattle.xm_num.specs.declared.Kind.{Kind}
 use Rattle.xm_num.specs.declared.Cause.TheVariants as causes
+use Rattle.xemem_language.specs.declared.command.Command.{Command}
 use Rattle.xemem_language.specs.declared.command.Command.TheVariants as commands
+use Rattle.xemem_language.specs.declared.call.ProcessCall.{ProcessCall}
+use Rattle.xemem_language.specs.declared.call.NodeShow.{NodeShow}
+use Rattle.xemem_language.specs.Calls.{call_of, show_of}
 use Rattle.xemem_language.specs.declared.line.Line.{Line}
-use Rattle.enclave_rules.specs.Steps.{adopt_lines, alloc_lines, answer_lines, birth_lines, free_from, refusal, route_lines, start_lines, state_lines, touch_answer}
+use Rattle.enclave_rules.specs.Steps.{adopt_lines, answer_lines, birth_lines, free_from, refusal, start_lines, touch_answer}
+use Rattle.enclave_rules.specs.Calls.{call_lines, show_lines}
 use Rattle.enclave_rules.specs.View.{host}
 use Rattle.global_model.specs.Due.{command_lines, next_enclave}
 use Rattle.global_model.specs.Facts.{Facts}
@@ -34,7 +38,6 @@ boot_by G kind parent blocks ns =
 pub record IsAnswered (G : Facts) : Type 0 where
   pub boot : (kind : Kind) (parent : Enclave) (blocks : ℕ) (ns : Bool) → command_lines G (commands.Boot kind parent blocks ns) ≡ at_born G.born parent (boot_by G kind parent blocks ns)
   pub proc : (e : Enclave) (uid gid : ℕ) → command_lines G (commands.Proc e uid gid) ≡ at_born G.born e (start_by G e uid gid)
-  pub alloc : (e : Enclave) (p : Pid) (page : Vpn) (count : ℕ) → command_lines G (commands.Alloc e p page count) ≡ at_born G.born e (alloc_lines (view_of G e) p page count)
   pub touch : (e : Enclave) (p : Pid) (addr : ℕ) (want : Want) → command_lines G (commands.Touch e p addr want) ≡ at_born G.born e (answer_lines e p (touch_answer (view_of G e) p addr want))
-  pub routes : (e : Enclave) → command_lines G (commands.ShowRoutes e) ≡ at_born G.born e (route_lines (view_of G e))
-  pub pool : command_lines G commands.ShowPool ≡ at_born G.born host (state_lines 0 (view_of G host).host.states)
+  pub call : (command : Command) (k : ProcessCall) → call_of command ≡ Some k → command_lines G command ≡ at_born G.born k.enclave (call_lines (view_of G k.enclave) k.pid k.call)
+  pub show : (command : Command) (s : NodeShow) → show_of command ≡ Some s → command_lines G command ≡ at_born G.born s.enclave (show_lines (view_of G s.enclave) s.show)

@@ -13,7 +13,7 @@ use Rattle.global_model.specs.Channels.{is_child_of, is_neighbour}
 use Rattle.global_model.specs.Flow.{IsFlowing}
 use Rattle.global_model.specs.Refusals.{when, link_conditions, first_cause}
 use Rattle.enclave_rules.specs.Steps.{refusal, bytes_lines}
-use Rattle.global_model.specs.Due.{command_lines, show_lines}
+use Rattle.global_model.specs.Due.{command_lines, link_lines}
 use Rattle.byte_link.specs.Channel.{waiting_bytes}
 use Rattle.node_machine.specs.declared.pair.Hop.{Hop}
 use Rattle.node_machine.specs.declared.pair.Hop.TheVariants as hops
@@ -117,7 +117,7 @@ module _ (G : Facts) (m : MachineView) (flowing : IsFlowing G) (h : IsShown G m)
 
 -- ---- a link is shown
 
-show_over : (G : Facts) (m : MachineView) (x y : Enclave) (hop : Hop) → IsOver G m x y hop → show_lines G x y ≡ bytes_lines x y (length (waiting_bytes (link_of m.pairs hop))) 0 (waiting_bytes (link_of m.pairs hop))
+show_over : (G : Facts) (m : MachineView) (x y : Enclave) (hop : Hop) → IsOver G m x y hop → link_lines G x y ≡ bytes_lines x y (length (waiting_bytes (link_of m.pairs hop))) 0 (waiting_bytes (link_of m.pairs hop))
 show_over G m x y hop k = ap (λ bytes. bytes_lines x y (length bytes) 0 bytes) (sym k.link.waiting)
 
 pub tied_show_link : (G H : Facts) (m : MachineView) (x y : Enclave) → IsStep G H (commands.ShowLink x y) → IsShown G m → IsTied G H (commands.ShowLink x y) m

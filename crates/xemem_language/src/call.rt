@@ -1,11 +1,23 @@
 // The calls of processes, and what can be shown of a node.
-use xm_num::Vpn;
+ghost use Rattle.std.specs.Prelude.{◌≡◌};
+ghost use Rattle.xemem_language.specs.Calls as spec;
+
+use crate::Command;
+use xm_num::{Enclave, Pid, Vpn};
 
 /// A call of a process.
 #[derive(Clone, Copy, Debug, PartialEq, Eq)]
 pub enum Call {
     /// Maps own pages to the lowest unused frames: `n` of them, 1 to 4,096, from page `at` on.
     Alloc { at: Vpn, n: u32 },
+}
+
+/// A call, and the process of an enclave that makes it.
+#[derive(Clone, Copy, Debug, PartialEq, Eq)]
+pub struct ProcessCall {
+    pub enclave: Enclave,
+    pub pid: Pid,
+    pub call: Call,
 }
 
 /// What can be shown of a node.
@@ -15,4 +27,47 @@ pub enum Show {
     Routes,
     /// The state of each block, at the host.
     Pool,
+}
+
+/// What is to be shown, and the enclave of which.
+#[derive(Clone, Copy, Debug, PartialEq, Eq)]
+pub struct NodeShow {
+    pub enclave: Enclave,
+    pub show: Show,
+}
+
+/// The call for which a command asks, where it is one of those.
+pub fn call_of(command: &Command) -> Option<ProcessCall>
+    ensures { result ≡ spec.call_of command.now }
+{
+    match *command {
+        Command::Alloc {
+            enclave,
+            pid,
+            at,
+            pages,
+        } => Some(ProcessCall {
+            enclave,
+            pid,
+            call: Call::Alloc { at, n: pages },
+        }),
+        _ => None,
+    }
+}
+
+/// What a command asks to be shown of a node, where it is one of those.
+pub fn show_of(command: &Command) -> Option<NodeShow>
+    ensures { result ≡ spec.show_of command.now }
+{
+    match *command {
+        Command::ShowRoutes { enclave } => Some(NodeShow {
+            enclave,
+            show: Show::Routes,
+        }),
+        Command::ShowPool => Some(NodeShow {
+            enclave: Enclave(0),
+            show: Show::Pool,
+        }),
+        _ => None,
+    }
 }

@@ -9,7 +9,7 @@ mod line;
 mod lines;
 mod record;
 
-pub use call::{Call, Show};
+pub use call::{Call, NodeShow, ProcessCall, Show, call_of, show_of};
 pub use command::Command;
 pub use count::{word_count, words};
 pub use line::{ByteList, Line};

@@ -5,7 +5,8 @@ ghost use Rattle.xemem_language.specs.Ranges.{IsWithin};
 ghost use Rattle.xemem_language.specs.declared.line.Line.TheVariants as lines;
 ghost use Rattle.enclave_rules.specs.View.{own_line, own_lines, new_process};
 ghost use Rattle.enclave_rules.specs.Steps as steps;
-ghost use Rattle.enclave_node.specs.Calls.{IsCallInRange, call_lines};
+ghost use Rattle.xemem_language.specs.Calls.{IsCallInRange};
+ghost use Rattle.enclave_rules.specs.Calls.{call_lines};
 
 use super::State;
 use crate::Call;
