@@ -5,7 +5,6 @@ use Rattle.xm_num.specs.declared.Enclave.{Enclave}
 use Rattle.xm_num.specs.declared.Pid.{Pid}
 use Rattle.xm_num.specs.declared.Want.{Want}
 use Rattle.xm_num.specs.Rows.{at}
-use Rattle.xm_num.specs.declared.Vpn.{Vpn}
 use Rattle.xm_num.specs.declared.Block.{Block}
 use Rattle.xm_num.specs.declared.Kind.{Kind}
 use Rattle.xm_num.specs.declared.Cause.TheVariants as causes
@@ -17,7 +16,11 @@ use Rattle.xemem_language.specs.declared.command.Command.TheVariants as commands
 use Rattle.xemem_language.specs.declared.line.Line.{Line}
 use Rattle.xemem_language.specs.declared.line.Line.TheVariants as lines
 use Rattle.enclave_rules.specs.View.{host}
-use Rattle.enclave_rules.specs.Steps.{refusal, birth_lines, adopt_lines, host_lines, first_blocks, start_lines, alloc_lines, touch_answer, answer_lines, route_lines, state_lines, free_from, bytes_lines}
+use Rattle.xemem_language.specs.declared.call.ProcessCall.{ProcessCall}
+use Rattle.xemem_language.specs.declared.call.NodeShow.{NodeShow}
+use Rattle.xemem_language.specs.Calls.{call_of, show_of}
+use Rattle.enclave_rules.specs.Calls.{call_lines, show_lines}
+use Rattle.enclave_rules.specs.Steps.{refusal, birth_lines, adopt_lines, host_lines, first_blocks, start_lines, touch_answer, answer_lines, free_from, bytes_lines}
 use Rattle.enclave_node.specs.Nodes.{NodeView, unborn_node, wrote, new_host, new_node, lent, adopted, fed_lines, after_feed}
 use Rattle.node_machine.specs.declared.pair.Pair.{Pair}
 use Rattle.node_machine.specs.declared.pair.Hop.{Hop}
@@ -188,7 +191,7 @@ after_boot m kind parent blocks ns =
     else (if is_short m blocks then m
     else record m { server = m.server || ns; nodes = booted_nodes m kind parent blocks ns; pairs = m.pairs ++ record { parent = parent; up = fresh; down = fresh } ∷ [] })))
 
--- ---- calls of processes
+-- ---- processes, their calls, and what is shown
 
 abbrev pub start_by : MachineView → Enclave → ℕ → ℕ → List Line
 start_by m e uid gid = if nat_le 1024 m.starts then refusal causes.TooMany else start_lines (node_at m.nodes e.0).view uid gid
@@ -202,18 +205,16 @@ after_start m e uid gid =
 abbrev pub touch_by : MachineView → Enclave → Pid → ℕ → Want → List Line
 touch_by m e p addr want = answer_lines e p (touch_answer (node_at m.nodes e.0).view p addr want)
 
-abbrev pub pool_by : MachineView → List Line
-pool_by m = at_node m host (state_lines 0 (node_at m.nodes 0).view.host.states)
+-- what the node of the enclave writes for a call
+abbrev pub call_by : MachineView → ProcessCall → List Line
+call_by m k = call_lines (node_at m.nodes k.enclave.0).view k.pid k.call
 
-abbrev pub alloc_by : MachineView → Enclave → Pid → Vpn → ℕ → List Line
-alloc_by m e p page count = alloc_lines (node_at m.nodes e.0).view p page count
+abbrev pub after_call : MachineView → ProcessCall → MachineView
+after_call m k = if nat_lt k.enclave.0 (length m.nodes) then with_node m k.enclave.0 (wrote (node_at m.nodes k.enclave.0) (call_by m k)) else m
 
-abbrev pub after_alloc : MachineView → Enclave → Pid → Vpn → ℕ → MachineView
-after_alloc m e p page count =
-    if nat_lt e.0 (length m.nodes) then with_node m e.0 (wrote (node_at m.nodes e.0) (alloc_by m e p page count)) else m
-
-abbrev pub routes_by : MachineView → Enclave → List Line
-routes_by m e = route_lines (node_at m.nodes e.0).view
+-- what is shown of the node of the enclave
+abbrev pub node_shown : MachineView → NodeShow → List Line
+node_shown m s = show_lines (node_at m.nodes s.enclave.0).view s.show
 
 -- ---- deliveries
 
@@ -289,29 +290,34 @@ next_delivery m = option_map (delivery_over m.pairs) (first_hop m.pairs)
 
 -- ---- a step
 
--- What a command writes after its `do` line. A settle isn't one step of the machine: each of its deliveries is.
+-- what a command writes after its `do` line, where it is no call and shows no node
+abbrev pub other_lines : MachineView → Command → List Line
+other_lines m (commands.Pool blocks) = []
+other_lines m (commands.Host blocks ns) = host_by m blocks ns
+other_lines m (commands.Boot kind parent blocks ns) = at_node m parent (boot_by m kind parent blocks ns)
+other_lines m (commands.Proc e uid gid) = at_node m e (start_by m e uid gid)
+other_lines m (commands.Touch e p addr want) = at_node m e (touch_by m e p addr want)
+other_lines m (commands.Deliver x y count) = deliver_by m x y count (hop_in m x y)
+other_lines m (commands.ShowLink x y) = shown_by m x y (hop_in m x y)
+other_lines m command = []
+
+-- What any command writes after its `do` line. A settle isn't one step of the machine: each of its deliveries is.
 abbrev pub lines_by : MachineView → Command → List Line
-lines_by m (commands.Pool blocks) = []
-lines_by m (commands.Host blocks ns) = host_by m blocks ns
-lines_by m (commands.Boot kind parent blocks ns) = at_node m parent (boot_by m kind parent blocks ns)
-lines_by m (commands.Proc e uid gid) = at_node m e (start_by m e uid gid)
-lines_by m (commands.Alloc e p page count) = at_node m e (alloc_by m e p page count)
-lines_by m (commands.Touch e p addr want) = at_node m e (touch_by m e p addr want)
-lines_by m (commands.Deliver x y count) = deliver_by m x y count (hop_in m x y)
-lines_by m (commands.ShowRoutes e) = at_node m e (routes_by m e)
-lines_by m (commands.ShowLink x y) = shown_by m x y (hop_in m x y)
-lines_by m commands.ShowPool = pool_by m
-lines_by m command = []
+lines_by m command =
+    option_map_or (λ k. at_node m k.enclave (call_by m k)) (call_of command)
+    (option_map_or (λ s. at_node m s.enclave (node_shown m s)) (show_of command) (other_lines m command))
 
 -- the machine before what the lines send is carried
+abbrev pub other_acted : MachineView → Command → MachineView
+other_acted m (commands.Pool blocks) = record m { pool = blocks }
+other_acted m (commands.Host blocks ns) = after_host m blocks ns
+other_acted m (commands.Boot kind parent blocks ns) = after_boot m kind parent blocks ns
+other_acted m (commands.Proc e uid gid) = after_start m e uid gid
+other_acted m (commands.Deliver x y count) = after_deliver m x y count (hop_in m x y)
+other_acted m command = m
+
 abbrev pub acted : MachineView → Command → MachineView
-acted m (commands.Pool blocks) = record m { pool = blocks }
-acted m (commands.Host blocks ns) = after_host m blocks ns
-acted m (commands.Boot kind parent blocks ns) = after_boot m kind parent blocks ns
-acted m (commands.Proc e uid gid) = after_start m e uid gid
-acted m (commands.Alloc e p page count) = after_alloc m e p page count
-acted m (commands.Deliver x y count) = after_deliver m x y count (hop_in m x y)
-acted m command = m
+acted m command = option_map_or (λ k. after_call m k) (call_of command) (other_acted m command)
 
 abbrev pub with_carried : MachineView → List Line → MachineView
 with_carried m journal = record m { pairs = carried (length m.nodes) m.pairs journal }

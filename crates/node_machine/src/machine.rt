@@ -3,8 +3,7 @@ ghost use Rattle.std.specs.Prelude.{◌≡◌, ◌+◌, ◌-◌, ◌≤◌, ◌<
 ghost use Rattle.xm_num.specs.declared.Kind.TheVariants as kinds;
 ghost use Rattle.xemem_wire.specs.Spelling.{AreValid, is_valid};
 ghost use Rattle.xemem_language.specs.declared.line.Line.TheVariants as lines;
-ghost use Rattle.xemem_language.specs.Ranges.{IsInRange};
-ghost use Rattle.xemem_language.specs.declared.command.Command.TheVariants as commands;
+ghost use Rattle.xemem_language.specs.Calls.{IsCallInRange, IsShowable};
 ghost use Rattle.xm_num.specs.Rows.{at};
 ghost use Rattle.enclave_node.specs.Nodes.{feed_at, number_of};
 ghost use Rattle.node_machine.specs.Links.{IsFlowing, sent_in};
@@ -16,14 +15,14 @@ use crate::delivery::{refuse, show};
 use crate::laws::laws;
 use crate::pair::{Hop, new_pair};
 use byte_link::Link;
-use enclave_node::{Call, Node, NodeFault, Show};
+use enclave_node::{Node, NodeFault};
 use frame_pool::PoolFault;
 use page_table::PageTable;
 use std::alloc::{AllocError, Global};
 use std::marker::Model;
 use std::mem;
-use xemem_language::{Command, Line, Lines, Record};
-use xm_num::{BlockList, Cause, Enclave, Kind, Neighbour, Pid, Vpn, Want};
+use xemem_language::{Command, Line, Lines, NodeShow, ProcessCall, Record, call_of, show_of};
+use xm_num::{BlockList, Cause, Enclave, Kind, Neighbour, Pid, Want};
 
 // The most enclaves of a run, and the most processes.
 const MOST_ENCLAVES: usize = 256;
@@ -120,6 +119,12 @@ impl Machine {
         ensures after { OnOk result (self.new ≡ spec.acted self.old command.now) }
         ensures open_ends { OnOk result (AreOpen self.new.pairs) }
     {
+        if let Some(asked) = call_of(command) {
+            return self.call(&asked, out);
+        }
+        if let Some(asked) = show_of(command) {
+            return self.show(&asked, out);
+        }
         match *command {
             Command::Pool { blocks } => self.set_pool(blocks),
             Command::Host { blocks, ns } => self.boot_host(blocks, ns, out),
@@ -130,12 +135,6 @@ impl Machine {
                 ns,
             } => self.boot(kind, parent, blocks, ns, out),
             Command::Proc { enclave, uid, gid } => self.start(enclave, uid, gid, out),
-            Command::Alloc {
-                enclave,
-                pid,
-                at,
-                pages,
-            } => self.allocate(enclave, pid, at, pages, out),
             Command::Touch {
                 enclave,
                 pid,
@@ -143,9 +142,7 @@ impl Machine {
                 want,
             } => self.touch(enclave, pid, addr, want, out),
             Command::Deliver { from, to, count } => self.deliver(from, to, count, out),
-            Command::ShowRoutes { enclave } => self.show_routes(enclave, out),
             Command::ShowLink { from, to } => self.show_link(from, to, out),
-            Command::ShowPool => self.show_pool(out),
             _ => unreachable!(),
         }
     }
@@ -278,24 +275,17 @@ impl Machine {
         Ok(())
     }
 
-    fn allocate(
-        &mut self,
-        enclave: Enclave,
-        pid: Pid,
-        page: Vpn,
-        pages: u32,
-        out: &mut Lines,
-    ) -> Result<(), AllocError>
-        requires range { IsInRange (commands.Alloc enclave pid page pages) }
-        ensures lines { OnOk result (out.new ≡ out.old ++ spec.at_node self.old enclave (spec.alloc_by self.old enclave pid page pages)) }
-        ensures after { OnOk result (self.new ≡ spec.after_alloc self.old enclave pid page pages) }
+    // A call of a process, which its node carries out.
+    fn call(&mut self, asked: &ProcessCall, out: &mut Lines) -> Result<(), AllocError>
+        requires range { IsCallInRange asked.now.call }
+        ensures lines { OnOk result (out.new ≡ out.old ++ spec.at_node self.old asked.now.enclave (spec.call_by self.old asked.now)) }
+        ensures after { OnOk result (self.new ≡ spec.after_call self.old asked.now) }
     {
-        let at = enclave.0 as usize;
+        let at = asked.enclave.0 as usize;
         if at >= self.nodes.len() {
             return refuse(Cause::NoEnclave, out);
         }
-        let call = Call::Alloc { at: page, n: pages };
-        self.nodes[at].call(pid, &call, out)
+        self.nodes[at].call(asked.pid, &asked.call, out)
     }
 
     fn touch(
@@ -390,25 +380,17 @@ impl Machine {
         }
     }
 
-    fn show_routes(&self, enclave: Enclave, out: &mut Lines) -> Result<(), AllocError>
+    // What is shown of a node.
+    fn show(&self, asked: &NodeShow, out: &mut Lines) -> Result<(), AllocError>
         requires ready { IsReady self.now }
-        ensures { OnOk result (out.new ≡ out.old ++ spec.at_node self.now enclave (spec.routes_by self.now enclave)) }
+        requires host { IsShowable asked.now }
+        ensures { OnOk result (out.new ≡ out.old ++ spec.at_node self.now asked.now.enclave (spec.node_shown self.now asked.now)) }
     {
-        let at = enclave.0 as usize;
+        let at = asked.enclave.0 as usize;
         if at >= self.nodes.len() {
             return refuse(Cause::NoEnclave, out);
         }
-        self.nodes[at].show(Show::Routes, out)
-    }
-
-    fn show_pool(&self, out: &mut Lines) -> Result<(), AllocError>
-        requires ready { IsReady self.now }
-        ensures { OnOk result (out.new ≡ out.old ++ spec.pool_by self.now) }
-    {
-        if self.nodes.is_empty() {
-            return refuse(Cause::NoEnclave, out);
-        }
-        self.nodes[0].show(Show::Pool, out)
+        self.nodes[at].show(asked.show, out)
     }
 
     // Gives the records that the lines send to their channels, in order.

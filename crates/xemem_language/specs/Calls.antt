@@ -1,10 +1,12 @@
 -- The calls of processes, and what can be shown of a node, by the command that asks for it.
 use Rattle.std.specs.Prelude.{◌≡◌, ◌≤◌, Option, None, Some}
+use Rattle.xm_num.specs.declared.Enclave.{Enclave}
 use Rattle.xemem_language.specs.declared.command.Command.{Command}
 use Rattle.xemem_language.specs.declared.command.Command.TheVariants as commands
 use Rattle.xemem_language.specs.declared.call.Call.{Call}
 use Rattle.xemem_language.specs.declared.call.Call.TheVariants as calls
 use Rattle.xemem_language.specs.declared.call.ProcessCall.{ProcessCall}
+use Rattle.xemem_language.specs.declared.call.Show.{Show}
 use Rattle.xemem_language.specs.declared.call.Show.TheVariants as shows
 use Rattle.xemem_language.specs.declared.call.NodeShow.{NodeShow}
 use Rattle.xemem_language.specs.Ranges.{IsWithin}
@@ -23,3 +25,11 @@ abbrev pub show_of : Command → Option NodeShow
 show_of (commands.ShowRoutes e) = Some (record { enclave = e; show = shows.Routes })
 show_of commands.ShowPool = Some (record { enclave = record { 0 = 0 }; show = shows.Pool })
 show_of command = None
+
+-- the pool is shown of the host alone
+abbrev pub IsShownOf : Enclave → Show → Type 0
+IsShownOf e shows.Routes = Unit {0}
+IsShownOf e shows.Pool = e.0 ≡ 0
+
+abbrev pub IsShowable : NodeShow → Type 0
+IsShowable s = IsShownOf s.enclave s.show

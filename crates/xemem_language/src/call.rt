@@ -1,5 +1,6 @@
 // The calls of processes, and what can be shown of a node.
-ghost use Rattle.std.specs.Prelude.{◌≡◌};
+ghost use Rattle.std.specs.Prelude.{◌≡◌, IfSome};
+ghost use Rattle.xemem_language.specs.Ranges.{IsInRange};
 ghost use Rattle.xemem_language.specs.Calls as spec;
 
 use crate::Command;
@@ -38,7 +39,8 @@ pub struct NodeShow {
 
 /// The call for which a command asks, where it is one of those.
 pub fn call_of(command: &Command) -> Option<ProcessCall>
-    ensures { result ≡ spec.call_of command.now }
+    ensures call { result ≡ spec.call_of command.now }
+    ensures range { IsInRange command.now → IfSome result (λ k. spec.IsCallInRange k.call) }
 {
     match *command {
         Command::Alloc {
@@ -57,7 +59,8 @@ pub fn call_of(command: &Command) -> Option<ProcessCall>
 
 /// What a command asks to be shown of a node, where it is one of those.
 pub fn show_of(command: &Command) -> Option<NodeShow>
-    ensures { result ≡ spec.show_of command.now }
+    ensures show { result ≡ spec.show_of command.now }
+    ensures host { IfSome result (λ s. spec.IsShowable s) }
 {
     match *command {
         Command::ShowRoutes { enclave } => Some(NodeShow {
