@@ -16,7 +16,7 @@ use Rattle.xemem_language.specs.Destinations.{destination_number}
 use Rattle.xemem_language.specs.declared.command.Command.{Command}
 use Rattle.xemem_language.specs.declared.line.Line.{Line}
 use Rattle.xemem_language.specs.declared.line.Line.TheVariants as lines
-use Rattle.xemem_language.specs.Ranges.{IsSpelled, IsSpelledBody}
+use Rattle.xemem_language.specs.Ranges.{IsSpelled, IsSpelledBody, IsPlainOption}
 use Rattle.xemem_language.specs.Spelling.{line_words, name_word, body_words, hex_words}
 use Rattle.hex.specs.Hex.{encode_lower}
 use Rattle.command_reader.specs.declared.fault.SyntaxFault.{SyntaxFault}
@@ -39,6 +39,22 @@ pub record IsLine (words : List (List ℕ)) (line : Line) (rest : List (List ℕ
 
 line_moved : (words others : List (List ℕ)) (line other : Line) (rest : List (List ℕ)) → words ≡ others → other ≡ line → IsLine others other rest → IsLine words line rest
 line_moved words others line other rest is same h = rw (is, ← same) h
+
+-- a table that is another's reads what that one reads
+same_rows : {R : Type 0} (rows others : List (Row R)) (name : List ℕ) (words : List (List ℕ)) (found : Read R) → others ≡ rows → row_read rows name words ≡ found → row_read others name words ≡ found
+same_rows rows others name words found is h = rw is h
+
+-- what stands behind the values of slots is something else
+behind : (slots : List Slot) (v : Values slots) (words left others : List (List ℕ)) → words ≡ spelled slots v left → left ≡ others → words ≡ spelled slots v others
+behind slots v words left others is same = rw (← same) is
+
+-- what makes a line is something else
+made_by : {A R : Type 0} (make other : A → R) (value : A) (result : R) → other ≡ make → make value ≡ result → other value ≡ result
+made_by make other value result is h = rw is h
+
+-- a name and what stands behind it are others
+renamed : (front : List ℕ → List (List ℕ) → List (List ℕ)) (words : List (List ℕ)) (name other : List ℕ) (fields others : List (List ℕ)) → words ≡ front name fields → name ≡ other → fields ≡ others → words ≡ front other others
+renamed front words name other fields others is named behind = rw (← named, ← behind) is
 
 -- what a row of slots reads
 row_line : (laws : Laws) (front : List (List ℕ) → List (List ℕ)) (slots : List Slot) (make : Maker slots Line) → ((v : Values slots) (m : AreMeant slots v) (rest : List (List ℕ)) → IsLine (front (spelled slots v rest)) (all_made slots make v) rest)
@@ -88,7 +104,7 @@ answer_read laws words line rest h =
     let c = chosen-some (filled (enclave ∷ pid ∷ call ∷ []) answer_rows words) line rest h in
     let f = filled-some laws (enclave ∷ pid ∷ call ∷ []) answer_rows words c.rows (c.name ∷ c.words) c.was in
     let e = f.values.0 in let p = f.values.1.0 in let k = f.values.1.1.0 in
-    let gave : row_read (answer_rows e p k) c.name c.words ≡ Some (line, rest) = ap (λ rows. row_read rows c.name c.words) f.result_is ∙ c.gave in
+    let gave = same_rows c.rows (answer_rows e p k) c.name c.words (Some (line, rest)) f.result_is c.gave in
     line_moved _ _ line line rest (ap (λ ws. codes "answer" ∷ ws) f.words_are) refl (row_read-some (AnswerLine e p k) (answer_rows e p k) c.name c.words line rest (answers_read laws e p k f.meant.0 f.meant.1.0 f.meant.1.1.0) gave)
 
 abbrev AtLine : Enclave → List (List ℕ) → Line → List (List ℕ) → Type 0
@@ -132,7 +148,7 @@ at_read laws words line rest h =
     let c = chosen-some (filled (enclave ∷ []) at_rows words) line rest h in
     let f = filled-some laws (enclave ∷ []) at_rows words c.rows (c.name ∷ c.words) c.was in
     let e = f.values.0 in
-    let gave : row_read (at_rows e) c.name c.words ≡ Some (line, rest) = ap (λ rows. row_read rows c.name c.words) f.result_is ∙ c.gave in
+    let gave = same_rows c.rows (at_rows e) c.name c.words (Some (line, rest)) f.result_is c.gave in
     line_moved _ _ line line rest (ap (λ ws. codes "at" ∷ ws) f.words_are) refl (row_read-some (AtLine e) (at_rows e) c.name c.words line rest (ats_read laws e f.meant.0) gave)
 
 abbrev BlockLine : Block → List (List ℕ) → Line → List (List ℕ) → Type 0
@@ -157,7 +173,7 @@ block_read laws words line rest h =
     let c = chosen-some (filled (block ∷ []) block_rows words) line rest h in
     let f = filled-some laws (block ∷ []) block_rows words c.rows (c.name ∷ c.words) c.was in
     let b = f.values.0 in
-    let gave : row_read (block_rows b) c.name c.words ≡ Some (line, rest) = ap (λ rows. row_read rows c.name c.words) f.result_is ∙ c.gave in
+    let gave = same_rows c.rows (block_rows b) c.name c.words (Some (line, rest)) f.result_is c.gave in
     line_moved _ _ line line rest (ap (λ ws. codes "block" ∷ ws) f.words_are) refl (row_read-some (BlockLine b) (block_rows b) c.name c.words line rest (blocks_read laws b f.meant.0) gave)
 
 -- ---- records
@@ -309,6 +325,11 @@ with_body-some (Some (pair, words)) line rest h =
     let m = made-some (λ body. Some (pair.1 body)) (row_read body_rows pair.0 words) line rest h in
     record { name = pair.0; make = pair.1; words = words; body = m.found; was = refl; gave = m.was; makes = cc (m.gave) }
 
+-- the line of a record, by its fields
+a_sent : (x y origin : Enclave) (dest : Option Enclave) (k : ℕ) (body : Body) (rest : List (List ℕ)) → Is16 x.0 → Is16 y.0 → Is16 origin.0 → IsPlainOption dest → Is32 k → IsSpelledBody body → IsTypedBody body
+    → IsLine (codes "sent" ∷ decimal x.0 ∷ decimal y.0 ∷ name_word body ∷ decimal origin.0 ∷ decimal (destination_number dest) ∷ decimal k ∷ body_words body ++ rest) (lines.Sent x y (record { origin = origin; dest = dest; call = k; body = body })) rest
+a_sent x y origin dest k body rest is_x is_y is_origin is_dest is_k is_spelled is_typed = record { is = refl; spelled = (is_dest, is_spelled); typed = (is_x, is_y, is_origin, is_k, is_typed) }
+
 sent_read : (laws : Laws) (words : List (List ℕ)) (line : Line) (rest : List (List ℕ)) → sent_form words ≡ Some (line, rest) → IsLine (codes "sent" ∷ words) line rest
 unfolding sent_form
 sent_read laws words line rest h =
@@ -318,16 +339,16 @@ sent_read laws words line rest h =
     let v = f.values in
     let m = f.meant in
     let name_is : v.1.1.0 ≡ s.name = ap (λ p. p.0) f.result_is in
-    let make_is : (λ body. lines.Sent v.0 v.1.0 (record { origin = v.1.1.1.0; dest = v.1.1.1.1.0; call = v.1.1.1.1.1.0; body = body })) ≡ s.make = ap (λ p. p.1) f.result_is in
+    let make : Body → Line = λ body. lines.Sent v.0 v.1.0 (record { origin = v.1.1.1.0; dest = v.1.1.1.1.0; call = v.1.1.1.1.1.0; body = body }) in
+    let make_is : make ≡ s.make = ap (λ p. p.1) f.result_is in
     let b = row_read-some IsBody body_rows s.name s.words s.body rest (bodies_read laws) s.gave in
-    let line_is : lines.Sent v.0 v.1.0 (record { origin = v.1.1.1.0; dest = v.1.1.1.1.0; call = v.1.1.1.1.1.0; body = s.body }) ≡ line = ap (λ make. make s.body) make_is ∙ s.makes in
+    let line_is = made_by s.make make s.body line make_is s.makes in
     let names_are : s.name ≡ name_word s.body = ap (λ ws. get_or ws 0 s.name) b.is in
     let fields_are : s.words ≡ body_words s.body ++ rest = ap (drop 1) b.is in
-    let name_words : v.1.1.0 ≡ name_word s.body = name_is ∙ names_are in
-    let words_are : words ≡ decimal v.0.0 ∷ decimal v.1.0.0 ∷ name_word s.body ∷ decimal v.1.1.1.0.0 ∷ decimal (destination_number v.1.1.1.1.0) ∷ decimal v.1.1.1.1.1.0 ∷ body_words s.body ++ rest =
-    f.words_are ∙ ap (λ name. decimal v.0.0 ∷ decimal v.1.0.0 ∷ name ∷ decimal v.1.1.1.0.0 ∷ decimal (destination_number v.1.1.1.1.0) ∷ decimal v.1.1.1.1.1.0 ∷ s.words) name_words
-    ∙ ap (λ ws. decimal v.0.0 ∷ decimal v.1.0.0 ∷ name_word s.body ∷ decimal v.1.1.1.0.0 ∷ decimal (destination_number v.1.1.1.1.0) ∷ decimal v.1.1.1.1.1.0 ∷ ws) fields_are in
-    line_moved _ _ _ _ rest (ap (λ ws. codes "sent" ∷ ws) words_are) line_is (record { is = refl; spelled = (m.1.1.1.1.0, b.spelled); typed = (m.0, m.1.0, m.1.1.1.0, m.1.1.1.1.1.0, b.typed) })
+    let front : List ℕ → List (List ℕ) → List (List ℕ) = λ name ws. codes "sent" ∷ decimal v.0.0 ∷ decimal v.1.0.0 ∷ name ∷ decimal v.1.1.1.0.0 ∷ decimal (destination_number v.1.1.1.1.0) ∷ decimal v.1.1.1.1.1.0 ∷ ws in
+    let named : v.1.1.0 ≡ name_word s.body = name_is ∙ names_are in
+    let words_are = renamed front (codes "sent" ∷ words) v.1.1.0 (name_word s.body) s.words (body_words s.body ++ rest) (ap (λ ws. codes "sent" ∷ ws) f.words_are) named fields_are in
+    line_moved (codes "sent" ∷ words) (front (name_word s.body) (body_words s.body ++ rest)) line (make s.body) rest words_are line_is (a_sent v.0 v.1.0 v.1.1.1.0 v.1.1.1.1.0 v.1.1.1.1.1.0 s.body rest m.0 m.1.0 m.1.1.1.0 m.1.1.1.1.0 m.1.1.1.1.1.0 b.spelled b.typed)
 
 -- ---- lines with lists
 
@@ -358,9 +379,9 @@ born_read laws words line rest h =
     let f = filled-some laws slots born words l.make l.words l.was in
     let v = f.values in
     let m = f.meant in
-    let line_is : lines.Born v.0 v.1.0 v.1.1.0 v.1.1.1.0 l.values ≡ line = ap (λ make. make l.values) f.result_is ∙ l.makes in
-    let words_are = f.words_are ∙ ap (spelled slots v) (to_end l.words (map (spell block) l.values) rest l.all.is l.all.none_left) in
-    line_moved _ _ _ _ rest (ap (λ ws. codes "born" ∷ ws) words_are) line_is (record { is = refl; spelled = tt; typed = (m.0, m.1.1.0, l.all.meant) })
+    let line_is = made_by l.make (lines.Born v.0 v.1.0 v.1.1.0 v.1.1.1.0) l.values line f.result_is l.makes in
+    let words_are = behind slots v words l.words (map (spell block) l.values ++ rest) f.words_are (to_end l.words (map (spell block) l.values) rest l.all.is l.all.none_left) in
+    line_moved (codes "born" ∷ words) (codes "born" ∷ spelled slots v (map (spell block) l.values ++ rest)) line (lines.Born v.0 v.1.0 v.1.1.0 v.1.1.1.0 l.values) rest (ap (λ ws. codes "born" ∷ ws) words_are) line_is (record { is = refl; spelled = tt; typed = (m.0, m.1.1.0, l.all.meant) })
 
 alloc_read : (laws : Laws) (words : List (List ℕ)) (line : Line) (rest : List (List ℕ)) → alloc_form words ≡ Some (line, rest) → IsLine (codes "alloc" ∷ words) line rest
 unfolding alloc_form
@@ -371,8 +392,8 @@ alloc_read laws words line rest h =
     let f = filled-some laws slots allocated words l.make l.words l.was in
     let v = f.values in
     let m = f.meant in
-    let line_is : lines.Alloc v.0 v.1.0 v.1.1.0 l.values ≡ line = ap (λ make. make l.values) f.result_is ∙ l.makes in
-    let words_are = f.words_are ∙ ap (spelled slots v) (to_end l.words (map (spell frame) l.values) rest l.all.is l.all.none_left) in
+    let line_is = made_by l.make (lines.Alloc v.0 v.1.0 v.1.1.0) l.values line f.result_is l.makes in
+    let words_are = behind slots v words l.words (map (spell frame) l.values ++ rest) f.words_are (to_end l.words (map (spell frame) l.values) rest l.all.is l.all.none_left) in
     line_moved _ _ _ _ rest (ap (λ ws. codes "alloc" ∷ ws) words_are) line_is (record { is = refl; spelled = tt; typed = (m.0, m.1.0, m.1.1.0, l.all.meant) })
 
 hex_is : (bytes : List ℕ) → 1 ≤ length bytes → encode_lower bytes ∷ [] ≡ hex_words bytes

@@ -71,6 +71,7 @@ fn feed(
 
 impl Bench {
     // Enclave 4 under enclave 2, with the children 1, 5, 6 and 7.
+    #[tactic(auto, unfolding(xm_num::specs::Rows::at, xm_num::specs::Rows::put, xm_num::specs::Rows::less))]
     fn of(rt: &impl Abort, alloc: Global, node: Node<PageTable>) -> Bench
         requires me { node.view.me.0 ≡ 4 }
         requires children { node.view.children ≡ [] }

@@ -73,7 +73,9 @@ fn the_lowest_blocks_are_lent<A: AddressSpace>(
     Ok(())
 }
 
-fn some_heard(alloc: Global) -> Result<EnclaveList, AllocError> {
+fn some_heard(alloc: Global) -> Result<EnclaveList, AllocError>
+    ensures { IfOk result (λ heard. heard ≡ record { 0 = 2 } ∷ record { 0 = 7 } ∷ []) }
+{
     let mut heard = EnclaveList::new(alloc);
     heard.push(Enclave(2))?;
     heard.push(Enclave(7))?;
@@ -95,6 +97,7 @@ fn has_two_blocks<A: AddressSpace>(alloc: Global, node: &mut Node<A>) -> Result<
 }
 
 // A child of enclave 1 with two blocks learns the way and is admitted.
+#[tactic(auto, unfolding(xm_num::specs::Rows::at, xm_num::specs::Rows::put, xm_num::specs::Rows::less))]
 fn a_child_registers<A: AddressSpace>(rt: &impl Abort, alloc: Global) -> Result<(), AllocError> {
     let mut out = Lines::new(alloc);
     let (me, parent, kind) = (Enclave(3), Enclave(1), Kind::Cokernel);

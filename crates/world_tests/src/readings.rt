@@ -293,8 +293,9 @@ fn listed(alloc: Global) -> Result<bool, AllocError> {
     lines.push(Line::Admitted {
         enclave: Enclave(0),
     })?;
-    let counts = [lines.get(0).map(word_count), lines.get(1).map(word_count)];
-    if lines.len() != 2 || counts != [Some(3), Some(2)] || lines.words() != 5 {
+    let first = lines.get(0).map(|line| word_count(line));
+    let second = lines.get(1).map(|line| word_count(line));
+    if lines.len() != 2 || (first, second) != (Some(3), Some(2)) || lines.words() != 5 {
         return Ok(false);
     }
     lines.truncate(1);
