@@ -3,6 +3,8 @@ use Rattle.std.specs.Prelude.{◌≡◌, List}
 use Rattle.std.specs.List.{AllByRecursion}
 use Rattle.xm_num.specs.declared.Enclave.{Enclave}
 use Rattle.xm_num.specs.declared.Pid.{Pid}
+use Rattle.xm_num.specs.declared.Cause.{Cause}
+use Rattle.xm_num.specs.declared.Cause.TheVariants as causes
 use Rattle.xemem_language.specs.declared.line.Line.{Line}
 use Rattle.xemem_language.specs.declared.line.Line.TheVariants as lines
 use Rattle.xemem_language.specs.declared.call.Call.{Call}
@@ -16,9 +18,14 @@ use Rattle.enclave_rules.specs.Steps.{alloc_lines, route_lines, state_lines}
 abbrev pub call_lines : View → Pid → Call → List Line
 call_lines v p (calls.Alloc at n) = alloc_lines v p at n
 
+-- the causes for which an enclave itself refuses: that it doesn't live is for others to say
+abbrev pub IsOwnCause : Cause → Type 0
+IsOwnCause causes.NoEnclave = ⊥
+IsOwnCause cause = Unit {0}
+
 -- the line is one that an enclave may write for a call: a refusal, or one of its own
 abbrev pub IsCallLine : Enclave → Line → Type 0
-IsCallLine y (lines.Refused cause) = Unit {0}
+IsCallLine y (lines.Refused cause) = IsOwnCause cause
 IsCallLine y (lines.Alloc e p at frames) = e ≡ y
 IsCallLine y line = ⊥
 

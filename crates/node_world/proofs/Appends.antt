@@ -12,13 +12,16 @@ use Rattle.xm_num.specs.Rows.{any_between}
 use Rattle.xemem_language.specs.declared.record.Record.{Record}
 use Rattle.xemem_language.specs.declared.command.Command.{Command}
 use Rattle.xemem_language.specs.declared.command.Command.TheVariants as commands
+use Rattle.xemem_language.specs.declared.call.ProcessCall.{ProcessCall}
+use Rattle.xemem_language.specs.Calls.{call_of}
+use Rattle.enclave_rules.specs.Calls.{IsOwnCause, AreCallLines}
 use Rattle.xemem_language.specs.declared.line.Line.{Line}
 use Rattle.xemem_language.specs.declared.line.Line.TheVariants as lines
 use Rattle.xemem_language.specs.Spelling.{line_words, words_in}
 use Rattle.global_model.specs.Journals.{command_at, onto}
 use Rattle.enclave_rules.specs.View.{View, ProcessView, host, AreOf}
 use Rattle.enclave_rules.specs.Steps.{refusal, host_lines, told_lines, child_lines, birth_lines, query_of, knows_way, adopt_lines, process_at, own_lines_of, alloc_lines, lines_of_records}
-use Rattle.node_world.specs.Appended.{refuses, is_by, words_by}
+use Rattle.node_world.specs.Appended.{is_unborn, refuses, is_by, words_by}
 use Rattle.node_world.proofs.Lists.{cond_case}
 use Rattle.node_world.proofs.Stills.{IsStill, AreStill}
 use Rattle.node_world.proofs.Words.{onto-append}
@@ -157,16 +160,13 @@ by_records views c v x rs = all (lines_of_records v x rs) (views.at v x rs)
     all (lines.Route e d over ∷ ls) of = (λ k. ap (λ a. only a k) of.0, all ls of.1)
     all (_ ∷ ls) of = absurd of.0
 
--- an enclave answers its own `alloc`
-pub by_alloc : (v : View) (p : Pid) (page : Vpn) (count : ℕ) → AreBy (commands.Alloc v.me p page count) (only v.me) (alloc_lines v p page count)
-by_alloc v p page count = by (process_at v p)
-  where
-    c : Command
-    c = commands.Alloc v.me p page count
+own_cause : (cause : Cause) → IsOwnCause cause → is_unborn cause ≡ false
+own_cause causes.NoEnclave own = absurd own
+own_cause _ own = refl
 
-    by : (found : Option ProcessView) → AreBy c (only v.me) (option_map_or (λ process. own_lines_of v p page count process.pages) found (refusal causes.NoProcess))
-    by None = (λ e. refl, tt)
-    by (Some process) =
-        cond_case (ltb 16777216 (page.0 + count)) (refusal causes.BadRange) _ (AreBy c (only v.me)) (λ e. refl, tt)
-        (cond_case (any_between process.pages page.0 (page.0 + count)) (refusal causes.Taken) _ (AreBy c (only v.me)) (λ e. refl, tt)
-        (cond_case (ltb (length v.free) count) (refusal causes.NoFrames) (lines.Alloc v.me p page (take count v.free) ∷ []) (AreBy c (only v.me)) (λ e. refl, tt) (λ e. refl, tt)))
+-- an enclave answers the calls of its own processes
+pub by_call : (c : Command) (k : ProcessCall) → call_of c ≡ Some k → (ls : List Line) → AreCallLines k.enclave ls → AreBy c (only k.enclave) ls
+by_call c k is [] own = tt
+by_call c k is (lines.Refused cause ∷ ls) own = (λ e. rw (is, own_cause cause own.0) refl, by_call c k is ls own.1)
+by_call c k is (lines.Alloc of p page frames ∷ ls) own = (λ e. ap (λ a. eqb a.0 e) own.0, by_call c k is ls own.1)
+by_call c k is (_ ∷ ls) own = absurd own.0

@@ -16,6 +16,10 @@ use Rattle.xm_num.specs.declared.Cause.TheVariants as causes
 use Rattle.byte_link.specs.Channel.{fresh, taken, waiting_bytes}
 use Rattle.xemem_language.specs.declared.command.Command.{Command}
 use Rattle.xemem_language.specs.declared.command.Command.TheVariants as commands
+use Rattle.xemem_language.specs.declared.call.ProcessCall.{ProcessCall}
+use Rattle.xemem_language.specs.declared.call.NodeShow.{NodeShow}
+use Rattle.xemem_language.specs.Calls.{call_of, show_of}
+use Rattle.enclave_rules.specs.Calls.{AreCallLines}
 use Rattle.xemem_language.specs.declared.line.Line.{Line}
 use Rattle.xemem_language.specs.declared.line.Line.TheVariants as lines
 use Rattle.xemem_language.specs.Spelling.{line_words, words_in}
@@ -26,12 +30,12 @@ use Rattle.enclave_node.specs.Nodes.{NodeView, unborn_node, raised, wrote, new_h
 use Rattle.node_machine.specs.declared.pair.Hop.{Hop}
 use Rattle.node_machine.specs.declared.pair.Hop.TheVariants as hops
 use Rattle.node_world.specs.Appended.{refuses, is_by, words_by}
-use Rattle.node_machine.specs.Machine.{MachineView, node_at, with_node, hop_in, link_of, with_link, taken_by, is_idle, next_enclave, free_of, is_full, is_short, booted_lines, booted_nodes, touch_by, over_lines, over_machine, deliver_by, after_deliver, routes_by, shown_by, lines_by, acted, after_command}
+use Rattle.node_machine.specs.Machine.{MachineView, node_at, with_node, hop_in, link_of, with_link, taken_by, is_idle, next_enclave, free_of, is_full, is_short, booted_lines, booted_nodes, touch_by, over_lines, over_machine, deliver_by, after_deliver, shown_by, lines_by, acted, after_command, call_by, node_shown}
 use Rattle.node_machine.specs.Ready.{IsReady, Stands}
 use Rattle.node_world.specs.World.{most_words}
 use Rattle.node_world.proofs.Lists.{cond_case, set_field}
-use Rattle.node_world.proofs.Stills.{AreStill, still_answer, still_states, still_bytes}
-use Rattle.node_world.proofs.Appends.{IsBy, AreBy, nobody, only, Adds, share, adds_append, adds_by, few_by, by_still, by_birth, by_host, by_adopt, by_records, by_alloc}
+use Rattle.node_world.proofs.Stills.{AreStill, still_answer, still_shown, show_no_call, show_stays, shown_lines, still_bytes}
+use Rattle.node_world.proofs.Appends.{IsBy, AreBy, nobody, only, Adds, share, adds_append, adds_by, few_by, by_still, by_birth, by_host, by_adopt, by_records, by_call}
 use Rattle.node_world.proofs.Words.{onto-append}
 use Rattle.node_world.specs.Laws.{Laws}
 
@@ -224,24 +228,28 @@ counts_start m e uid gid me = by (ltb e.0 (length m.nodes)) (leb 1024 m.starts) 
         let lt = ltb-true e.0 (length m.nodes) is in
         counts_one c m.nodes e (wrote (node_at m.nodes e.0) ls) ls lt refl (λ k. ap (λ a. only a k) (me lt), tt)
 
-counts_alloc : (m : MachineView) (e : Enclave) (p : Pid) (page : Vpn) (count : ℕ) → (e.0 < length m.nodes → (node_at m.nodes e.0).view.me ≡ e)
-    → Counts (commands.Alloc e p page count) (lines_by m (commands.Alloc e p page count)) m.nodes (acted m (commands.Alloc e p page count)).nodes
-counts_alloc m e p page count me = by (ltb e.0 (length m.nodes)) refl
+counts_call : Laws → (m : MachineView) (c : Command) (k : ProcessCall) → call_of c ≡ Some k → (k.enclave.0 < length m.nodes → (node_at m.nodes k.enclave.0).view.me ≡ k.enclave)
+    → Counts c (lines_by m c) m.nodes (acted m c).nodes
+counts_call laws m c k is me = rw is (by (ltb k.enclave.0 (length m.nodes)) refl)
   where
-    c : Command
-    c = commands.Alloc e p page count
+    e : Enclave
+    e = k.enclave
 
     v : View
     v = (node_at m.nodes e.0).view
 
     ls : List Line
-    ls = alloc_lines v p page count
+    ls = call_by m k
+
+    refused : (j : ℕ) → refuses j (Some c) causes.NoEnclave ≡ false
+    refused j = rw is refl
 
     by : (a : Bool) → ltb e.0 (length m.nodes) ≡ a → Counts c (cond a ls (refusal causes.NoEnclave)) m.nodes (cond a (with_node m e.0 (wrote (node_at m.nodes e.0) ls)) m).nodes
-    by false is = counts_none c (refusal causes.NoEnclave) m.nodes (λ e. refl, tt)
-    by true is =
-        let lt = ltb-true e.0 (length m.nodes) is in
-        counts_one c m.nodes e (wrote (node_at m.nodes e.0) ls) ls lt refl (subst (λ e. AreBy (commands.Alloc e p page count) (only e) ls) (me lt) (by_alloc v p page count))
+    by false gone = counts_none c (refusal causes.NoEnclave) m.nodes (refused, tt)
+    by true here =
+        let lt = ltb-true e.0 (length m.nodes) here in
+        let own : AreCallLines e ls = subst (λ (a : Enclave). AreCallLines a ls) (me lt) (laws.views.calls v k.pid k.call) in
+        counts_one c m.nodes e (wrote (node_at m.nodes e.0) ls) ls lt refl (by_call c k is ls own)
 
 -- ---- deliveries
 
@@ -321,41 +329,36 @@ counts_show_link m x y = counts_still (commands.ShowLink x y) (λ e cause. refl)
     by (hops.Up i) = still_bytes x y _ 0 _
     by (hops.Down i) = still_bytes x y _ 0 _
 
-by_routes : (c : Command) (v : View) → AreBy c nobody (route_lines v)
-by_routes c v = (way v.holder v.way, rows v.routes)
-  where
-    way : (holder : Bool) (over : Option Enclave) → IsBy c nobody (cond holder (lines.AtWayOwn v.me) (option_map_or (λ over. lines.AtWay v.me over) over (lines.AtWayNone v.me)))
-    way true over = λ e. refl
-    way false None = λ e. refl
-    way false (Some over) = λ e. refl
-
-    rows : (routes : List (ℕ × Enclave)) → AreBy c nobody (map (λ row. lines.AtRoute v.me (record { 0 = row.0 }) row.1) routes)
-    rows [] = tt
-    rows (row ∷ routes) = (λ e. refl, rows routes)
-
-counts_show_routes : (m : MachineView) (e : Enclave) → Counts (commands.ShowRoutes e) (lines_by m (commands.ShowRoutes e)) m.nodes m.nodes
-counts_show_routes m e = counts_none (commands.ShowRoutes e) (lines_by m (commands.ShowRoutes e)) m.nodes
-    (cond_case (ltb e.0 (length m.nodes)) (routes_by m e) (refusal causes.NoEnclave) (AreBy (commands.ShowRoutes e) nobody) (by_routes (commands.ShowRoutes e) (node_at m.nodes e.0).view) (λ k. refl, tt))
-
-counts_show_pool : (m : MachineView) → Counts commands.ShowPool (lines_by m commands.ShowPool) m.nodes m.nodes
-counts_show_pool m = counts_still commands.ShowPool (λ e cause. refl) (lines_by m commands.ShowPool) m.nodes
-    (cond_case (ltb 0 (length m.nodes)) (state_lines 0 (node_at m.nodes 0).view.host.states) (refusal causes.NoEnclave) AreStill (still_states 0 (node_at m.nodes 0).view.host.states) (tt, tt))
+counts_show : Laws → (m : MachineView) (c : Command) (s : NodeShow) → show_of c ≡ Some s → Counts c (lines_by m c) m.nodes (acted m c).nodes
+counts_show laws m c s is = subst (λ (w : MachineView). Counts c (lines_by m c) m.nodes w.nodes) (sym (show_stays m c s is))
+    (counts_still c (λ e cause. let none = show_no_call c s is in rw none refl) (lines_by m c) m.nodes
+    (subst AreStill (sym (shown_lines m c s is))
+    (cond_case (ltb s.enclave.0 (length m.nodes)) (node_shown m s) (refusal causes.NoEnclave) AreStill
+    (still_shown (node_shown m s) (laws.views.shows (node_at m.nodes s.enclave.0).view s.show)) (tt, tt))))
 
 -- ---- any command
 
+counted_other : Laws → (m : MachineView) (c : Command) → call_of c ≡ None → show_of c ≡ None → IsReady m → Stands m c → Counts c (lines_by m c) m.nodes (acted m c).nodes
+counted_other laws m (commands.Pool blocks) no_call no_show ready stands = counts_none (commands.Pool blocks) [] m.nodes tt
+counted_other laws m (commands.Host blocks ns) no_call no_show ready stands = counts_host m blocks ns stands.0
+counted_other laws m (commands.Boot kind parent blocks ns) no_call no_show ready stands = counts_boot m kind parent blocks ns (λ within. (ready.nodes parent.0 within).me)
+counted_other laws m (commands.Proc e uid gid) no_call no_show ready stands = counts_start m e uid gid (λ within. (ready.nodes e.0 within).me)
+counted_other laws m (commands.Touch e p addr want) no_call no_show ready stands = counts_touch m e p addr want
+counted_other laws m (commands.Deliver x y count) no_call no_show ready stands = counts_deliver laws (commands.Deliver x y count) (λ e cause. refl) m x y count (λ within. (ready.nodes y.0 within).me)
+counted_other laws m (commands.Settle most) no_call no_show ready stands = absurd stands
+counted_other laws m (commands.ShowLink x y) no_call no_show ready stands = counts_show_link m x y
+counted_other laws m (commands.Alloc e p page count) no_call no_show ready stands = cc
+counted_other laws m (commands.ShowRoutes e) no_call no_show ready stands = cc
+counted_other laws m commands.ShowPool no_call no_show ready stands = cc
+counted_other laws m c no_call no_show ready stands = counts_none c [] m.nodes tt
+
 pub counted : Laws → (m : MachineView) (c : Command) → IsReady m → Stands m c → Counts c (lines_by m c) m.nodes (acted m c).nodes
-counted laws m (commands.Pool blocks) ready stands = counts_none (commands.Pool blocks) [] m.nodes tt
-counted laws m (commands.Host blocks ns) ready stands = counts_host m blocks ns stands.0
-counted laws m (commands.Boot kind parent blocks ns) ready stands = counts_boot m kind parent blocks ns (λ within. (ready.nodes parent.0 within).me)
-counted laws m (commands.Proc e uid gid) ready stands = counts_start m e uid gid (λ within. (ready.nodes e.0 within).me)
-counted laws m (commands.Alloc e p page count) ready stands = counts_alloc m e p page count (λ within. (ready.nodes e.0 within).me)
-counted laws m (commands.Touch e p addr want) ready stands = counts_touch m e p addr want
-counted laws m (commands.Deliver x y count) ready stands = counts_deliver laws (commands.Deliver x y count) (λ e cause. refl) m x y count (λ within. (ready.nodes y.0 within).me)
-counted laws m (commands.Settle most) ready stands = absurd stands
-counted laws m (commands.ShowRoutes e) ready stands = counts_show_routes m e
-counted laws m (commands.ShowLink x y) ready stands = counts_show_link m x y
-counted laws m commands.ShowPool ready stands = counts_show_pool m
-counted laws m c ready stands = counts_none c [] m.nodes tt
+counted laws m c ready stands = by (call_of c) refl (show_of c) refl
+  where
+    by : (call : Option ProcessCall) → call_of c ≡ call → (show : Option NodeShow) → show_of c ≡ show → Counts c (lines_by m c) m.nodes (acted m c).nodes
+    by (Some k) is show shown = counts_call laws m c k is (λ within. (ready.nodes k.enclave.0 within).me)
+    by None no_call (Some s) shown = counts_show laws m c s shown
+    by None no_call None no_show = counted_other laws m c no_call no_show ready stands
 
 -- ---- a journal
 

@@ -14,16 +14,19 @@ use Rattle.xm_num.specs.Rows.{at, any_between}
 use Rattle.xemem_wire.specs.Decoding.{Decoding}
 use Rattle.xemem_language.specs.declared.command.Command.{Command}
 use Rattle.xemem_language.specs.declared.command.Command.TheVariants as commands
+use Rattle.xemem_language.specs.declared.call.ProcessCall.{ProcessCall}
+use Rattle.xemem_language.specs.Calls.{call_of}
+use Rattle.enclave_rules.specs.Calls.{call_lines, AreCallLines}
 use Rattle.xemem_language.specs.declared.line.Line.{Line}
 use Rattle.xemem_language.specs.declared.line.Line.TheVariants as lines
-use Rattle.global_model.specs.Facts.{Facts, ProcessFact, after_lines}
+use Rattle.global_model.specs.Facts.{Facts, ProcessFact, after_line, after_lines}
 use Rattle.enclave_rules.specs.View.{View, ProcessView, own_line, own_lines, seen_lines}
 use Rattle.global_model.specs.Views.{view_of}
 use Rattle.enclave_rules.specs.Steps.{refusal, start_lines, process_at, own_lines_of, alloc_lines}
 use Rattle.global_model.specs.Known.{at_born}
 use Rattle.global_model.specs.Due.{command_lines}
 use Rattle.enclave_node.specs.Nodes.{NodeView, unborn_node, wrote}
-use Rattle.node_machine.specs.Machine.{MachineView, node_at, pair_at, at_node, lines_by, acted, with_carried, after_command}
+use Rattle.node_machine.specs.Machine.{MachineView, node_at, pair_at, at_node, lines_by, acted, with_carried, after_command, call_by, after_call}
 use Rattle.node_machine.specs.Machine.{enclave}
 use Rattle.node_world.specs.Shown.{IsNodeOf, IsShown}
 use Rattle.node_world.proofs.Lists.{cond_case, same_either, set_case}
@@ -155,51 +158,67 @@ tied_proc G H m e uid gid step h = by (ltb e.0 G.born) (leb 1024 G.starts) refl 
         ap (λ n. with_carried n (lines_by m c)) machine ∙ ap (with_carried (record m { nodes = slice_set m.nodes e.0 (wrote (node_at m.nodes e.0) (start_lines v uid gid)); starts = m.starts + 1 })) (ls ∙ started) in
         (ls, subst (IsShown H) (sym after) shown)
 
--- ---- alloc
+-- ---- calls
 
-alloc_case : (v : View) (p : Pid) (page : Vpn) (count : ℕ) (P : List Line → Type 0) → ((cause : Cause) → P (refusal cause)) → ((frames : List Frame) → P (lines.Alloc v.me p page frames ∷ [])) → P (alloc_lines v p page count)
-alloc_case v p page count P refused made = by (process_at v p)
-  where
-    by : (found : Option ProcessView) → P (option_map_or (λ process. own_lines_of v p page count process.pages) found (refusal causes.NoProcess))
-    by None = refused causes.NoProcess
-    by (Some process) =
-        cond_case (ltb 16777216 (page.0 + count)) _ _ P (refused causes.BadRange)
-        (cond_case (any_between process.pages page.0 (page.0 + count)) _ _ P (refused causes.Taken) (cond_case (ltb (length v.free) count) _ _ P (refused causes.NoFrames) (made (take count v.free))))
+-- the lines of a call are about its enclave, and plain
+about_call : (e : Enclave) (ls : List Line) → AreCallLines e ls → AreAbout e.0 ls
+about_call e [] own = tt
+about_call e (lines.Refused cause ∷ ls) own = (tt, about_call e ls own.1)
+about_call e (lines.Alloc of p page frames ∷ ls) own = (ap (λ a. a.0) own.0, about_call e ls own.1)
+about_call e (_ ∷ ls) own = absurd own.0
 
-pub tied_alloc : (G H : Facts) (m : MachineView) (e : Enclave) (p : Pid) (page : Vpn) (count : ℕ) → IsStep G H (commands.Alloc e p page count) → IsShown G m → IsTied G H (commands.Alloc e p page count) m
-tied_alloc G H m e p page count step h = by (ltb e.0 G.born) refl
+plain_call : (e : Enclave) (ls : List Line) → AreCallLines e ls → ArePlain ls
+plain_call e [] own = tt
+plain_call e (lines.Refused cause ∷ ls) own = (tt, plain_call e ls own.1)
+plain_call e (lines.Alloc of p page frames ∷ ls) own = (tt, plain_call e ls own.1)
+plain_call e (_ ∷ ls) own = absurd own.0
+
+call_keeps : (G : Facts) (c : Command) (k : ProcessCall) → call_of c ≡ Some k → after_line G (lines.Do c) ≡ G
+call_keeps G (commands.Pool blocks) k is = cc
+call_keeps G _ k is = refl
+
+pub tied_call : (G H : Facts) (m : MachineView) (c : Command) (k : ProcessCall) → call_of c ≡ Some k → IsStep G H c → IsShown G m → IsTied G H c m
+tied_call G H m c k is step h = by (ltb e.0 G.born) refl
   where
-    c : Command
-    c = commands.Alloc e p page count
+    e : Enclave
+    e = k.enclave
 
     own : List Line
-    own = alloc_lines (view_of G e) p page count
+    own = call_lines (view_of G e) k.pid k.call
 
     rule : command_lines G c ≡ at_born G.born e own
-    rule = step.answered.alloc e p page count
+    rule = step.answered.call c k is
+
+    called : lines_by m c ≡ at_node m e (call_by m k)
+    called = rw is refl
+
+    acted_is : acted m c ≡ after_call m k
+    acted_is = rw is refl
 
     ls : lines_by m c ≡ command_lines G c
-    ls = at_is G m h e (λ v. alloc_lines v p page count) ∙ sym rule
+    ls = called ∙ at_is G m h e (λ v. call_lines v k.pid k.call) ∙ sym rule
 
     born : (b : Bool) → ltb e.0 G.born ≡ b → ltb e.0 (length m.nodes) ≡ b
     born b is = ap (ltb e.0) h.born ∙ is
 
     by : (b : Bool) → ltb e.0 G.born ≡ b → IsTied G H c m
-    by false is =
-        let refused : command_lines G c ≡ refusal causes.NoEnclave = rule ∙ rw is refl in
-        let same : acted m c ≡ m = let lives = born false is in rw lives refl in
-        tied_still G H c m step h refl same ls (subst AreStill (sym refused) (tt, tt))
-    by true is =
-        let own_is : command_lines G c ≡ own = rule ∙ rw is refl in
-        let lives = born true is in
-        let node = h.nodes e.0 (ltb-true e.0 G.born is) in
+    by false gone =
+        let refused : command_lines G c ≡ refusal causes.NoEnclave = rule ∙ rw gone refl in
+        let lives = born false gone in
+        let stays : after_call m k ≡ m = rw lives refl in
+        tied_still G H c m step h (call_keeps G c k is) (acted_is ∙ stays) ls (subst AreStill (sym refused) (tt, tt))
+    by true here =
+        let own_is : command_lines G c ≡ own = rule ∙ rw here refl in
+        let lives = born true here in
+        let node = h.nodes e.0 (ltb-true e.0 G.born here) in
         let w : MachineView = record m { nodes = slice_set m.nodes e.0 (wrote (node_at m.nodes e.0) own) } in
-        let machine : acted m c ≡ w = rw (lives, node.view) refl in
-        let about : AreAbout e.0 own = alloc_case (view_of G e) p page count (AreAbout e.0) (λ cause. (tt, tt)) (λ frames. (refl, tt)) in
-        let plain : ArePlain own = alloc_case (view_of G e) p page count ArePlain (λ cause. (tt, tt)) (λ frames. (tt, tt)) in
-        let facts : H ≡ after_lines G own = step.after ∙ ap (after_lines G) own_is in
+        let made_is : after_call m k ≡ w = rw (lives, node.view) refl in
+        let lines_are = step.laws.views.calls (view_of G e) k.pid k.call in
+        let about : AreAbout e.0 own = about_call e own lines_are in
+        let plain : ArePlain own = plain_call e own lines_are in
+        let facts : H ≡ after_lines G own = step.after ∙ ap (λ F. after_lines F (command_lines G c)) (call_keeps G c k is) ∙ ap (after_lines G) own_is in
         let none_born : H.born ≡ G.born = ap (λ F. F.born) facts ∙ (counted_lines own G plain).born in
-        let made = own_acted G H c m step h e (ltb-true e.0 G.born is) own own_is about none_born m.starts G.starts G.started G.process h.starts in
+        let made = own_acted G H c m step h e (ltb-true e.0 G.born here) own own_is about none_born m.starts G.starts G.started G.process h.starts in
         let shown = shown_by step.laws G H own w facts plain step.flowing made in
-        let after : after_command m c ≡ with_carried w own = ap (λ n. with_carried n (lines_by m c)) machine ∙ ap (with_carried w) (ls ∙ own_is) in
+        let after : after_command m c ≡ with_carried w own = ap (λ n. with_carried n (lines_by m c)) (acted_is ∙ made_is) ∙ ap (with_carried w) (ls ∙ own_is) in
         (ls, subst (IsShown H) (sym after) shown)

@@ -1,5 +1,5 @@
 -- Each step of the machine writes what the rules give, and the machine shows the facts after it.
-use Rattle.std.proofs.Common.{◌≡◌, ◌+◌, ℕ, List, [], ◌∷◌, ◌++◌, length, true, false, cond, ltb, refl, sym, ap, ◌∙◌, subst, arith}
+use Rattle.std.proofs.Common.{◌≡◌, ◌+◌, ℕ, List, [], ◌∷◌, ◌++◌, length, true, false, cond, ltb, Option, None, Some, refl, sym, ap, ◌∙◌, subst, arith}
 use Rattle.std.proofs.lemmas.Bool.{eqb-true, and_parts}
 use Rattle.xm_num.specs.declared.Kind.{Kind}
 use Rattle.xm_num.specs.declared.Kind.TheVariants as kinds
@@ -7,6 +7,9 @@ use Rattle.xm_num.specs.declared.Cause.TheVariants as causes
 use Rattle.xemem_wire.specs.Spelling.{AreValid}
 use Rattle.xemem_language.specs.declared.command.Command.{Command}
 use Rattle.xemem_language.specs.declared.command.Command.TheVariants as commands
+use Rattle.xemem_language.specs.declared.call.ProcessCall.{ProcessCall}
+use Rattle.xemem_language.specs.declared.call.NodeShow.{NodeShow}
+use Rattle.xemem_language.specs.Calls.{call_of, show_of}
 use Rattle.xemem_language.specs.declared.line.Line.{Line}
 use Rattle.xemem_language.specs.declared.line.Line.TheVariants as lines
 use Rattle.global_model.specs.Facts.{no_facts, facts_after}
@@ -23,8 +26,8 @@ use Rattle.node_world.specs.Shown.{IsShown}
 use Rattle.node_machine.specs.Ready.{IsReady, IsNoSettle, Stands, CanStep}
 use Rattle.node_world.specs.Laws.{Laws}
 use Rattle.node_world.proofs.Flows.{more-valid}
-use Rattle.node_world.proofs.Stills.{placed_before, step_of, tied_touch, tied_show_routes, tied_show_pool}
-use Rattle.node_world.proofs.Owns.{tied_proc, tied_alloc}
+use Rattle.node_world.proofs.Stills.{IsTied, placed_before, step_of, tied_touch, tied_show}
+use Rattle.node_world.proofs.Owns.{tied_proc, tied_call}
 use Rattle.node_world.proofs.Neighbours.{tied_show_link}
 use Rattle.node_world.proofs.Deliveries.{tied_deliver}
 use Rattle.node_world.proofs.Births.{at_nil, tied_pool, tied_host}
@@ -76,27 +79,38 @@ pub no_settle : (c : Command) → ((most : ℕ) → c ≡ commands.Settle most �
 no_settle (commands.Settle most) other = other most refl
 no_settle _ other = tt
 
--- what the machine writes is what the rules give, and it shows the facts after it
-pub stepped : Laws → (commands : List Command) (c : Command) (m : MachineView) → IsNoSettle c → IsPlaced (commands ++ c ∷ []) → IsShown (facts_after (journal_of commands)) m
+-- what the machine writes is what the rules give, and it shows the facts after it: for a command that is no call and shows no node
+stepped_other : Laws → (commands : List Command) (c : Command) → call_of c ≡ None → show_of c ≡ None → (m : MachineView) → IsNoSettle c → IsPlaced (commands ++ c ∷ []) → IsShown (facts_after (journal_of commands)) m
     → (lines_by m c ≡ command_lines (facts_after (journal_of commands)) c) × IsShown (facts_after (journal_of (commands ++ c ∷ []))) (after_command m c)
-stepped laws before (commands.Pool blocks) m step placed h =
+stepped_other laws before (commands.Pool blocks) no_call no_show m step placed h =
     let count = eqb-true (0 + length before) 0 (and_parts _ _ (last_stands 0 before (commands.Pool blocks) placed).0).0 in
     tied_pool _ _ m blocks (step_of laws before (commands.Pool blocks) placed) h (none_born before (omega (arith, count)))
-stepped laws before (commands.Host blocks ns) m step placed h =
+stepped_other laws before (commands.Host blocks ns) no_call no_show m step placed h =
     let count = eqb-true (0 + length before) 1 (and_parts _ _ (last_stands 0 before (commands.Host blocks ns) placed).0).0 in
     let p = pooled before (omega (arith, count)) (placed_before 0 before (commands.Host blocks ns ∷ []) placed) in
     tied_host _ _ m blocks ns (step_of laws before (commands.Host blocks ns) placed) h (ap (λ cs. (facts_after (journal_of cs)).born) p.is) (ap (λ cs. (facts_after (journal_of cs)).server) p.is)
     (subst (λ cs. command_lines (facts_after (journal_of cs)) (commands.Host blocks ns) ≡ cond (ltb (facts_after (journal_of cs)).pool blocks) (refusal causes.NoBlocks) (host_lines (first_blocks blocks) ns)) (sym p.is) (laws.views.host p.pool blocks ns))
-stepped laws before (commands.Boot kind parent blocks ns) m step placed h = tied_boot _ _ m kind parent blocks ns (step_of laws before (commands.Boot kind parent blocks ns) placed) h
-stepped laws before (commands.Proc e uid gid) m step placed h = tied_proc _ _ m e uid gid (step_of laws before (commands.Proc e uid gid) placed) h
-stepped laws before (commands.Alloc e p page count) m step placed h = tied_alloc _ _ m e p page count (step_of laws before (commands.Alloc e p page count) placed) h
-stepped laws before (commands.Touch e p addr want) m step placed h = tied_touch _ _ m e p addr want (step_of laws before (commands.Touch e p addr want) placed) h
-stepped laws before (commands.Deliver x y count) m step placed h = tied_deliver laws.wire laws.views _ _ m x y count (step_of laws before (commands.Deliver x y count) placed) h
-stepped laws before (commands.Settle most) m step placed h = absurd step
-stepped laws before (commands.ShowRoutes e) m step placed h = tied_show_routes _ _ m e (step_of laws before (commands.ShowRoutes e) placed) h
-stepped laws before (commands.ShowLink x y) m step placed h = tied_show_link _ _ m x y (step_of laws before (commands.ShowLink x y) placed) h
-stepped laws before commands.ShowPool m step placed h = tied_show_pool _ _ m (step_of laws before commands.ShowPool placed) h
-stepped laws before c m step placed h = let no : false ≡ true = (and_parts _ _ (last_stands 0 before c placed).0).1 in cc
+stepped_other laws before (commands.Boot kind parent blocks ns) no_call no_show m step placed h = tied_boot _ _ m kind parent blocks ns (step_of laws before (commands.Boot kind parent blocks ns) placed) h
+stepped_other laws before (commands.Proc e uid gid) no_call no_show m step placed h = tied_proc _ _ m e uid gid (step_of laws before (commands.Proc e uid gid) placed) h
+stepped_other laws before (commands.Touch e p addr want) no_call no_show m step placed h = tied_touch _ _ m e p addr want (step_of laws before (commands.Touch e p addr want) placed) h
+stepped_other laws before (commands.Deliver x y count) no_call no_show m step placed h = tied_deliver laws.wire laws.views _ _ m x y count (step_of laws before (commands.Deliver x y count) placed) h
+stepped_other laws before (commands.Settle most) no_call no_show m step placed h = absurd step
+stepped_other laws before (commands.ShowLink x y) no_call no_show m step placed h = tied_show_link _ _ m x y (step_of laws before (commands.ShowLink x y) placed) h
+stepped_other laws before (commands.Alloc e p page count) no_call no_show m step placed h = cc
+stepped_other laws before (commands.ShowRoutes e) no_call no_show m step placed h = cc
+stepped_other laws before commands.ShowPool no_call no_show m step placed h = cc
+stepped_other laws before c no_call no_show m step placed h = let no : false ≡ true = (and_parts _ _ (last_stands 0 before c placed).0).1 in cc
+
+-- and for any command
+pub stepped : Laws → (commands : List Command) (c : Command) (m : MachineView) → IsNoSettle c → IsPlaced (commands ++ c ∷ []) → IsShown (facts_after (journal_of commands)) m
+    → (lines_by m c ≡ command_lines (facts_after (journal_of commands)) c) × IsShown (facts_after (journal_of (commands ++ c ∷ []))) (after_command m c)
+stepped laws before c m step placed h = by (call_of c) refl (show_of c) refl
+  where
+    by : (call : Option ProcessCall) → call_of c ≡ call → (show : Option NodeShow) → show_of c ≡ show
+        → IsTied (facts_after (journal_of before)) (facts_after (journal_of (before ++ c ∷ []))) c m
+    by (Some k) is show shown = tied_call _ _ m c k is (step_of laws before c placed) h
+    by None no_call (Some s) shown = tied_show _ _ m c s shown (step_of laws before c placed) h
+    by None no_call None no_show = stepped_other laws before c no_call no_show m step placed h
 
 -- so it may take the step
 pub ready : Laws → (commands : List Command) (m : MachineView) → IsPlaced commands → IsShown (facts_after (journal_of commands)) m → IsReady m

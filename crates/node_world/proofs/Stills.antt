@@ -11,6 +11,9 @@ use Rattle.xm_num.specs.declared.Cause.{Cause}
 use Rattle.xm_num.specs.declared.Cause.TheVariants as causes
 use Rattle.xemem_language.specs.declared.command.Command.{Command}
 use Rattle.xemem_language.specs.declared.command.Command.TheVariants as commands
+use Rattle.xemem_language.specs.declared.call.NodeShow.{NodeShow}
+use Rattle.xemem_language.specs.Calls.{call_of, show_of}
+use Rattle.enclave_rules.specs.Calls.{show_lines, AreShowLines}
 use Rattle.xemem_language.specs.declared.line.Line.{Line}
 use Rattle.xemem_language.specs.declared.line.Line.TheVariants as lines
 use Rattle.global_model.specs.Facts.{Facts, facts_after, after_line, after_lines}
@@ -23,7 +26,7 @@ use Rattle.global_model.specs.Known.{IsAnswered, at_born}
 use Rattle.global_model.specs.Due.{command_lines, step_lines, journal_of}
 use Rattle.global_model.specs.Place.{IsPlaced, IsPlacedAfter}
 use Rattle.node_machine.specs.declared.pair.Pair.{Pair}
-use Rattle.node_machine.specs.Machine.{MachineView, node_at, at_node, lines_by, acted, carried, with_carried, after_command}
+use Rattle.node_machine.specs.Machine.{MachineView, node_at, at_node, lines_by, acted, carried, with_carried, after_command, node_shown}
 use Rattle.node_machine.specs.Machine.{enclave}
 use Rattle.node_world.specs.Shown.{IsShown}
 use Rattle.node_world.specs.Laws.{Laws}
@@ -132,43 +135,44 @@ tied_touch G H m e p addr want step h =
     tied_still G H (commands.Touch e p addr want) m step h refl refl (at_is G m h e (λ v. answer_lines e p (touch_answer v p addr want)) ∙ sym rule)
     (subst AreStill (sym rule) (cond_case (ltb e.0 G.born) _ (refusal causes.NoEnclave) AreStill (still_answer e p (touch_answer (view_of G e) p addr want)) (tt, tt)))
 
-still_append : (ls ms : List Line) → AreStill ls → AreStill ms → AreStill (ls ++ ms)
-still_append [] ms first more = more
-still_append (line ∷ ls) ms first more = (first.0, still_append ls ms first.1 more)
+-- ---- what is shown of a node
 
-still_state : (b : ℕ) (s : BlockFact) → AreStill (state_line b s)
-still_state b Absent = tt
-still_state b Free = (tt, tt)
-still_state b (Lent e) = (tt, tt)
-still_state b (Held e) = (tt, tt)
+-- lines that show something are still
+pub still_shown : (ls : List Line) → AreShowLines ls → AreStill ls
+still_shown [] shown = tt
+still_shown (lines.AtWay e over ∷ ls) shown = (tt, still_shown ls shown.1)
+still_shown (lines.AtWayOwn e ∷ ls) shown = (tt, still_shown ls shown.1)
+still_shown (lines.AtWayNone e ∷ ls) shown = (tt, still_shown ls shown.1)
+still_shown (lines.AtRoute e of over ∷ ls) shown = (tt, still_shown ls shown.1)
+still_shown (lines.BlockFree b ∷ ls) shown = (tt, still_shown ls shown.1)
+still_shown (lines.BlockLent b e ∷ ls) shown = (tt, still_shown ls shown.1)
+still_shown (lines.BlockHeld b e ∷ ls) shown = (tt, still_shown ls shown.1)
+still_shown (_ ∷ ls) shown = absurd shown.0
 
-pub still_states : (b : ℕ) (ss : List BlockFact) → AreStill (state_lines b ss)
-still_states b [] = tt
-still_states b (s ∷ ss) = still_append (state_line b s) (state_lines (b + 1) ss) (still_state b s) (still_states (b + 1) ss)
+-- a command that shows a node is no call, and changes neither the facts nor the machine
+pub show_no_call : (c : Command) (s : NodeShow) → show_of c ≡ Some s → call_of c ≡ None
+show_no_call (commands.Alloc e p at pages) s is = cc
+show_no_call _ s is = refl
 
-pub tied_show_pool : (G H : Facts) (m : MachineView) → IsStep G H commands.ShowPool → IsShown G m → IsTied G H commands.ShowPool m
-tied_show_pool G H m step h =
-    let rule = step.answered.pool in
-    tied_still G H commands.ShowPool m step h refl refl (at_is G m h host (λ v. state_lines 0 v.host.states) ∙ sym rule)
-    (subst AreStill (sym rule) (cond_case (ltb 0 G.born) _ (refusal causes.NoEnclave) AreStill (still_states 0 (view_of G host).host.states) (tt, tt)))
+show_keeps : (G : Facts) (c : Command) (s : NodeShow) → show_of c ≡ Some s → after_line G (lines.Do c) ≡ G
+show_keeps G (commands.Pool blocks) s is = cc
+show_keeps G _ s is = refl
 
-still_way : (v : View) → IsStill (way_line v)
-still_way v = by v.holder v.way
-  where
-    by : (holder : Bool) (way : Option Enclave) → IsStill (cond holder (lines.AtWayOwn v.me) (option_map_or (λ over. lines.AtWay v.me over) way (lines.AtWayNone v.me)))
-    by true way = tt
-    by false None = tt
-    by false (Some over) = tt
+pub show_stays : (m : MachineView) (c : Command) (s : NodeShow) → show_of c ≡ Some s → acted m c ≡ m
+show_stays m (commands.ShowRoutes e) s is = refl
+show_stays m commands.ShowPool s is = refl
+show_stays m _ s is = cc
 
-still_rows : (e : Enclave) (rows : List (ℕ × Enclave)) → AreStill (map (λ row. lines.AtRoute e (record { 0 = row.0 }) row.1) rows)
-still_rows e [] = tt
-still_rows e (row ∷ rows) = (tt, still_rows e rows)
+pub shown_lines : (m : MachineView) (c : Command) (s : NodeShow) → show_of c ≡ Some s → lines_by m c ≡ at_node m s.enclave (node_shown m s)
+shown_lines m c s is = rw (show_no_call c s is, is) refl
 
-pub tied_show_routes : (G H : Facts) (m : MachineView) (e : Enclave) → IsStep G H (commands.ShowRoutes e) → IsShown G m → IsTied G H (commands.ShowRoutes e) m
-tied_show_routes G H m e step h =
-    let rule = step.answered.routes e in
-    tied_still G H (commands.ShowRoutes e) m step h refl refl (at_is G m h e route_lines ∙ sym rule)
-    (subst AreStill (sym rule) (cond_case (ltb e.0 G.born) _ (refusal causes.NoEnclave) AreStill (still_way (view_of G e), still_rows e (view_of G e).routes) (tt, tt)))
+pub tied_show : (G H : Facts) (m : MachineView) (c : Command) (s : NodeShow) → show_of c ≡ Some s → IsStep G H c → IsShown G m → IsTied G H c m
+tied_show G H m c s is step h =
+    let rule = step.answered.show c s is in
+    let still = still_shown (show_lines (view_of G s.enclave) s.show) (step.laws.views.shows (view_of G s.enclave) s.show) in
+    tied_still G H c m step h (show_keeps G c s is) (show_stays m c s is)
+    (shown_lines m c s is ∙ at_is G m h s.enclave (λ v. show_lines v s.show) ∙ sym rule)
+    (subst AreStill (sym rule) (cond_case (ltb s.enclave.0 G.born) _ (refusal causes.NoEnclave) AreStill still (tt, tt)))
 
 pub still_bytes : (x y : Enclave) (most at : ℕ) (bytes : List ℕ) → AreStill (bytes_lines x y most at bytes)
 still_bytes x y zero at bytes = tt

@@ -1,9 +1,11 @@
 -- How many words the lines have that a node appended, by the journal.
-use Rattle.std.specs.Prelude.{◌+◌, ℕ, List, [], ◌∷◌, length, Bool, true, false, not, ◌&&◌, ◌==◌, if◌then◌else◌, Option, Some}
+use Rattle.std.specs.Prelude.{◌+◌, ℕ, List, [], ◌∷◌, length, Bool, true, false, not, ◌&&◌, ◌==◌, if◌then◌else◌, Option, Some, None}
+use Rattle.std.specs.Option.{option_map_or}
 use Rattle.xm_num.specs.declared.Cause.{Cause}
 use Rattle.xm_num.specs.declared.Cause.TheVariants as causes
 use Rattle.xemem_language.specs.declared.command.Command.{Command}
-use Rattle.xemem_language.specs.declared.command.Command.TheVariants as commands
+use Rattle.xemem_language.specs.declared.call.ProcessCall.{ProcessCall}
+use Rattle.xemem_language.specs.Calls.{call_of}
 use Rattle.xemem_language.specs.declared.line.Line.{Line}
 use Rattle.xemem_language.specs.declared.line.Line.TheVariants as lines
 use Rattle.xemem_language.specs.Spelling.{line_words}
@@ -14,10 +16,14 @@ abbrev pub is_unborn : Cause → Bool
 is_unborn causes.NoEnclave = true
 is_unborn cause = false
 
--- the command at hand is an `alloc` that the enclave's node refuses for this cause; no other refusal is a node's
+-- the enclave's node refuses the command's call for this cause
+abbrev pub refuses_call : ℕ → Cause → ProcessCall → Bool
+refuses_call e cause k = not (is_unborn cause) && (k.enclave.0 == e)
+
+-- the command at hand is a call that the enclave's node refuses for this cause; no other refusal is a node's
 abbrev pub refuses : ℕ → Option Command → Cause → Bool
-refuses e (Some (commands.Alloc of p page count)) cause = not (is_unborn cause) && (of.0 == e)
-refuses e command cause = false
+refuses e None cause = false
+refuses e (Some command) cause = option_map_or (refuses_call e cause) (call_of command) false
 
 -- the enclave's node appended this line behind a past, the newest line first
 abbrev pub is_by : ℕ → List Line → Line → Bool

@@ -3,6 +3,9 @@ use Rattle.std.specs.Prelude.{◌≡◌, ◌≢◌, ◌+◌, ◌<◌, ◌≤◌,
 use Rattle.std.specs.List.{concat}
 use Rattle.std.specs.Option.{option_map}
 use Rattle.xm_num.specs.declared.Enclave.{Enclave}
+use Rattle.xm_num.specs.declared.Pid.{Pid}
+use Rattle.xemem_language.specs.declared.call.Call.{Call}
+use Rattle.xemem_language.specs.declared.call.Show.{Show}
 use Rattle.xm_num.specs.declared.Cause.TheVariants as causes
 use Rattle.xm_num.specs.Rows.{at, put}
 use Rattle.byte_link.specs.Channel.{Channel, waiting_bytes, sent, taken}
@@ -17,6 +20,7 @@ use Rattle.xemem_language.specs.declared.line.Line.{Line}
 use Rattle.global_model.specs.Facts.{Facts, facts_after, after_lines, is_living_enclave}
 use Rattle.enclave_rules.specs.View.{View, own_lines, seen_lines, unborn_view, AreOf}
 use Rattle.global_model.specs.Views.{view_of}
+use Rattle.enclave_rules.specs.Calls.{call_lines, show_lines, AreCallLines, AreShowLines}
 use Rattle.enclave_rules.specs.Steps.{refusal, host_lines, first_blocks, lines_of_records}
 use Rattle.global_model.specs.Known.{IsAnswered}
 use Rattle.global_model.specs.Due.{got_lines, deliver_lines, next_rest, first_waiting, command_lines, journal_of, step_lines}
@@ -38,6 +42,8 @@ pub record WireLaws : Type 0 where
 
 -- what an enclave writes and keeps follows from its view
 pub record ViewLaws : Type 0 where
+  pub calls : (v : View) (p : Pid) (call : Call) → AreCallLines v.me (call_lines v p call)
+  pub shows : (v : View) (show : Show) → AreShowLines (show_lines v show)
   pub at : (v : View) (x : Enclave) (rs : List Record) → AreOf v.me (lines_of_records v x rs)
   pub records : (G : Facts) (x y : Enclave) (rs : List Record) → is_living_enclave (G.enclave y.0) ≡ true → got_lines G x y rs ≡ lines_of_records (view_of G y) x rs
   pub own : (v : View) (x : Enclave) (rs : List Record) → seen_lines v (lines_of_records v x rs) ≡ own_lines v (lines_of_records v x rs)

@@ -2,6 +2,7 @@
 ghost use Rattle.node_world.specs.Laws.{Laws};
 
 use byte_link::{bytes_follow_calls, pieces_follow_calls};
+use enclave_rules::calls_write_own_lines;
 use global_model::{
     journals_are_carried, journals_grow, settles_deliver, view_step, views_answer, views_follow,
 };
@@ -16,6 +17,7 @@ pub fn laws()
 {
     journals_grow();
     journals_are_carried();
+    calls_write_own_lines();
     view_step();
     views_answer();
     views_follow();
