@@ -1,4 +1,5 @@
 pub mod Follow
+pub mod Fronts
 pub mod Heard
 pub mod Legal
 pub mod Told
