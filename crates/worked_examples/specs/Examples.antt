@@ -1,10 +1,9 @@
 -- Worked scenarios, by which the definitions are compared with what was wanted of them.
-use Rattle.std.specs.Prelude.{◌≡◌, ◌+◌, ◌==◌, ◌++◌, ℕ, Bool, List, [], ◌∷◌, map, Option, Some, codes}
+use Rattle.std.specs.Prelude.{◌≡◌, ◌++◌, ℕ, Bool, true, false, List, [], ◌∷◌, map, Option, Some, codes}
 use Rattle.std.specs.List.{flat_map, range_with_len}
 use Rattle.xm_num.specs.declared.Kind.TheVariants as kinds
 use Rattle.xemem_language.specs.declared.command.Command.{Command}
 use Rattle.xemem_language.specs.declared.command.Command.TheVariants as commands
-use Rattle.xemem_language.specs.declared.line.Line.TheVariants as lines
 use Rattle.enclave_rules.specs.Built.{is_built}
 use Rattle.enclave_rules.specs.View.{host}
 use Rattle.scenario_text.specs.Scenario.{Ending, Stop, scenario_by}
@@ -201,12 +200,12 @@ refused_calls_journal =
     ∷ codes "do touch 0 2 81920 w" ∷ codes "refused NotMapped" ∷ codes "do touch 0 1 81920 w"
     ∷ codes "touched 0 1 20 0" ∷ []
 
--- the facts after so many births under the host, which holds the name server, and so many processes that it started
+-- the facts after the journal of so many boots under the host, which holds the name server, and so many processes of it
 abbrev pub crowd : ℕ → ℕ → Facts
-crowd births starts =
-    facts_after (lines.Do (commands.Pool 300)
-    ∷ map (λ e. lines.Born (record { 0 = e }) kinds.Cokernel host (e == 0) (record { 0 = e } ∷ [])) (range_with_len 0 births)
-    ++ map (λ p. lines.Proc host (record { 0 = p + 1 }) 1 1) (range_with_len 0 starts))
+crowd boots starts =
+    facts_after (journal_of (commands.Pool 300 ∷ commands.Host 1 true
+    ∷ map (λ e. commands.Boot kinds.Cokernel host 1 false) (range_with_len 0 boots)
+    ++ map (λ p. commands.Proc host 1 1) (range_with_len 0 starts)))
 
 -- a boot under that enclave
 abbrev pub boot_under : ℕ → ℕ → Bool → Command

@@ -34,13 +34,13 @@ pub fn worked_examples()
 /// An enclave behind 256, and a process behind 1,024, are refused as too many, whatever other condition holds but that the
 /// enclave doesn't live.
 pub fn crowds_are_refused()
-    ensures last { refusal_of (crowd 255 0) (boot_under 0 45 false) ≡ None }
-    ensures no_blocks { refusal_of (crowd 255 0) (boot_under 0 46 false) ≡ Some causes.NoBlocks }
-    ensures full { refusal_of (crowd 256 0) (boot_under 0 1 false) ≡ Some causes.TooMany }
-    ensures full_with_server { refusal_of (crowd 256 0) (boot_under 0 1 true) ≡ Some causes.TooMany }
-    ensures full_without_blocks { refusal_of (crowd 256 0) (boot_under 255 45 false) ≡ Some causes.TooMany }
-    ensures full_elsewhere { refusal_of (crowd 256 0) (boot_under 256 1 false) ≡ Some causes.NoEnclave }
-    ensures last_start { refusal_of (crowd 1 1023) (start_at 0) ≡ None }
-    ensures all_started { refusal_of (crowd 1 1024) (start_at 0) ≡ Some causes.TooMany }
-    ensures started_elsewhere { refusal_of (crowd 1 1024) (start_at 1) ≡ Some causes.NoEnclave }
+    ensures last { refusal_of (crowd 254 0) (boot_under 0 45 false) ≡ None }
+    ensures no_blocks { refusal_of (crowd 254 0) (boot_under 0 46 false) ≡ Some causes.NoBlocks }
+    ensures full { refusal_of (crowd 255 0) (boot_under 0 1 false) ≡ Some causes.TooMany }
+    ensures full_with_server { refusal_of (crowd 255 0) (boot_under 0 1 true) ≡ Some causes.TooMany }
+    ensures full_without_blocks { refusal_of (crowd 255 0) (boot_under 255 45 false) ≡ Some causes.TooMany }
+    ensures full_elsewhere { refusal_of (crowd 255 0) (boot_under 256 1 false) ≡ Some causes.NoEnclave }
+    ensures last_start { refusal_of (crowd 0 1023) (start_at 0) ≡ None }
+    ensures all_started { refusal_of (crowd 0 1024) (start_at 0) ≡ Some causes.TooMany }
+    ensures started_elsewhere { refusal_of (crowd 0 1024) (start_at 1) ≡ Some causes.NoEnclave }
 {}
