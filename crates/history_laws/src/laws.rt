@@ -66,6 +66,14 @@ pub fn fronts_are_histories()
     ensures { (journal rest : List JournalLine) → IsHistory (journal ++ rest) → IsHistory journal }
 {}
 
+/// What is told is a lawful history, where its commands stand where they may.
+pub fn told_are_histories()
+    ensures { (journal : List JournalLine) → IsTold journal → IsPlaced (do_commands journal) → IsHistory journal }
+{
+    laws();
+    journals_are_histories();
+}
+
 /// Each line of a journal has a spelling.
 pub fn journals_are_spelled()
     ensures { (commands : List Commands) → IsPlaced commands → All IsSpelled (journal_of commands) }

@@ -7,5 +7,5 @@ mod laws;
 
 pub use laws::{
     fronts_are_histories, journals_are_histories, journals_are_legal, journals_are_spelled,
-    one_journal, pasts_are_counted, ways_are_heard,
+    one_journal, pasts_are_counted, told_are_histories, ways_are_heard,
 };
