@@ -10,7 +10,7 @@ ghost use Rattle.global_model.specs.Due.{journal_of};
 ghost use Rattle.global_model.specs.Journals.{do_commands};
 ghost use Rattle.history_laws.specs.History.{IsHistory, IsLegal, IsTold, IsWhole};
 ghost use Rattle.history_laws.specs.Ways.{way_heard, back_heard, route_heard};
-ghost use Rattle.history_laws.specs.Counts.{births_in, starts_in, starts_by, has_server};
+ghost use Rattle.history_laws.specs.Counts.{IsLimited, births_in, starts_in, starts_by, has_server};
 ghost use Rattle.history_laws.specs.Laws.{Laws};
 
 use global_model::{
@@ -90,10 +90,13 @@ pub fn ways_are_heard()
     laws();
 }
 
-/// How many enclaves were born and processes started, and whether the name server is held, is what the lines of the past say.
+/// How many enclaves were born and processes started, and whether the name server is held, is what the lines of the past say. Where a
+/// journal is legal, a boot or a start is refused as one too many, and a boot as a second holder's, only where they say so, and
+/// is carried out only where they don't.
 pub fn pasts_are_counted()
     ensures births { (past : List JournalLine) → (facts_at past).born ≡ births_in past }
     ensures starts { (past : List JournalLine) → (facts_at past).starts ≡ starts_in past }
     ensures started { (e : ℕ) (past : List JournalLine) → (facts_at past).started e ≡ starts_by e past }
     ensures server { (past : List JournalLine) → (facts_at past).server ≡ has_server past }
+    ensures refusals { (journal : List JournalLine) → IsLegal journal → IsLimited journal }
 {}
