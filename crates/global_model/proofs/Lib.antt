@@ -12,6 +12,7 @@ pub mod Waiting
 pub mod Deliveries
 pub mod Carried
 pub mod Settles
+pub mod Rests
 pub mod Runs
 pub mod Kept
 pub mod Shown

@@ -24,7 +24,8 @@ use Rattle.global_model.specs.Rest.{IsAtRest, EndsSettle}
 use Rattle.global_model.proofs.Pasts.{after_lines-append, facts_at-onto, facts_by-more}
 use Rattle.global_model.proofs.Tree.{near-turned, near_born}
 use Rattle.global_model.proofs.Ways.{AllName}
-use Rattle.global_model.proofs.Writes.{EachIs, each-append, writes_record}
+use Rattle.global_model.proofs.Writes.{EachIs, each-append, each_either, writes_record}
+use Rattle.global_model.proofs.Plain.{each-weaker}
 use Rattle.global_model.proofs.Arriving.{IsSound, sound_arriving, arriving_sound}
 use Rattle.global_model.proofs.Waiting.{IsWaiting, first_waits, first_some, rest_waits, none_rests, rests_none}
 use Rattle.global_model.proofs.Deliveries.{settle_at, settle_up_to}
@@ -32,30 +33,36 @@ use Rattle.global_model.proofs.Carried.{journal_of-sound, journal_of-counted}
 
 -- ---- how many deliveries lines tell
 
-deliveries-append : (ls ms : List Line) → deliveries_in (ls ++ ms) ≡ deliveries_in ls + deliveries_in ms
+pub deliveries-append : (ls ms : List Line) → deliveries_in (ls ++ ms) ≡ deliveries_in ls + deliveries_in ms
 deliveries-append ls ms = ap length (filter-append is_delivery ls ms) ∙ length-append (filter is_delivery ls) (filter is_delivery ms)
 
--- the line is no delivery
+-- the line neither begins a command nor ends a settle
+abbrev pub IsInner : Line → Type 0
+IsInner (lines.Do command) = ⊥
+IsInner (lines.Settled made) = ⊥
+IsInner (lines.Waiting made) = ⊥
+IsInner line = Unit {0}
+
+-- nor is it a delivery
 abbrev IsOther : Line → Type 0
-IsOther line = is_delivery line ≡ false
+IsOther line = (is_delivery line ≡ false) × IsInner line
 
 no_deliveries : (ls : List Line) → EachIs IsOther ls → deliveries_in ls ≡ 0
 no_deliveries [] each = refl
-no_deliveries (l ∷ ls) each = rw (each.0) (no_deliveries ls each.1)
+no_deliveries (l ∷ ls) each = rw (each.0.0) (no_deliveries ls each.1)
 
 others_record : (v : View) (from : Enclave) (r : Record) → EachIs IsOther (record_lines v from r)
 others_record v from r =
     let all : (rows : List (ℕ × Enclave)) → AllName (λ x. Unit {0}) rows = λ rows k d lt. tt in
     writes_record IsOther (λ x. Unit {0}) (λ r. Unit {0}) v
     (record {
-      dropped = refl;
-      admitted = refl;
-      asked = λ x near. refl;
-      way = λ x near. refl;
-      back = λ d x near. refl;
-      route
-          = λ d x near. refl;
-      sent = λ x r near good. refl;
+      dropped = (refl, tt);
+      admitted = (refl, tt);
+      asked = λ x near. (refl, tt);
+      way = λ x near. (refl, tt);
+      back = λ d x near. (refl, tt);
+      route = λ d x near. (refl, tt);
+      sent = λ x r near good. (refl, tt);
     })
     from r (record { way = λ x is. tt; askers = all v.askers; backs = all v.backs }) tt
     (record { here = tt; register = tt; admit = tt; passed = tt })
@@ -64,7 +71,7 @@ others_got : (G : Facts) (x y : Enclave) (rs : List Record) → EachIs IsOther (
 others_got G x y [] = tt
 others_got G x y (r ∷ rs) =
     let own = lines.Got x y ∷ record_lines (view_of G y) x r in
-    each-append IsOther own (got_lines (after_lines G own) x y rs) (refl, others_record (view_of G y) x r)
+    each-append IsOther own (got_lines (after_lines G own) x y rs) ((refl, tt), others_record (view_of G y) x r)
     (others_got (after_lines G own) x y rs)
 
 -- a delivery of what waits is one
@@ -77,22 +84,32 @@ one_delivery G x y count some =
     let H = after_line G (lines.Took x y n) in
     rw more (ap suc (no_deliveries (got_lines H x y (arriving (H.channel x.0 y.0))) (others_got H x y (arriving (H.channel x.0 y.0)))))
 
+-- the lines of a delivery are inner ones
+pub inner_deliver : (G : Facts) (x y : Enclave) (count : ℕ) → EachIs IsInner (deliver_lines G x y count)
+inner_deliver G x y count =
+    let n = min count (length (waiting_bytes G x.0 y.0)) in
+    let H = after_line G (lines.Took x y n) in
+    let rs = arriving (H.channel x.0 y.0) in
+    each_either IsInner (eqb (length (waiting_bytes G x.0 y.0)) 0) (lines.Idle x y ∷ []) (lines.Took x y n ∷ got_lines H x y rs) (tt, tt)
+    (tt, each-weaker IsOther IsInner (λ line other. other.1) (got_lines H x y rs) (others_got H x y rs))
+
 -- ---- how a settle ends
 
 -- the lines before the last one make deliveries, as many as are left where something still waits
-record IsSettled (left made : ℕ) (G : Facts) : Type 0 where
-  before : List Line
-  is : settle_from left made G ≡ before ++ settle_end (after_lines G before) (made + deliveries_in before) ∷ []
-  few : deliveries_in before ≤ left
-  all : is_some (first_waiting (after_lines G before)) ≡ true → deliveries_in before ≡ left
+pub record IsSettled (left made : ℕ) (G : Facts) : Type 0 where
+  pub before : List Line
+  pub is : settle_from left made G ≡ before ++ settle_end (after_lines G before) (made + deliveries_in before) ∷ []
+  pub inner : EachIs IsInner before
+  pub few : deliveries_in before ≤ left
+  pub all : is_some (first_waiting (after_lines G before)) ≡ true → deliveries_in before ≡ left
 
 settled_here : (left made : ℕ) (G : Facts) → settle_from left made G ≡ settle_end G made ∷ []
     → (is_some (first_waiting G) ≡ true → 0 ≡ left) → IsSettled left made G
 settled_here left made G is all =
     let same : made ≡ made + 0 = omega arith in
-    record { before = []; is = is ∙ ap (λ n. settle_end G n ∷ []) same; few = omega arith; all = all }
+    record { before = []; is = is ∙ ap (λ n. settle_end G n ∷ []) same; inner = tt; few = omega arith; all = all }
 
-settled_by : (left made : ℕ) (G : Facts) → IsSettled left made G
+pub settled_by : (left made : ℕ) (G : Facts) → IsSettled left made G
 settled_by zero made G = settled_here zero made G refl (λ some. refl)
 settled_by (suc left) made G = by (first_waiting G) refl (settled_by left (made + 1))
   where
@@ -117,6 +134,8 @@ settled_by (suc left) made G = by (first_waiting G) refl (settled_by left (made 
           is = ap (settle_at left made G) is ∙ ap (λ ls. own ++ ls) more.is ∙ sym
               (append_assoc own more.before (settle_end (after_lines H more.before) (made + 1 + deliveries_in more.before) ∷ [])) ∙ ap
               (λ line. before ++ line ∷ []) end;
+          inner = each-append IsInner own more.before
+              (inner_deliver G channel.0 channel.1 (next_rest G channel.0 channel.1)) more.inner;
           few = omega (arith, count, more.few);
           all = λ some. let left_is : deliveries_in more.before ≡ left = more.all
               (ap (λ K. is_some (first_waiting K)) facts ∙ some) in omega (arith, count, left_is);
@@ -131,10 +150,17 @@ after_end G made = by (is_some (first_waiting G))
     by false = refl
 
 -- the facts after a settle, from those before
-abbrev settled_facts : ℕ → Facts → Facts
+abbrev pub settled_facts : ℕ → Facts → Facts
 settled_facts most G = after_lines G (step_lines G (commands.Settle most))
 
-settle_flows : (past : List Line) (most : ℕ) → IsSound (facts_at past) → IsFlowing (settled_facts most (facts_at past))
+-- are those before its last line
+pub settled_before : (G : Facts) (most : ℕ) (settled : IsSettled most 0 G) → settled_facts most G ≡ after_lines G settled.before
+settled_before G most settled =
+    let end = settle_end (after_lines G settled.before) (0 + deliveries_in settled.before) in
+    ap (after_lines G) settled.is ∙ after_lines-append G settled.before (end ∷ [])
+    ∙ after_end (after_lines G settled.before) (0 + deliveries_in settled.before)
+
+pub settle_flows : (past : List Line) (most : ℕ) → IsSound (facts_at past) → IsFlowing (settled_facts most (facts_at past))
 settle_flows past most sound =
     let G = facts_at past in
     let up = settle_up_to (is_neighbour G) most 0 past (sound_arriving 0 0 G sound) in
@@ -148,8 +174,7 @@ ends_settle G most flowing =
     let H = after_lines G settled.before in
     let made = deliveries_in settled.before in
     let number : 0 + made ≡ made = omega arith in
-    let after : settled_facts most G ≡ H
-    = ap (after_lines G) settled.is ∙ after_lines-append G settled.before (settle_end H (0 + made) ∷ []) ∙ after_end H (0 + made) in
+    let after : settled_facts most G ≡ H = settled_before G most settled in
     record {
       before = settled.before;
       end = settle_end H made;
@@ -204,7 +229,7 @@ journal_of-delivers cs x y placed is =
     ap (λ o. option_map_or (λ cause. lines.Refused cause ∷ []) o (deliver_lines G x y (next_rest G x y)))
     (not_refused G x y (next_rest G x y) found.living born found.near)
 
-placed_after : (cs : List Command) (before : ℕ) (c : Command) → IsPlacedAfter before cs → may_stand (before + length cs) c ≡ true
+pub placed_after : (cs : List Command) (before : ℕ) (c : Command) → IsPlacedAfter before cs → may_stand (before + length cs) c ≡ true
     → IsInRange c → IsPlacedAfter before (cs ++ c ∷ [])
 placed_after [] before c placed may range = let same : before + 0 ≡ before = omega arith in
     (ap (λ n. may_stand n c) (sym same) ∙ may, range, tt)

@@ -21,7 +21,7 @@ ghost use Rattle.global_model.specs.Plain.{ArePlain, AreActs, IsQuiet, IsBirth};
 ghost use Rattle.global_model.specs.Flow.{IsFlowing};
 ghost use Rattle.global_model.specs.Journals.{do_commands, onto};
 ghost use Rattle.global_model.specs.Carriage.{IsCarried};
-ghost use Rattle.global_model.specs.Rest.{EndsSettle};
+ghost use Rattle.global_model.specs.Rest.{EndsSettle, IsRested};
 
 use xm_num::Page;
 use xm_num::laws::rows;
@@ -122,4 +122,10 @@ pub fn settles_deliver()
     ensures ends { (commands : List Commands) (most : ℕ) → IsPlaced commands
         → EndsSettle most (command_lines (facts_after (journal_of commands)) (command.Settle most))
         (facts_after (journal_of (commands ++ command.Settle most ∷ []))) }
+{}
+
+/// Along the journal of commands, each of which may stand after those before it, a settle says `settled` where nothing waits, and
+/// `waiting` where something does and all its deliveries were made; both with the deliveries that it made.
+pub fn journals_are_rested()
+    ensures { (commands : List Commands) → IsPlaced commands → IsRested (journal_of commands) }
 {}

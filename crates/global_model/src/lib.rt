@@ -7,8 +7,9 @@
 mod laws;
 
 pub use laws::{
-    acts_are_plain, journals_are_carried, journals_grow, pasts_grow, refusals_come_first,
-    settles_deliver, view_step, views_answer, views_follow, whole_records_stay,
+    acts_are_plain, journals_are_carried, journals_are_rested, journals_grow, pasts_grow,
+    refusals_come_first, settles_deliver, view_step, views_answer, views_follow,
+    whole_records_stay,
 };
 pub use xemem_language::{
     Body, ByteList, Call, Command, Line, Lines, Record, Show, word_count, words,

@@ -183,8 +183,12 @@ so_far-nil : IsSoFar []
 unfolding IsSoFar
 so_far-nil = sym rest_of-nil
 
-pub only_journal : Laws → (journal : List Line) → IsTold journal → IsWhole journal → journal ≡ journal_of (do_commands journal)
+-- what is told is a front of the journal of its commands
+pub told_front : Laws → (journal : List Line) → IsTold journal → journal_of (do_commands journal) ≡ journal ++ rest_of (onto journal [])
 unfolding IsSoFar
+told_front laws journal told = so_far-journal laws journal [] told so_far-nil
+
+pub only_journal : Laws → (journal : List Line) → IsTold journal → IsWhole journal → journal ≡ journal_of (do_commands journal)
 only_journal laws journal told whole =
     let none : rest_of (onto journal []) ≡ [] = first_none _ (sym (due_line-first (onto journal [])) ∙ whole) in
-    sym (so_far-journal laws journal [] told so_far-nil ∙ ap (λ ls. journal ++ ls) none ∙ append-nil journal)
+    sym (told_front laws journal told ∙ ap (λ ls. journal ++ ls) none ∙ append-nil journal)

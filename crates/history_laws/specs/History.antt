@@ -1,10 +1,11 @@
--- Journals as histories: legal, told and whole.
+-- Journals as histories: legal, carried, told, rested and whole.
 use Rattle.std.specs.Prelude.{◌≡◌, List, [], None, Some}
 use Rattle.xemem_language.specs.declared.line.Line.{Line}
 use Rattle.xemem_language.specs.declared.line.Line.TheVariants as lines
 use Rattle.global_model.specs.Carriage.{IsCarried}
 use Rattle.global_model.specs.Due.{due_line}
 use Rattle.global_model.specs.Journals.{Follows, onto}
+use Rattle.global_model.specs.Rest.{IsRested}
 use Rattle.history_laws.specs.Lawful.{IsLegalAt}
 
 -- told: a `do` line stands where nothing is due, and every other line is the one that is due
@@ -27,3 +28,4 @@ pub record IsHistory (journal : List Line) : Type 0 where
   pub legal : IsLegal journal
   pub carried : IsCarried journal
   pub told : IsTold journal
+  pub rested : IsRested journal

@@ -1,4 +1,5 @@
 pub mod Lawful
 pub mod History
 pub mod Ways
+pub mod Counts
 pub mod Laws

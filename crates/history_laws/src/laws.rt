@@ -1,5 +1,5 @@
 // Laws of histories: each is the contract of a function that does nothing, which a crate above calls to have it.
-ghost use Rattle.std.specs.Prelude.{◌≡◌, ℕ, List, All};
+ghost use Rattle.std.specs.Prelude.{◌≡◌, ◌++◌, ℕ, List, All};
 ghost use Rattle.xm_num.specs.Rows.{at};
 ghost use Rattle.xemem_language.specs.declared.command.Command.{Command as Commands};
 ghost use Rattle.xemem_language.specs.declared.line.Line.{Line as JournalLine};
@@ -8,12 +8,14 @@ ghost use Rattle.global_model.specs.Place.{IsPlaced};
 ghost use Rattle.global_model.specs.Facts.{facts_at};
 ghost use Rattle.global_model.specs.Due.{journal_of};
 ghost use Rattle.global_model.specs.Journals.{do_commands};
-ghost use Rattle.history_laws.specs.History.{IsLegal, IsTold, IsWhole};
+ghost use Rattle.history_laws.specs.History.{IsHistory, IsLegal, IsTold, IsWhole};
 ghost use Rattle.history_laws.specs.Ways.{way_heard, back_heard, route_heard};
+ghost use Rattle.history_laws.specs.Counts.{IsLimited, births_in, starts_in, starts_by, has_server};
 ghost use Rattle.history_laws.specs.Laws.{Laws};
 
 use global_model::{
-    acts_are_plain, journals_are_carried, journals_grow, pasts_grow, refusals_come_first,
+    acts_are_plain, journals_are_carried, journals_are_rested, journals_grow, pasts_grow,
+    refusals_come_first,
 };
 use xm_num::laws::rows;
 use xm_num::{Enclave, Page};
@@ -49,6 +51,29 @@ pub fn journals_are_legal()
     laws();
 }
 
+/// The journal of commands, each of which may stand after those before it, is a lawful history.
+pub fn journals_are_histories()
+    ensures { (commands : List Commands) → IsPlaced commands → IsHistory (journal_of commands) }
+{
+    one_journal();
+    journals_are_legal();
+    journals_are_carried();
+    journals_are_rested();
+}
+
+/// A front of a lawful history is one, wherever it ends.
+pub fn fronts_are_histories()
+    ensures { (journal rest : List JournalLine) → IsHistory (journal ++ rest) → IsHistory journal }
+{}
+
+/// What is told is a lawful history, where its commands stand where they may.
+pub fn told_are_histories()
+    ensures { (journal : List JournalLine) → IsTold journal → IsPlaced (do_commands journal) → IsHistory journal }
+{
+    laws();
+    journals_are_histories();
+}
+
 /// Each line of a journal has a spelling.
 pub fn journals_are_spelled()
     ensures { (commands : List Commands) → IsPlaced commands → All IsSpelled (journal_of commands) }
@@ -64,3 +89,14 @@ pub fn ways_are_heard()
 {
     laws();
 }
+
+/// How many enclaves were born and processes started, and whether the name server is held, is what the lines of the past say. Where a
+/// journal is legal, a boot or a start is refused as one too many, and a boot as a second holder's, only where they say so, and
+/// is carried out only where they don't.
+pub fn pasts_are_counted()
+    ensures births { (past : List JournalLine) → (facts_at past).born ≡ births_in past }
+    ensures starts { (past : List JournalLine) → (facts_at past).starts ≡ starts_in past }
+    ensures started { (e : ℕ) (past : List JournalLine) → (facts_at past).started e ≡ starts_by e past }
+    ensures server { (past : List JournalLine) → (facts_at past).server ≡ has_server past }
+    ensures refusals { (journal : List JournalLine) → IsLegal journal → IsLimited journal }
+{}

@@ -5,4 +5,7 @@
 
 mod laws;
 
-pub use laws::{journals_are_legal, journals_are_spelled, one_journal, ways_are_heard};
+pub use laws::{
+    fronts_are_histories, journals_are_histories, journals_are_legal, journals_are_spelled,
+    one_journal, pasts_are_counted, told_are_histories, ways_are_heard,
+};

@@ -8,14 +8,9 @@ use Rattle.xemem_language.specs.declared.line.Line.{Line}
 use Rattle.xemem_language.specs.Spelling.{line_words, words_in, line_text, text_of}
 use Rattle.global_model.specs.Facts.{Facts, no_facts, after_lines}
 use Rattle.global_model.specs.Due.{journal_from, journal_of, step_lines}
-use Rattle.global_model.specs.Journals.{Follows, deliveries_in, is_delivery}
+use Rattle.global_model.specs.Journals.{deliveries_in, is_delivery}
 use Rattle.global_model.specs.Place.{may_stand, IsPlacedAfter}
 use Rattle.xemem_language.specs.Ranges.{IsInRange}
-
--- a front of lines, each of which may follow those before it
-pub Follows-front : (Law : List Line → Line → Type 0) (ls ms past : List Line) → Follows Law past (ls ++ ms) → Follows Law past ls
-Follows-front Law [] ms past follows = tt
-Follows-front Law (l ∷ ls) ms past follows = (follows.0, Follows-front Law ls ms (l ∷ past) follows.1)
 
 -- a front of commands, each of which may stand after those before it
 pub placed_front : (xs ys : List Command) (before : ℕ) → IsPlacedAfter before (xs ++ ys) → IsPlacedAfter before xs

@@ -10,9 +10,7 @@ use Rattle.global_model.specs.Place.{may_stand, IsPlaced}
 use Rattle.global_model.specs.Due.{journal_of}
 use Rattle.xemem_language.specs.Spelling.{text_of}
 use Rattle.global_model.specs.Journals.{do_commands}
-use Rattle.history_laws.specs.History.{IsHistory, IsDueAt}
-use Rattle.history_laws.specs.Lawful.{IsLegalAt}
-use Rattle.global_model.specs.Carriage.{CarriedAt}
+use Rattle.history_laws.specs.History.{IsHistory}
 use Rattle.scenario_text.specs.Words.{lines_of}
 use Rattle.scenario_text.specs.Scenario.{Ending, Stop, TooMany, TooLong, Faulty, Unbuilt, Scenario, onto_scenario}
 use Rattle.scenario_run.specs.Scenario.{scenario_of, scenario_from, said}
@@ -25,7 +23,7 @@ use Rattle.scenario_run.specs.declared.execute.Fault.{Fault}
 use Rattle.scenario_run.specs.declared.execute.Fault.TheVariants as faults
 use Rattle.scenario_run.specs.Laws.{Laws}
 use Rattle.scenario_run.specs.Run.{IsRun, IsRunSoFar, IsRunFull, IsGoing, IsFilled, Writes, WritesFront, Leaves, LeavesIn, FaultLeaves, FillsOn, Ends, ending_status, judged_status, status_of, stop_status}
-use Rattle.scenario_run.proofs.HistoryLemmas.{Follows-front, placed_front, placed_last, text_of-append, line_in, one_delivery, journal_more}
+use Rattle.scenario_run.proofs.HistoryLemmas.{placed_front, placed_last, text_of-append, line_in, one_delivery, journal_more}
 use Rattle.scenario_run.proofs.StepLemmas.{cut_whole}
 
 -- what was done so far on the world, after so many commands, and what is left of the scenario
@@ -103,12 +101,7 @@ next_placed laws bytes v before number c after next =
 -- a front of the journal of first commands of the scenario is a lawful history
 lawful_front : Laws → (bytes : List ℕ) (done : List Command) (left : Scenario) (journal rest : List Line) → scenario_of bytes ≡ onto_scenario done left → journal_of done ≡ journal ++ rest → IsHistory journal
 lawful_front laws bytes done left journal rest is whole =
-    let placed = front_placed laws bytes done left is in
-    record {
-      legal = Follows-front IsLegalAt journal rest [] (rw (← whole) (laws.legal done placed));
-      carried = Follows-front CarriedAt journal rest [] (rw (← whole) (laws.carried done placed));
-      told = Follows-front IsDueAt journal rest [] (rw (← whole) (laws.told done));
-    }
+    laws.fronts journal rest (subst IsHistory whole (laws.history done (front_placed laws bytes done left is)))
 
 -- the journal of first commands of the scenario
 run_so_far : Laws → (bytes : List ℕ) (done : List Command) (left : Scenario) → scenario_of bytes ≡ onto_scenario done left → IsRunSoFar bytes (text_of (journal_of done))
@@ -252,6 +245,6 @@ no_run bytes = record {
   journal = [];
   text = refl;
   commands = record { rest = (scenario_of bytes).commands; is = refl };
-  history = record { legal = tt; carried = tt; told = tt };
+  history = record { legal = tt; carried = tt; told = tt; rested = tt };
   whole = refl;
 }

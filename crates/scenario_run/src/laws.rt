@@ -1,8 +1,8 @@
 // The laws on which a run rests.
 ghost use Rattle.scenario_run.specs.Laws.{Laws};
 
-use global_model::{journals_are_carried, journals_grow, pasts_grow};
-use history_laws::{journals_are_legal, one_journal};
+use global_model::{journals_grow, pasts_grow};
+use history_laws::{fronts_are_histories, journals_are_histories, one_journal};
 use scenario_text::scenarios_are_placed;
 
 /// All of them at once.
@@ -12,7 +12,7 @@ pub fn laws()
     one_journal();
     journals_grow();
     pasts_grow();
-    journals_are_legal();
-    journals_are_carried();
+    journals_are_histories();
+    fronts_are_histories();
     scenarios_are_placed();
 }

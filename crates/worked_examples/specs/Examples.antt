@@ -1,10 +1,15 @@
 -- Worked scenarios, by which the definitions are compared with what was wanted of them.
-use Rattle.std.specs.Prelude.{◌≡◌, ◌++◌, ℕ, List, [], ◌∷◌, Option, Some, codes}
-use Rattle.std.specs.List.{flat_map}
+use Rattle.std.specs.Prelude.{◌≡◌, ◌++◌, ℕ, Bool, true, false, List, [], ◌∷◌, map, Option, Some, codes}
+use Rattle.std.specs.List.{flat_map, range_with_len}
+use Rattle.xm_num.specs.declared.Kind.TheVariants as kinds
+use Rattle.xemem_language.specs.declared.command.Command.{Command}
+use Rattle.xemem_language.specs.declared.command.Command.TheVariants as commands
 use Rattle.enclave_rules.specs.Built.{is_built}
+use Rattle.enclave_rules.specs.View.{host}
 use Rattle.scenario_text.specs.Scenario.{Ending, Stop, scenario_by}
 use Rattle.xemem_language.specs.Spelling.{text_of}
 use Rattle.global_model.specs.Due.{journal_of}
+use Rattle.global_model.specs.Facts.{Facts, facts_after}
 
 -- the pieces, each ended by a line feed
 abbrev pub text : List (List ℕ) → List ℕ
@@ -130,6 +135,84 @@ late_name_server_journal =
     ∷ codes "took 3 0 16" ∷ codes "got 3 0" ∷ codes "route 0 2 1" ∷ codes "sent 0 1 admit 3 2 0" ∷ codes "took 0 1 16"
     ∷ codes "got 0 1" ∷ codes "route 1 2 2" ∷ codes "sent 1 2 admit 3 2 0" ∷ codes "took 1 2 16" ∷ codes "got 1 2" ∷ codes "admitted 2"
     ∷ codes "settled 20" ∷ codes "do show routes 0" ∷ codes "at 0 way 3" ∷ codes "at 0 route 1 1" ∷ codes "at 0 route 2 1" ∷ []
+
+-- the name server is taken first, and then the blocks: of the conditions that hold the first decides
+abbrev pub server_first : List (List ℕ)
+server_first =
+    codes "pool 4" ∷ codes "host 1 ns" ∷ codes "boot cokernel under 1 blocks 4 ns"
+    ∷ codes "boot cokernel under 0 blocks 1 ns" ∷ codes "boot cokernel under 0 blocks 4"
+    ∷ codes "boot cokernel under 0 blocks 3" ∷ codes "boot cokernel under 0 blocks 1 ns"
+    ∷ codes "boot cokernel under 2 blocks 1" ∷ codes "boot cokernel under 1 blocks 1" ∷ []
+
+abbrev pub server_first_journal : List (List ℕ)
+server_first_journal =
+    codes "do pool 4" ∷ codes "do host 1 ns" ∷ codes "born 0 host 0 ns 0" ∷ codes "admitted 0"
+    ∷ codes "do boot cokernel under 1 blocks 4 ns" ∷ codes "refused NoEnclave"
+    ∷ codes "do boot cokernel under 0 blocks 1 ns" ∷ codes "refused NameServerTaken"
+    ∷ codes "do boot cokernel under 0 blocks 4" ∷ codes "refused NoBlocks" ∷ codes "do boot cokernel under 0 blocks 3"
+    ∷ codes "born 1 cokernel 0 - 1 2 3" ∷ codes "sent 1 0 query 1 65535 0"
+    ∷ codes "do boot cokernel under 0 blocks 1 ns" ∷ codes "refused NameServerTaken"
+    ∷ codes "do boot cokernel under 2 blocks 1" ∷ codes "refused NoEnclave"
+    ∷ codes "do boot cokernel under 1 blocks 1" ∷ codes "refused NoBlocks" ∷ []
+
+-- there are too few blocks first, and then the name server is taken
+abbrev pub blocks_first : List (List ℕ)
+blocks_first =
+    codes "pool 2" ∷ codes "host 1" ∷ codes "boot cokernel under 0 blocks 2 ns"
+    ∷ codes "boot cokernel under 0 blocks 1 ns" ∷ codes "boot cokernel under 0 blocks 2 ns"
+    ∷ codes "boot cokernel under 2 blocks 1 ns" ∷ []
+
+abbrev pub blocks_first_journal : List (List ℕ)
+blocks_first_journal =
+    codes "do pool 2" ∷ codes "do host 1" ∷ codes "born 0 host 0 - 0" ∷ codes "do boot cokernel under 0 blocks 2 ns"
+    ∷ codes "refused NoBlocks" ∷ codes "do boot cokernel under 0 blocks 1 ns" ∷ codes "born 1 cokernel 0 ns 1"
+    ∷ codes "admitted 1" ∷ codes "sent 0 1 query 0 65535 0" ∷ codes "do boot cokernel under 0 blocks 2 ns"
+    ∷ codes "refused NameServerTaken" ∷ codes "do boot cokernel under 2 blocks 1 ns" ∷ codes "refused NoEnclave" ∷ []
+
+-- conditions of the calls of processes, alone and several at once: some come to hold, and some no longer do
+abbrev pub refused_calls : List (List ℕ)
+refused_calls =
+    codes "pool 4" ∷ codes "host 1 ns" ∷ codes "proc 1 1 1" ∷ codes "alloc 1 1 16777215 65"
+    ∷ codes "touch 1 1 65536 r" ∷ codes "alloc 0 1 16777215 65" ∷ codes "alloc 0 1 16 1" ∷ codes "touch 0 1 65536 r"
+    ∷ codes "proc 0 1 1" ∷ codes "touch 0 1 65536 r" ∷ codes "alloc 0 1 16777215 2" ∷ codes "alloc 0 1 16777215 65"
+    ∷ codes "alloc 0 1 16 65" ∷ codes "alloc 0 1 20 1" ∷ codes "alloc 0 1 16 65" ∷ codes "alloc 0 1 20 1"
+    ∷ codes "alloc 0 1 16777215 1" ∷ codes "alloc 0 1 16777215 2" ∷ codes "alloc 0 1 21 62" ∷ codes "alloc 0 1 20 1"
+    ∷ codes "alloc 0 1 100 1" ∷ codes "alloc 0 2 16 1" ∷ codes "touch 0 2 81920 w" ∷ codes "proc 0 1 1"
+    ∷ codes "alloc 0 2 16 1" ∷ codes "touch 0 2 81920 w" ∷ codes "touch 0 1 81920 w" ∷ []
+
+abbrev pub refused_calls_journal : List (List ℕ)
+refused_calls_journal =
+    codes "do pool 4" ∷ codes "do host 1 ns" ∷ codes "born 0 host 0 ns 0" ∷ codes "admitted 0" ∷ codes "do proc 1 1 1"
+    ∷ codes "refused NoEnclave" ∷ codes "do alloc 1 1 16777215 65" ∷ codes "refused NoEnclave"
+    ∷ codes "do touch 1 1 65536 r" ∷ codes "refused NoEnclave" ∷ codes "do alloc 0 1 16777215 65"
+    ∷ codes "refused NoProcess" ∷ codes "do alloc 0 1 16 1" ∷ codes "refused NoProcess" ∷ codes "do touch 0 1 65536 r"
+    ∷ codes "refused NoProcess" ∷ codes "do proc 0 1 1" ∷ codes "proc 0 1 1 1" ∷ codes "do touch 0 1 65536 r"
+    ∷ codes "refused NotMapped" ∷ codes "do alloc 0 1 16777215 2" ∷ codes "refused BadRange"
+    ∷ codes "do alloc 0 1 16777215 65" ∷ codes "refused BadRange" ∷ codes "do alloc 0 1 16 65"
+    ∷ codes "refused NoFrames" ∷ codes "do alloc 0 1 20 1" ∷ codes "alloc 0 1 20 0" ∷ codes "do alloc 0 1 16 65"
+    ∷ codes "refused Taken" ∷ codes "do alloc 0 1 20 1" ∷ codes "refused Taken" ∷ codes "do alloc 0 1 16777215 1"
+    ∷ codes "alloc 0 1 16777215 1" ∷ codes "do alloc 0 1 16777215 2" ∷ codes "refused BadRange"
+    ∷ codes "do alloc 0 1 21 62"
+    ∷ codes "alloc 0 1 21 2 3 4 5 6 7 8 9 10 11 12 13 14 15 16 17 18 19 20 21 22 23 24 25 26 27 28 29 30 31 32 33 34 35 36 37 38 39 40 41 42 43 44 45 46 47 48 49 50 51 52 53 54 55 56 57 58 59 60 61 62 63"
+    ∷ codes "do alloc 0 1 20 1" ∷ codes "refused Taken" ∷ codes "do alloc 0 1 100 1" ∷ codes "refused NoFrames"
+    ∷ codes "do alloc 0 2 16 1" ∷ codes "refused NoProcess" ∷ codes "do touch 0 2 81920 w" ∷ codes "refused NoProcess"
+    ∷ codes "do proc 0 1 1" ∷ codes "proc 0 2 1 1" ∷ codes "do alloc 0 2 16 1" ∷ codes "refused NoFrames"
+    ∷ codes "do touch 0 2 81920 w" ∷ codes "refused NotMapped" ∷ codes "do touch 0 1 81920 w"
+    ∷ codes "touched 0 1 20 0" ∷ []
+
+-- the facts after the journal of so many boots under the host, which holds the name server, and so many processes of it
+abbrev pub crowd : ℕ → ℕ → Facts
+crowd boots starts =
+    facts_after (journal_of (commands.Pool 300 ∷ commands.Host 1 true
+    ∷ map (λ e. commands.Boot kinds.Cokernel host 1 false) (range_with_len 0 boots)
+    ++ map (λ p. commands.Proc host 1 1) (range_with_len 0 starts)))
+
+-- a boot under that enclave
+abbrev pub boot_under : ℕ → ℕ → Bool → Command
+boot_under parent blocks ns = commands.Boot kinds.Cokernel (record { 0 = parent }) blocks ns
+
+abbrev pub start_at : ℕ → Command
+start_at e = commands.Proc (record { 0 = e }) 1 1
 
 -- two good lines
 abbrev pub two_lines : List (List ℕ)

@@ -1,7 +1,8 @@
 // Worked examples: the contract of a function with an empty body, which compares the definitions with what was wanted of them.
-ghost use Rattle.std.specs.Prelude.{◌++◌, ◌∷◌, [], None, codes};
-ghost use Rattle.xemem_language.specs.Spelling.{text_of};
-ghost use Rattle.worked_examples.specs.Examples.{Gives, at_line, text, smallest, smallest_journal, refused, refused_journal, one_byte_short, one_byte_short_journal, discovered, discovered_journal, child_memory, child_memory_journal, no_host_born, no_host_born_journal, settled, settled_journal, late_name_server, late_name_server_journal, two_lines, two_lines_journal};
+ghost use Rattle.std.specs.Prelude.{◌≡◌, ◌++◌, ◌∷◌, [], None, Some, false, true, codes};
+ghost use Rattle.xm_num.specs.declared.Cause.TheVariants as causes;
+ghost use Rattle.global_model.specs.Refusals.{refusal_of};
+ghost use Rattle.worked_examples.specs.Examples.{Gives, at_line, text, smallest, smallest_journal, refused, refused_journal, one_byte_short, one_byte_short_journal, discovered, discovered_journal, child_memory, child_memory_journal, no_host_born, no_host_born_journal, settled, settled_journal, late_name_server, late_name_server_journal, server_first, server_first_journal, blocks_first, blocks_first_journal, refused_calls, refused_calls_journal, crowd, boot_under, start_at, two_lines, two_lines_journal};
 ghost use Rattle.scenario_text.specs.Scenario.{Faulty, Unbuilt};
 ghost use Rattle.scenario_text.specs.declared.SyntaxFault.TheVariants as faults;
 
@@ -15,6 +16,9 @@ pub fn worked_examples()
     ensures no_host_born { Gives (text no_host_born) None (text no_host_born_journal) }
     ensures settled { Gives (text settled) None (text settled_journal) }
     ensures late_name_server { Gives (text late_name_server) None (text late_name_server_journal) }
+    ensures server_first { Gives (text server_first) None (text server_first_journal) }
+    ensures blocks_first { Gives (text blocks_first) None (text blocks_first_journal) }
+    ensures refused_calls { Gives (text refused_calls) None (text refused_calls_journal) }
     ensures comment { Gives (codes "# nothing") None [] }
     ensures no_number { Gives (text (two_lines ++ codes "proc 0 x 1" ∷ [])) (at_line 3 (Faulty (faults.Number 2))) (text two_lines_journal) }
     ensures no_keyword { Gives (text (two_lines ++ codes "boot vm over 0 blocks 1" ∷ [])) (at_line 3 (Faulty (faults.Keyword 2))) (text two_lines_journal) }
@@ -25,4 +29,18 @@ pub fn worked_examples()
     ensures no_place { Gives (codes "host 1") (at_line 1 (Faulty faults.Place)) [] }
     ensures out_of_range { Gives (codes "pool 5000") (at_line 1 (Faulty (faults.Number 1))) [] }
     ensures unbuilt { Gives (text (two_lines ++ codes "make 0 1 0 4096 0640" ∷ [])) (at_line 3 Unbuilt) (text two_lines_journal) }
+{}
+
+/// An enclave behind 256, and a process behind 1,024, are refused as too many, whatever other condition holds but that the
+/// enclave doesn't live.
+pub fn crowds_are_refused()
+    ensures last { refusal_of (crowd 254 0) (boot_under 0 45 false) ≡ None }
+    ensures no_blocks { refusal_of (crowd 254 0) (boot_under 0 46 false) ≡ Some causes.NoBlocks }
+    ensures full { refusal_of (crowd 255 0) (boot_under 0 1 false) ≡ Some causes.TooMany }
+    ensures full_with_server { refusal_of (crowd 255 0) (boot_under 0 1 true) ≡ Some causes.TooMany }
+    ensures full_without_blocks { refusal_of (crowd 255 0) (boot_under 255 45 false) ≡ Some causes.TooMany }
+    ensures full_elsewhere { refusal_of (crowd 255 0) (boot_under 256 1 false) ≡ Some causes.NoEnclave }
+    ensures last_start { refusal_of (crowd 0 1023) (start_at 0) ≡ None }
+    ensures all_started { refusal_of (crowd 0 1024) (start_at 0) ≡ Some causes.TooMany }
+    ensures started_elsewhere { refusal_of (crowd 0 1024) (start_at 1) ≡ Some causes.NoEnclave }
 {}

@@ -3,4 +3,4 @@
 
 mod examples;
 
-pub use examples::worked_examples;
+pub use examples::{crowds_are_refused, worked_examples};

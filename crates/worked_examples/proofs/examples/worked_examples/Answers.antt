@@ -18,6 +18,9 @@ returns c = record {
   no_host_born = record { ending_is = refl; journal_is = refl };
   settled = record { ending_is = refl; journal_is = refl };
   late_name_server = record { ending_is = refl; journal_is = refl };
+  server_first = record { ending_is = refl; journal_is = refl };
+  blocks_first = record { ending_is = refl; journal_is = refl };
+  refused_calls = record { ending_is = refl; journal_is = refl };
   comment = record { ending_is = refl; journal_is = refl };
   no_number = record { ending_is = refl; journal_is = refl };
   no_keyword = record { ending_is = refl; journal_is = refl };

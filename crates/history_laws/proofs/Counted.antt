@@ -1,0 +1,132 @@
+-- What the facts count is what stands in the past.
+use Rattle.std.proofs.Common.{◌≡◌, ◌+◌, ◌<◌, ◌≤◌, ℕ, List, [], ◌∷◌, length, filter, Bool, true, false, not, ◌&&◌, ◌||◌, cond, eqb, leb, ltb, Option, None, Some, refl, sym, ap, ◌∙◌, subst, arith}
+use Rattle.std.proofs.lemmas.Bool.{and_parts, eqb-true, leb-false, leb-true}
+use Rattle.xm_num.specs.declared.Cause.{Cause}
+use Rattle.xm_num.specs.declared.Cause.TheVariants as causes
+use Rattle.xm_num.specs.declared.Enclave.{Enclave}
+use Rattle.xm_num.specs.declared.Kind.{Kind}
+use Rattle.xemem_language.specs.declared.command.Command.TheVariants as commands
+use Rattle.xemem_language.specs.declared.line.Line.{Line}
+use Rattle.xemem_language.specs.declared.line.Line.TheVariants as lines
+use Rattle.global_model.specs.Facts.{facts_at, is_living_enclave}
+use Rattle.global_model.specs.Refusals.{first_cause, when}
+use Rattle.global_model.specs.Space.{free_blocks}
+use Rattle.history_laws.specs.Counts.{LimitedAt, LimitedBoot, LimitedStart, IsLimited, births_in, starts_in, starts_by, starts_at, has_server}
+use Rattle.history_laws.specs.History.{IsLegal}
+use Rattle.history_laws.specs.Lawful.{IsLegalAt}
+use Rattle.history_laws.proofs.Follow.{Follows-weaker}
+
+pub births_counted : (past : List Line) → (facts_at past).born ≡ births_in past
+births_counted [] = refl
+births_counted (lines.Born e kind parent ns blocks ∷ past) = let more = births_counted past in omega (arith, more)
+births_counted (lines.Do (commands.Pool blocks) ∷ past) = births_counted past
+births_counted (_ ∷ past) = births_counted past
+
+pub starts_counted : (past : List Line) → (facts_at past).starts ≡ starts_in past
+starts_counted [] = refl
+starts_counted (lines.Proc e p uid gid ∷ past) = let more = starts_counted past in omega (arith, more)
+starts_counted (lines.Do (commands.Pool blocks) ∷ past) = starts_counted past
+starts_counted (_ ∷ past) = starts_counted past
+
+or_turned : (a b : Bool) → (a || b) ≡ (b || a)
+or_turned true true = refl
+or_turned true false = refl
+or_turned false true = refl
+or_turned false false = refl
+
+pub server_counted : (past : List Line) → (facts_at past).server ≡ has_server past
+server_counted [] = refl
+server_counted (lines.Born e kind parent ns blocks ∷ past) = or_turned (facts_at past).server ns ∙ ap (λ held. ns || held) (server_counted past)
+server_counted (lines.Do (commands.Pool blocks) ∷ past) = server_counted past
+server_counted (_ ∷ past) = server_counted past
+
+pub started_counted : (e : ℕ) (past : List Line) → (facts_at past).started e ≡ starts_by e past
+started_counted e [] = refl
+started_counted e (lines.Proc of p uid gid ∷ past) = by (eqb e of.0) refl (started_counted e past)
+  where
+    by : (b : Bool) → eqb e of.0 ≡ b → (facts_at past).started e ≡ starts_by e past
+        → cond b ((facts_at past).started of.0 + 1) ((facts_at past).started e)
+        ≡ length (cond b (lines.Proc of p uid gid ∷ filter (starts_at e) past) (filter (starts_at e) past))
+    by true is more = let same : (facts_at past).started of.0 ≡ (facts_at past).started e = ap (λ n. (facts_at past).started n) (sym (eqb-true e of.0 is)) in
+        omega (arith, more, same)
+    by false is more = more
+started_counted e (lines.Do (commands.Pool blocks) ∷ past) = started_counted e past
+started_counted e (_ ∷ past) = started_counted e past
+
+-- ---- boots and starts
+
+-- the conditions of a boot, in their order
+abbrev boot_cause : Bool → Bool → Bool → Bool → Option Cause
+boot_cause gone many taken few =
+    first_cause (when causes.NoEnclave gone ∷ when causes.TooMany many ∷ when causes.NameServerTaken taken ∷ when causes.NoBlocks few ∷ [])
+
+boot_many : (gone many taken few : Bool) → Some causes.TooMany ≡ boot_cause gone many taken few → many ≡ true
+boot_many true many taken few is = cc
+boot_many false true taken few is = refl
+boot_many false false true few is = cc
+boot_many false false false true is = cc
+boot_many false false false false is = cc
+
+boot_taken : (gone many taken few : Bool) → Some causes.NameServerTaken ≡ boot_cause gone many taken few → taken ≡ true
+boot_taken true many taken few is = cc
+boot_taken false true taken few is = cc
+boot_taken false false true few is = refl
+boot_taken false false false true is = cc
+boot_taken false false false false is = cc
+
+boot_free : (gone many taken few : Bool) → None ≡ boot_cause gone many taken few → (many ≡ false) × (taken ≡ false)
+boot_free true many taken few is = cc
+boot_free false true taken few is = cc
+boot_free false false true few is = cc
+boot_free false false false few is = (refl, refl)
+
+-- and those of a start
+abbrev start_cause : Bool → Bool → Option Cause
+start_cause gone many = first_cause (when causes.NoEnclave gone ∷ when causes.TooMany many ∷ [])
+
+start_many : (gone many : Bool) → Some causes.TooMany ≡ start_cause gone many → many ≡ true
+start_many true many is = cc
+start_many false true is = refl
+start_many false false is = cc
+
+start_free : (gone many : Bool) → None ≡ start_cause gone many → many ≡ false
+start_free true many is = cc
+start_free false true is = cc
+start_free false false is = refl
+
+limited_boot : (past : List Line) (kind : Kind) (parent : Enclave) (blocks : ℕ) (ns : Bool) (line : Line)
+    → IsLegalAt (lines.Do (commands.Boot kind parent blocks ns) ∷ past) line → LimitedBoot past ns line
+limited_boot past kind parent blocks ns (lines.Refused causes.TooMany) legal =
+    let G = facts_at past in
+    let many = boot_many (not (is_living_enclave (G.enclave parent.0))) (leb 256 G.born) (ns && G.server) (ltb (length (free_blocks G)) blocks) legal.refusal in
+    subst (λ n. 256 ≤ n) (births_counted past) (leb-true 256 G.born many)
+limited_boot past kind parent blocks ns (lines.Refused causes.NameServerTaken) legal =
+    let G = facts_at past in
+    let taken = boot_taken (not (is_living_enclave (G.enclave parent.0))) (leb 256 G.born) (ns && G.server) (ltb (length (free_blocks G)) blocks) legal.refusal in
+    let both = and_parts ns G.server taken in
+    (both.0, sym (server_counted past) ∙ both.1)
+limited_boot past kind parent blocks ns (lines.Born e of under mark lent) legal =
+    let G = facts_at past in
+    let free = boot_free (not (is_living_enclave (G.enclave parent.0))) (leb 256 G.born) (ns && G.server) (ltb (length (free_blocks G)) blocks) legal.refusal in
+    (subst (λ n. n < 256) (births_counted past) (leb-false 256 G.born free.0), ap (λ held. ns && held) (sym (server_counted past)) ∙ free.1)
+limited_boot past kind parent blocks ns _ legal = tt
+
+limited_start : (past : List Line) (e : Enclave) (uid gid : ℕ) (line : Line)
+    → IsLegalAt (lines.Do (commands.Proc e uid gid) ∷ past) line → LimitedStart past line
+limited_start past e uid gid (lines.Refused causes.TooMany) legal =
+    let G = facts_at past in
+    let many = start_many (not (is_living_enclave (G.enclave e.0))) (leb 1024 G.starts) legal.refusal in
+    subst (λ n. 1024 ≤ n) (starts_counted past) (leb-true 1024 G.starts many)
+limited_start past e uid gid (lines.Proc of p u g) legal =
+    let G = facts_at past in
+    let free = start_free (not (is_living_enclave (G.enclave e.0))) (leb 1024 G.starts) legal.refusal in
+    subst (λ n. n < 1024) (starts_counted past) (leb-false 1024 G.starts free)
+limited_start past e uid gid _ legal = tt
+
+limited_line : (past : List Line) (line : Line) → IsLegalAt past line → LimitedAt past line
+limited_line (lines.Do (commands.Boot kind parent blocks ns) ∷ past) line legal = limited_boot past kind parent blocks ns line legal
+limited_line (lines.Do (commands.Proc e uid gid) ∷ past) line legal = limited_start past e uid gid line legal
+limited_line _ line legal = tt
+
+pub legal_limited : (journal : List Line) → IsLegal journal → IsLimited journal
+legal_limited journal legal = Follows-weaker IsLegalAt LimitedAt limited_line journal [] legal

@@ -1,0 +1,9 @@
+use Rattle.history_laws.proofs.laws.journals_are_histories.Goals as goal
+
+pub returns : goal.returns
+returns c = λ commands placed. record {
+  legal = c.journals_are_legal.ensures commands placed;
+  carried = c.journals_are_carried.ensures.carried commands placed;
+  told = c.one_journal.ensures.told commands;
+  rested = c.journals_are_rested.ensures commands placed;
+}
