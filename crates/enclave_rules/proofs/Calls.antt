@@ -1,6 +1,5 @@
 -- The lines of calls are an enclave's own, and those that show something change nothing.
-use Rattle.std.proofs.Common.{◌+◌, ℕ, List, [], ◌∷◌, ◌++◌, length, map, take, Bool, true, false, cond, ltb, Option, None, Some, refl}
-use Rattle.std.specs.List.{AllByRecursion}
+use Rattle.std.proofs.Common.{◌+◌, ℕ, List, [], ◌∷◌, ◌++◌, length, map, Bool, true, false, cond, ltb, Option, None, Some, refl}
 use Rattle.std.specs.Option.{option_map_or}
 use Rattle.xm_num.specs.declared.Enclave.{Enclave}
 use Rattle.xm_num.specs.declared.Pid.{Pid}
@@ -15,7 +14,7 @@ use Rattle.xemem_language.specs.declared.call.Show.{Show}
 use Rattle.xemem_language.specs.declared.call.Show.TheVariants as shows
 use Rattle.enclave_rules.specs.Blocks.{BlockFact, Absent, Free, Lent, Held}
 use Rattle.enclave_rules.specs.View.{View, ProcessView}
-use Rattle.enclave_rules.specs.Steps.{refusal, process_at, own_lines_of, alloc_lines, way_line, route_lines, state_line, state_lines}
+use Rattle.enclave_rules.specs.Steps.{refusal, process_at, own_lines_of, alloc_lines, state_line, state_lines}
 use Rattle.enclave_rules.specs.Calls.{call_lines, show_lines, IsShowLine, AreCallLines, AreShowLines}
 
 cond_case : (P : List Line → Type 0) (b : Bool) (ls ms : List Line) → P ls → P ms → P (cond b ls ms)

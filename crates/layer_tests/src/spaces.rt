@@ -158,8 +158,8 @@ fn end<S: AddressSpace>(held: Held<S>) {
     let Held { mut space, right } = held;
     match right {
         None => space.close(),
-        Some(right) => {
-            space.unmap(right);
+        Some(last) => {
+            space.unmap(last);
             space.close();
         }
     }

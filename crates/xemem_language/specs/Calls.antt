@@ -1,5 +1,5 @@
 -- The calls of processes, and what can be shown of a node, by the command that asks for it.
-use Rattle.std.specs.Prelude.{◌≡◌, ◌≤◌, Option, None, Some}
+use Rattle.std.specs.Prelude.{◌≡◌, Option, None, Some}
 use Rattle.xm_num.specs.declared.Enclave.{Enclave}
 use Rattle.xemem_language.specs.declared.command.Command.{Command}
 use Rattle.xemem_language.specs.declared.command.Command.TheVariants as commands
