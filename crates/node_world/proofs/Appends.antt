@@ -1,17 +1,12 @@
 -- Which node the lines of a command are by, and how many words they add to those of each node.
-use Rattle.std.proofs.Common.{◌≡◌, ◌+◌, ◌≤◌, ℕ, List, [], ◌∷◌, ◌++◌, length, Bool, true, false, cond, eqb, ltb, take, Option, None, Some, refl, ap, ◌∙◌, arith}
-use Rattle.std.specs.Option.{option_map_or}
+use Rattle.std.proofs.Common.{◌≡◌, ◌+◌, ◌≤◌, ℕ, List, [], ◌∷◌, ◌++◌, length, Bool, true, false, cond, eqb, Some, refl, ap, ◌∙◌, arith}
 use Rattle.xm_num.specs.declared.Enclave.{Enclave}
 use Rattle.xm_num.specs.declared.Kind.{Kind}
 use Rattle.xm_num.specs.declared.Block.{Block}
-use Rattle.xm_num.specs.declared.Pid.{Pid}
-use Rattle.xm_num.specs.declared.Vpn.{Vpn}
 use Rattle.xm_num.specs.declared.Cause.{Cause}
 use Rattle.xm_num.specs.declared.Cause.TheVariants as causes
-use Rattle.xm_num.specs.Rows.{any_between}
 use Rattle.xemem_language.specs.declared.record.Record.{Record}
 use Rattle.xemem_language.specs.declared.command.Command.{Command}
-use Rattle.xemem_language.specs.declared.command.Command.TheVariants as commands
 use Rattle.xemem_language.specs.declared.call.ProcessCall.{ProcessCall}
 use Rattle.xemem_language.specs.Calls.{call_of}
 use Rattle.enclave_rules.specs.Calls.{IsOwnCause, AreCallLines}
@@ -19,8 +14,8 @@ use Rattle.xemem_language.specs.declared.line.Line.{Line}
 use Rattle.xemem_language.specs.declared.line.Line.TheVariants as lines
 use Rattle.xemem_language.specs.Spelling.{line_words, words_in}
 use Rattle.global_model.specs.Journals.{command_at, onto}
-use Rattle.enclave_rules.specs.View.{View, ProcessView, host, AreOf}
-use Rattle.enclave_rules.specs.Steps.{refusal, host_lines, told_lines, child_lines, birth_lines, query_of, knows_way, adopt_lines, process_at, own_lines_of, alloc_lines, lines_of_records}
+use Rattle.enclave_rules.specs.View.{View, host, AreOf}
+use Rattle.enclave_rules.specs.Steps.{host_lines, told_lines, child_lines, birth_lines, query_of, knows_way, adopt_lines, lines_of_records}
 use Rattle.node_world.specs.Appended.{is_unborn, refuses, is_by, words_by}
 use Rattle.node_world.proofs.Lists.{cond_case}
 use Rattle.node_world.proofs.Stills.{IsStill, AreStill}

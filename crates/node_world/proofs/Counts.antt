@@ -1,7 +1,6 @@
 -- Each command and each delivery of a settle raises what each node appended by the words of its lines that are by that node.
-use Rattle.std.proofs.Common.{◌≡◌, ◌+◌, ◌<◌, ◌≤◌, ℕ, zero, suc, List, [], ◌∷◌, ◌++◌, length, take, Bool, true, false, cond, eqb, ltb, leb, not, ◌&&◌, ◌||◌, map, Option, None, Some, refl, sym, ap, ◌∙◌, subst, inl, inr, arith, length-append}
+use Rattle.std.proofs.Common.{◌≡◌, ◌+◌, ◌<◌, ◌≤◌, ℕ, zero, suc, List, [], ◌∷◌, ◌++◌, length, take, Bool, true, false, cond, eqb, ltb, leb, not, ◌&&◌, ◌||◌, Option, None, Some, refl, sym, ap, ◌∙◌, subst, inl, inr, arith, length-append}
 use Rattle.std.specs.Prelude.{◌⊎◌, slice_set}
-use Rattle.std.specs.Option.{option_map_or}
 use Rattle.std.proofs.lemmas.Bool.{eqb-true, eqb-false, ltb-true, ne_eqb, cases_lt}
 use Rattle.std.proofs.lemmas.List.{length-set, get_or_past, get_or-set_same, get_or-set_other}
 use Rattle.std.proofs.Math.ListN.{get_or-append}
@@ -9,7 +8,6 @@ use Rattle.std.proofs.Math.Seq.{get_or-append_seam}
 use Rattle.xm_num.specs.declared.Enclave.{Enclave}
 use Rattle.xm_num.specs.declared.Kind.{Kind}
 use Rattle.xm_num.specs.declared.Pid.{Pid}
-use Rattle.xm_num.specs.declared.Vpn.{Vpn}
 use Rattle.xm_num.specs.declared.Want.{Want}
 use Rattle.xm_num.specs.declared.Cause.{Cause}
 use Rattle.xm_num.specs.declared.Cause.TheVariants as causes
@@ -25,7 +23,7 @@ use Rattle.xemem_language.specs.declared.line.Line.TheVariants as lines
 use Rattle.xemem_language.specs.Spelling.{line_words, words_in}
 use Rattle.global_model.specs.Journals.{onto, command_at}
 use Rattle.enclave_rules.specs.View.{View, host}
-use Rattle.enclave_rules.specs.Steps.{refusal, host_lines, first_blocks, start_lines, alloc_lines, touch_answer, route_lines, state_lines, birth_lines, adopt_lines}
+use Rattle.enclave_rules.specs.Steps.{refusal, host_lines, first_blocks, start_lines, touch_answer, birth_lines, adopt_lines}
 use Rattle.enclave_node.specs.Nodes.{NodeView, unborn_node, raised, wrote, new_host, new_node, lent, adopted, fed, fed_lines, after_feed}
 use Rattle.node_machine.specs.declared.pair.Hop.{Hop}
 use Rattle.node_machine.specs.declared.pair.Hop.TheVariants as hops
@@ -35,7 +33,7 @@ use Rattle.node_machine.specs.Ready.{IsReady, Stands}
 use Rattle.node_world.specs.World.{most_words}
 use Rattle.node_world.proofs.Lists.{cond_case, set_field}
 use Rattle.node_world.proofs.Stills.{AreStill, still_answer, still_shown, show_no_call, show_stays, shown_lines, still_bytes}
-use Rattle.node_world.proofs.Appends.{IsBy, AreBy, nobody, only, Adds, share, adds_append, adds_by, few_by, by_still, by_birth, by_host, by_adopt, by_records, by_call}
+use Rattle.node_world.proofs.Appends.{AreBy, nobody, only, Adds, share, adds_append, adds_by, few_by, by_still, by_birth, by_host, by_adopt, by_records, by_call}
 use Rattle.node_world.proofs.Words.{onto-append}
 use Rattle.node_world.specs.Laws.{Laws}
 

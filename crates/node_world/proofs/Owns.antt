@@ -1,16 +1,11 @@
 -- Commands whose lines are all at one enclave: a process starts, and pages become own ones.
-use Rattle.std.proofs.Common.{◌≡◌, ◌+◌, ◌<◌, ℕ, List, [], ◌∷◌, length, take, Bool, true, false, cond, eqb, ltb, leb, Option, None, Some, refl, sym, ap, ◌∙◌, subst, arith}
+use Rattle.std.proofs.Common.{◌≡◌, ◌+◌, ◌<◌, ℕ, List, [], ◌∷◌, length, Bool, true, false, cond, eqb, ltb, leb, Option, Some, refl, sym, ap, ◌∙◌, subst, arith}
 use Rattle.std.specs.Prelude.{slice_set}
-use Rattle.std.specs.Option.{option_map_or}
 use Rattle.std.proofs.lemmas.Bool.{ltb-true, eq-eqb, ne_eqb}
 use Rattle.std.proofs.lemmas.List.{length-set}
 use Rattle.xm_num.specs.declared.Enclave.{Enclave}
-use Rattle.xm_num.specs.declared.Pid.{Pid}
-use Rattle.xm_num.specs.declared.Vpn.{Vpn}
-use Rattle.xm_num.specs.declared.Frame.{Frame}
-use Rattle.xm_num.specs.declared.Cause.{Cause}
 use Rattle.xm_num.specs.declared.Cause.TheVariants as causes
-use Rattle.xm_num.specs.Rows.{at, any_between}
+use Rattle.xm_num.specs.Rows.{at}
 use Rattle.xemem_wire.specs.Decoding.{Decoding}
 use Rattle.xemem_language.specs.declared.command.Command.{Command}
 use Rattle.xemem_language.specs.declared.command.Command.TheVariants as commands
@@ -20,16 +15,16 @@ use Rattle.enclave_rules.specs.Calls.{call_lines, AreCallLines}
 use Rattle.xemem_language.specs.declared.line.Line.{Line}
 use Rattle.xemem_language.specs.declared.line.Line.TheVariants as lines
 use Rattle.global_model.specs.Facts.{Facts, ProcessFact, after_line, after_lines}
-use Rattle.enclave_rules.specs.View.{View, ProcessView, own_line, own_lines, seen_lines}
+use Rattle.enclave_rules.specs.View.{View, own_line, own_lines, seen_lines}
 use Rattle.global_model.specs.Views.{view_of}
-use Rattle.enclave_rules.specs.Steps.{refusal, start_lines, process_at, own_lines_of, alloc_lines}
+use Rattle.enclave_rules.specs.Steps.{refusal, start_lines}
 use Rattle.global_model.specs.Known.{at_born}
 use Rattle.global_model.specs.Due.{command_lines}
 use Rattle.enclave_node.specs.Nodes.{NodeView, unborn_node, wrote}
 use Rattle.node_machine.specs.Machine.{MachineView, node_at, pair_at, at_node, lines_by, acted, with_carried, after_command, call_by, after_call}
 use Rattle.node_machine.specs.Machine.{enclave}
 use Rattle.node_world.specs.Shown.{IsNodeOf, IsShown}
-use Rattle.node_world.proofs.Lists.{cond_case, same_either, set_case}
+use Rattle.node_world.proofs.Lists.{same_either, set_case}
 use Rattle.node_world.proofs.Carriage.{ArePlain, counted_lines}
 use Rattle.node_world.proofs.Acted.{IsActed, shown_by, linked_of, within_of, fed_of}
 use Rattle.node_world.proofs.Stills.{IsStep, IsTied, AreStill, tied_still, at_is}

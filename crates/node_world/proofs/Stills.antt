@@ -1,6 +1,5 @@
 -- A command by the facts is the one that the machine makes: those that change nothing.
-use Rattle.std.proofs.Common.{◌≡◌, ◌+◌, ◌<◌, ◌≤◌, ℕ, zero, suc, List, [], ◌∷◌, ◌++◌, length, map, drop, Bool, true, false, cond, ltb, Option, None, Some, Result, Ok, Err, refl, sym, ap, ◌∙◌, subst}
-use Rattle.std.specs.Option.{option_map_or}
+use Rattle.std.proofs.Common.{◌≡◌, ◌+◌, ◌<◌, ◌≤◌, ℕ, zero, suc, List, [], ◌∷◌, ◌++◌, length, drop, Bool, true, false, cond, ltb, None, Some, Result, Ok, Err, refl, sym, ap, ◌∙◌, subst}
 use Rattle.std.proofs.lemmas.Bool.{ltb-true, lt-ltb}
 use Rattle.xm_num.specs.declared.Enclave.{Enclave}
 use Rattle.xm_num.specs.declared.Pid.{Pid}
@@ -17,11 +16,10 @@ use Rattle.enclave_rules.specs.Calls.{show_lines, AreShowLines}
 use Rattle.xemem_language.specs.declared.line.Line.{Line}
 use Rattle.xemem_language.specs.declared.line.Line.TheVariants as lines
 use Rattle.global_model.specs.Facts.{Facts, facts_after, after_line, after_lines}
-use Rattle.enclave_rules.specs.Blocks.{BlockFact, Absent, Free, Lent, Held}
 use Rattle.global_model.specs.Flow.{IsFlowing}
-use Rattle.enclave_rules.specs.View.{View, seen_lines, host, unborn_view}
+use Rattle.enclave_rules.specs.View.{View, seen_lines, unborn_view}
 use Rattle.global_model.specs.Views.{view_of}
-use Rattle.enclave_rules.specs.Steps.{refusal, answer_lines, touch_answer, way_line, route_lines, state_line, state_lines, bytes_lines}
+use Rattle.enclave_rules.specs.Steps.{refusal, answer_lines, touch_answer, bytes_lines}
 use Rattle.global_model.specs.Known.{IsAnswered, at_born}
 use Rattle.global_model.specs.Due.{command_lines, step_lines, journal_of}
 use Rattle.global_model.specs.Place.{IsPlaced, IsPlacedAfter}
