@@ -1,6 +1,7 @@
 -- What an enclave knows, and what a line of its own changes in it.
 use Rattle.std.specs.Prelude.{◌≡◌, ◌+◌, ◌-◌, ℕ, List, [], ◌∷◌, ◌++◌, length, drop, map, Bool, true, false, ◌||◌, ◌==◌, if◌then◌else◌, Option, None, Some, slice_set, slice_index_or}
 use Rattle.std.specs.List.{range_with_len, flat_map, AllByRecursion}
+use Rattle.std.specs.Option.{option_map_or}
 use Rattle.xm_num.specs.declared.Enclave.{Enclave}
 use Rattle.xm_num.specs.declared.Kind.{Kind}
 use Rattle.xm_num.specs.declared.Kind.TheVariants as kinds
@@ -133,24 +134,32 @@ abbrev pub own_lines : View → List Line → View
 own_lines v [] = v
 own_lines v (line ∷ journal) = own_lines (own_line v line) journal
 
--- the line is at the enclave: its step wrote it; a birth is also at the parent and at the host
+-- whose line it is: the enclave whose step wrote it, where one did
+abbrev pub writer_of : Line → Option Enclave
+writer_of (lines.Born child kind parent ns blocks) = Some child
+writer_of (lines.Told of dead) = Some of
+writer_of (lines.Admitted of) = Some of
+writer_of (lines.Proc of p uid gid) = Some of
+writer_of (lines.Alloc of p page frames) = Some of
+writer_of (lines.Touched of p page frame) = Some of
+writer_of (lines.Sent x y r) = Some x
+writer_of (lines.Took x y count) = Some y
+writer_of (lines.Got x y) = Some y
+writer_of (lines.End x y torn) = Some y
+writer_of (lines.Dropped of) = Some of
+writer_of (lines.Asked of by) = Some of
+writer_of (lines.Way of over) = Some of
+writer_of (lines.Back of d over) = Some of
+writer_of (lines.Route of d over) = Some of
+writer_of line = None
+
+abbrev pub is_writer : ℕ → Line → Bool
+is_writer e line = option_map_or (λ of. of.0 == e) (writer_of line) false
+
+-- the line is at the enclave: it wrote it; a birth is also at the parent and at the host
 abbrev pub is_at : Enclave → Line → Bool
 is_at e (lines.Born child kind parent ns blocks) = (child.0 == e.0) || (parent.0 == e.0) || (e.0 == 0)
-is_at e (lines.Told of dead) = of.0 == e.0
-is_at e (lines.Admitted of) = of.0 == e.0
-is_at e (lines.Proc of p uid gid) = of.0 == e.0
-is_at e (lines.Alloc of p page frames) = of.0 == e.0
-is_at e (lines.Touched of p page frame) = of.0 == e.0
-is_at e (lines.Sent x y r) = x.0 == e.0
-is_at e (lines.Took x y count) = y.0 == e.0
-is_at e (lines.Got x y) = y.0 == e.0
-is_at e (lines.End x y torn) = y.0 == e.0
-is_at e (lines.Dropped of) = of.0 == e.0
-is_at e (lines.Asked of by) = of.0 == e.0
-is_at e (lines.Way of over) = of.0 == e.0
-is_at e (lines.Back of d over) = of.0 == e.0
-is_at e (lines.Route of d over) = of.0 == e.0
-is_at e line = false
+is_at e line = is_writer e.0 line
 
 -- what the lines of a journal change in a view: those that are at the enclave, and no others
 abbrev pub seen_lines : View → List Line → View

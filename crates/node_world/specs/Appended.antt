@@ -9,6 +9,7 @@ use Rattle.xemem_language.specs.Calls.{call_of}
 use Rattle.xemem_language.specs.declared.line.Line.{Line}
 use Rattle.xemem_language.specs.declared.line.Line.TheVariants as lines
 use Rattle.xemem_language.specs.Spelling.{line_words}
+use Rattle.enclave_rules.specs.View.{is_writer}
 use Rattle.global_model.specs.Journals.{command_at}
 
 -- the enclave doesn't live: the world refuses so, and no node does
@@ -25,23 +26,16 @@ abbrev pub refuses : ℕ → Option Command → Cause → Bool
 refuses e None cause = false
 refuses e (Some command) cause = option_map_or (refuses_call e cause) (call_of command) false
 
+-- the world writes what a touch found, and which bytes are taken; all other lines of enclaves are appended by their nodes
+abbrev pub is_worlds : Line → Bool
+is_worlds (lines.Touched of p page frame) = true
+is_worlds (lines.Took x y count) = true
+is_worlds line = false
+
 -- the enclave's node appended this line behind a past, the newest line first
 abbrev pub is_by : ℕ → List Line → Line → Bool
 is_by e past (lines.Refused cause) = refuses e (command_at past) cause
-is_by e past (lines.Born child kind parent ns blocks) = child.0 == e
-is_by e past (lines.Told of dead) = of.0 == e
-is_by e past (lines.Admitted of) = of.0 == e
-is_by e past (lines.Proc of p uid gid) = of.0 == e
-is_by e past (lines.Alloc of p page frames) = of.0 == e
-is_by e past (lines.Sent x y r) = x.0 == e
-is_by e past (lines.Got x y) = y.0 == e
-is_by e past (lines.End x y torn) = y.0 == e
-is_by e past (lines.Dropped of) = of.0 == e
-is_by e past (lines.Asked of by) = of.0 == e
-is_by e past (lines.Way of over) = of.0 == e
-is_by e past (lines.Back of d over) = of.0 == e
-is_by e past (lines.Route of d over) = of.0 == e
-is_by e past line = false
+is_by e past line = not (is_worlds line) && is_writer e line
 
 -- how many words the lines of a past have that the enclave's node appended
 abbrev pub words_by : ℕ → List Line → ℕ
