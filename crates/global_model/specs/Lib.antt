@@ -6,6 +6,7 @@ pub use Rattle.enclave_rules.specs.Blocks
 pub use Rattle.enclave_rules.specs.Pages
 pub use Rattle.enclave_rules.specs.View
 pub use Rattle.enclave_rules.specs.Steps
+pub use Rattle.enclave_rules.specs.Calls
 pub mod Facts
 pub mod Journals
 pub mod Views
