@@ -64,24 +64,25 @@ IsOwned G own = G.block (own.frame.0 / 64) ≡ Lent own.enclave.0
 pub record IsSound (G : Facts) : Type 0 where
   pub owned : All (IsOwned G) G.own
 
--- an own page with the frame of a row, which has what all own pages have
-record IsBehind (P : OwnPage → Type 0) (page : Page) : Type 0 where
-  own : OwnPage
-  has : P own
-  is : own_page own.frame ≡ page
+-- an own page with the number and the frame of a row, which has what all own pages have
+pub record IsBehind (P : OwnPage → Type 0) (k : ℕ) (page : Page) : Type 0 where
+  pub own : OwnPage
+  pub has : P own
+  pub number : own.page ≡ k
+  pub is : own_page own.frame ≡ page
 
 behind_row : Laws → (P : OwnPage → Type 0) (owns : List OwnPage) (rows : List (ℕ × Page)) (k : ℕ) (page : Page) → All P owns
-    → (at rows k ≡ Some page → IsBehind P page) → at (with_own rows owns) k ≡ Some page → IsBehind P page
+    → (at rows k ≡ Some page → IsBehind P k page) → at (with_own rows owns) k ≡ Some page → IsBehind P k page
 behind_row laws P [] rows k page all before is = before is
 behind_row laws P (own ∷ owns) rows k page all before is =
-    behind_row laws P owns (put rows own.page (own_page own.frame)) k page (All-tail P own owns all) (λ e. by (eqb own.page k) (sym (laws.row.pages rows own.page k (own_page own.frame)) ∙ e)) is
+    behind_row laws P owns (put rows own.page (own_page own.frame)) k page (All-tail P own owns all) (λ e. by (eqb own.page k) refl (sym (laws.row.pages rows own.page k (own_page own.frame)) ∙ e)) is
   where
-    by : (b : Bool) → cond b (Some (own_page own.frame)) (at rows k) ≡ Some page → IsBehind P page
-    by true e = let same : own_page own.frame ≡ page = cc in record { own = own; has = All-head P own owns all; is = same }
-    by false e = before e
+    by : (b : Bool) → eqb own.page k ≡ b → cond b (Some (own_page own.frame)) (at rows k) ≡ Some page → IsBehind P k page
+    by true number e = let same : own_page own.frame ≡ page = cc in record { own = own; has = All-head P own owns all; number = eqb-true own.page k number; is = same }
+    by false number e = before e
 
-behind_page : Laws → (P : OwnPage → Type 0) (owns : List OwnPage) (k : ℕ) (page : Page) → All P owns → at (with_own [] owns) k ≡ Some page
-    → IsBehind P page
+pub behind_page : Laws → (P : OwnPage → Type 0) (owns : List OwnPage) (k : ℕ) (page : Page) → All P owns → at (with_own [] owns) k ≡ Some page
+    → IsBehind P k page
 unfolding at
 behind_page laws P owns k page all is = behind_row laws P owns [] k page all (λ none. cc) is
 
@@ -171,7 +172,7 @@ any_has P q (x ∷ xs) all is = by (λ e. any_has P q xs (All-tail P x xs all) e
     by more true passes e = record { item = x; passes = passes; has = All-head P x xs all }
     by more false passes e = more e
 
-All-range : (a n : ℕ) → All (λ k. (a ≤ k) × (k < a + n)) (range_with_len a n)
+pub All-range : (a n : ℕ) → All (λ k. (a ≤ k) × (k < a + n)) (range_with_len a n)
 All-range a zero = All-nil _
 All-range a (suc n) =
     let first : (a ≤ a) × (a < a + suc n) = (omega arith, omega arith) in

@@ -5,3 +5,6 @@ pub mod Counted
 pub mod Legal
 pub mod Told
 pub mod Spelled
+pub mod Fit
+pub mod Steady
+pub mod Fitting

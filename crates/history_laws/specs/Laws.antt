@@ -1,11 +1,14 @@
 -- The laws on which those of histories rest, as the functions of the crates below ensure them.
-use Rattle.std.specs.Prelude.{◌≡◌, ℕ, List, [], ◌∷◌, ◌++◌, ◌==◌, drop, Bool, false, Some, None, if◌then◌else◌}
+use Rattle.std.specs.Prelude.{◌≡◌, ◌<◌, ℕ, List, [], ◌∷◌, ◌++◌, ◌==◌, drop, Bool, false, true, Some, None, if◌then◌else◌}
+use Rattle.std.specs.List.{AllByRecursion}
 use Rattle.xm_num.specs.declared.Enclave.{Enclave}
 use Rattle.xm_num.specs.declared.Page.{Page}
 use Rattle.xm_num.specs.declared.Cause.{Cause}
 use Rattle.xm_num.specs.Rows.{at, put}
 use Rattle.xemem_language.specs.declared.command.Command.{Command}
 use Rattle.xemem_language.specs.declared.line.Line.{Line}
+use Rattle.xemem_language.specs.declared.record.Record.{Record}
+use Rattle.xemem_wire.specs.Spelling.{is_valid, spelling_of}
 use Rattle.global_model.specs.Facts.{Facts, facts_after, after_lines, facts_at}
 use Rattle.global_model.specs.Journals.{do_commands, onto}
 use Rattle.global_model.specs.Carriage.{IsCarried}
@@ -38,8 +41,13 @@ pub record RowLaws : Type 0 where
   pub ways : (table : List (ℕ × Enclave)) (k q : ℕ) (v : Enclave) → at (put table k v) q ≡ (if k == q then Some v else at table q)
   pub pages : (table : List (ℕ × Page)) (k q : ℕ) (v : Page) → at (put table k v) q ≡ (if k == q then Some v else at table q)
 
+-- the bytes of records
+pub record WireLaws : Type 0 where
+  pub bytes : (r : Record) → is_valid r ≡ true → AllByRecursion (λ byte. byte < 256) (spelling_of r)
+
 pub record Laws : Type 0 where
   pub past : PastLaws
   pub journal : JournalLaws
   pub act : ActLaws
   pub row : RowLaws
+  pub wire : WireLaws

@@ -3,3 +3,4 @@ pub mod History
 pub mod Ways
 pub mod Counts
 pub mod Laws
+pub mod Fitting

@@ -4,11 +4,13 @@ ghost use Rattle.xm_num.specs.Rows.{at};
 ghost use Rattle.xemem_language.specs.declared.command.Command.{Command as Commands};
 ghost use Rattle.xemem_language.specs.declared.line.Line.{Line as JournalLine};
 ghost use Rattle.xemem_language.specs.Ranges.{IsSpelled};
+ghost use Rattle.line_reader.specs.Typed.{IsTyped};
 ghost use Rattle.global_model.specs.Place.{IsPlaced};
 ghost use Rattle.global_model.specs.Facts.{facts_at};
 ghost use Rattle.global_model.specs.Due.{journal_of};
 ghost use Rattle.global_model.specs.Journals.{do_commands};
 ghost use Rattle.history_laws.specs.History.{IsHistory, IsLegal, IsTold, IsWhole};
+ghost use Rattle.history_laws.specs.Fitting.{IsCountable, IsFitting};
 ghost use Rattle.history_laws.specs.Ways.{way_heard, back_heard, route_heard};
 ghost use Rattle.history_laws.specs.Counts.{IsLimited, births_in, starts_in, starts_by, has_server};
 ghost use Rattle.history_laws.specs.Laws.{Laws};
@@ -17,6 +19,7 @@ use global_model::{
     acts_are_plain, journals_are_carried, journals_are_rested, journals_grow, pasts_grow,
     refusals_come_first,
 };
+use xemem_wire::laws::spelling_length;
 use xm_num::laws::rows;
 use xm_num::{Enclave, Page};
 
@@ -31,6 +34,7 @@ fn laws()
     refusals_come_first();
     rows::<Enclave>();
     rows::<Page>();
+    spelling_length();
 }
 
 /// Exactly one journal is told and whole and has given commands in its `do` lines.
@@ -79,6 +83,25 @@ pub fn journals_are_spelled()
     ensures { (commands : List Commands) → IsPlaced commands → All IsSpelled (journal_of commands) }
 {
     laws();
+}
+
+/// Each number of a line fits the type of its field, where few lines stand before it.
+pub fn journals_fit()
+    ensures { (commands : List Commands) → IsPlaced commands → IsFitting (journal_of commands) }
+{
+    laws();
+    journals_are_rested();
+}
+
+/// A journal that is told, wherever it ends, can be spelled: each of its lines has a spelling, and in one that isn't too long
+/// each number fits the type of its field.
+pub fn told_are_spelled()
+    ensures spelled { (journal : List JournalLine) → IsTold journal → IsPlaced (do_commands journal) → All IsSpelled journal }
+    ensures typed { (journal : List JournalLine) → IsTold journal → IsPlaced (do_commands journal) → IsCountable journal → All IsTyped journal }
+{
+    laws();
+    journals_are_spelled();
+    journals_fit();
 }
 
 /// The neighbours over which an enclave's ways go are those of which it heard last.

@@ -1,0 +1,269 @@
+-- What an enclave writes for records, and a delivery or a settle, is steady where the facts fit.
+use Rattle.std.proofs.Common.{◌≡◌, ◌+◌, ◌-◌, ◌<◌, ◌≤◌, ◌^◌, ℕ, zero, suc, min, List, [], ◌∷◌, ◌++◌, length, drop, filter, Bool, true, false, cond, leb, eqb, not, ◌&&◌, ltb, is_some, Option, None, Some, if◌then◌else◌, All, refl, sym, ap, subst, arith}
+use Rattle.std.specs.Prelude.{◌==◌}
+use Rattle.std.specs.List.{range_with_len, flat_map, slice_get}
+use Rattle.std.specs.Option.{option_map_or}
+use Rattle.std.specs.Map.{values_of, keys_of, lookup}
+use Rattle.std.specs.Ordering.{nat_cmp}
+use Rattle.std.specs.BTreeMap.{is_at}
+use Rattle.std.proofs.lemmas.Bool.{leb-true, le-leb, ltb-true, eqb-true, and_parts}
+use Rattle.std.proofs.lemmas.List.Elements.{All-nil, All-cons, All-head, All-tail, All-filter, All-weaker}
+use Rattle.std.proofs.lemmas.Map.Views.{All-map-remove_entry}
+use Rattle.xm_num.specs.declared.Enclave.{Enclave}
+use Rattle.xm_num.specs.Rows.{at, less}
+use Rattle.xemem_language.specs.declared.record.Record.{Record}
+use Rattle.xemem_language.specs.declared.record.Body.{Body}
+use Rattle.xemem_language.specs.declared.record.Body.TheVariants as bodies
+use Rattle.xemem_language.specs.declared.line.Line.{Line}
+use Rattle.xemem_language.specs.declared.line.Line.TheVariants as lines
+use Rattle.xemem_wire.specs.Table.{kind_of, is_built, is_call, has_call, is_destination, is_enclave, is_undirected}
+use Rattle.xemem_wire.specs.Spelling.{is_valid, AreValid}
+use Rattle.line_reader.specs.Typed.{Is16, Is32, IsTypedBody}
+use Rattle.enclave_rules.specs.View.{View, place_among}
+use Rattle.enclave_rules.specs.Steps.{query_of, here_of, register_of, admit_of, knows_way, is_stray, drop_lines, query_lines, told_askers, here_lines, passed_lines, register_lines, admit_over, admit_to, body_lines, record_lines}
+use Rattle.global_model.specs.Facts.{Facts, ChannelFact, after_line, after_lines, fact_of}
+use Rattle.global_model.specs.Channels.{size_of, waiting_bytes, whole_records, arriving}
+use Rattle.global_model.specs.Views.{view_of}
+use Rattle.global_model.specs.Due.{got_lines, took_lines, deliver_lines, next_rest, channels_of, waits, waiting_channels, first_waiting, settle_end, settle_from}
+use Rattle.history_laws.proofs.Fit.{IsNumber, AllNumbers, IsFit, IsSteady, AreSteady, fit_line, fit_lines}
+use Rattle.history_laws.proofs.Legal.{All-range}
+
+-- ---- lists of lines
+
+pub steady_append : (ls ms : List Line) → AreSteady ls → AreSteady ms → AreSteady (ls ++ ms)
+steady_append [] ms first more = more
+steady_append (l ∷ ls) ms first more = (first.0, steady_append ls ms first.1 more)
+
+pub steady_either : (b : Bool) (ls ms : List Line) → AreSteady ls → AreSteady ms → AreSteady (if b then ls else ms)
+steady_either true ls ms left right = left
+steady_either false ls ms left right = right
+
+-- ---- records
+
+pub valid_query : (e : Enclave) → IsNumber e → is_valid (query_of e) ≡ true
+unfolding is_valid
+valid_query e number = rw (le-leb e.0 255 number) refl
+
+valid_here : (e : Enclave) → IsNumber e → is_valid (here_of e) ≡ true
+unfolding is_valid
+valid_here e number = rw (le-leb e.0 255 number) refl
+
+valid_register : (e : Enclave) → IsNumber e → is_valid (register_of e) ≡ true
+unfolding is_valid
+valid_register e number = rw (le-leb e.0 255 number) refl
+
+valid_admit : (e d : Enclave) → IsNumber e → IsNumber d → is_valid (admit_of e d) ≡ true
+unfolding is_valid
+valid_admit e d number dest = rw (le-leb e.0 255 number, le-leb d.0 255 dest) refl
+
+-- the numbers of a valid record
+pub record HasNumbers (r : Record) : Type 0 where
+  pub origin : IsNumber r.origin
+  pub dest : (d : Enclave) → r.dest ≡ Some d → IsNumber d
+  pub call : Is32 r.call
+  pub body : IsTypedBody r.body
+
+typed_body : (body : Body) → is_built (kind_of body) ≡ true → IsTypedBody body
+typed_body bodies.Query built = tt
+typed_body bodies.Here built = tt
+typed_body bodies.Register built = tt
+typed_body bodies.Admit built = tt
+typed_body _ built = cc
+
+typed_call : (serves : Bool) (call : ℕ) → cond serves (leb 1 call && ltb call (2 ^ 32)) (eqb call 0) ≡ true → Is32 call
+typed_call true call is = let low = ltb-true call (2 ^ 32) (and_parts (leb 1 call) (ltb call (2 ^ 32)) is).1 in omega (arith, low)
+typed_call false call is = let none = eqb-true call 0 is in omega (arith, none)
+
+typed_dest : (kind : ℕ) (dest : Option Enclave) → is_destination kind dest ≡ true → (d : Enclave) → dest ≡ Some d → IsNumber d
+typed_dest kind None is d some = cc
+typed_dest kind (Some e) is d some =
+    let same : e ≡ d = cc in
+    subst IsNumber same (leb-true e.0 255 (and_parts (not (is_undirected kind)) (is_enclave e.0) is).1)
+
+pub valid_numbers : (r : Record) → is_valid r ≡ true → HasNumbers r
+unfolding is_valid
+valid_numbers r valid =
+    let three = and_parts _ _ valid in
+    let two = and_parts _ _ three.0 in
+    let one = and_parts _ _ two.0 in
+    record {
+      origin = leb-true r.origin.0 255 one.1;
+      dest = typed_dest (kind_of r.body) r.dest two.1;
+      call = typed_call (has_call (kind_of r.body)) r.call three.1;
+      body = typed_body r.body one.0;
+    }
+
+-- ---- rows
+
+less_numbers : (rows : List (ℕ × Enclave)) (k : ℕ) → AllNumbers rows → AllNumbers (less rows k)
+unfolding less
+less_numbers rows k all = All-map-remove_entry (is_at (nat_cmp k)) (λ row. row.1) IsNumber rows all
+
+found_number : (test : ℕ → Bool) (rows : List (ℕ × Enclave)) (x : Enclave) → AllNumbers rows → lookup test rows ≡ Some x → IsNumber x
+found_number test [] x all is = cc
+found_number test (row ∷ rows) x all is = by (test row.0) (found_number test rows x (All-tail IsNumber row.1 (values_of rows) all)) is
+  where
+    by : (b : Bool) → (lookup test rows ≡ Some x → IsNumber x) → cond b (Some row.1) (lookup test rows) ≡ Some x → IsNumber x
+    by true later found = let same : row.1 ≡ x = cc in subst IsNumber same (All-head IsNumber row.1 (values_of rows) all)
+    by false later found = later found
+
+at_number : (rows : List (ℕ × Enclave)) (k : ℕ) (x : Enclave) → AllNumbers rows → at rows k ≡ Some x → IsNumber x
+unfolding at
+at_number rows k x all is = found_number (is_at (nat_cmp k)) rows x all is
+
+-- ---- what is written for a record
+
+-- what a view knows of enclaves fits
+pub record IsFitView (v : View) : Type 0 where
+  pub me : IsNumber v.me
+  pub way : (x : Enclave) → v.way ≡ Some x → IsNumber x
+  pub askers : AllNumbers v.askers
+  pub backs : AllNumbers v.backs
+
+module _ (v : View) (fit : IsFitView v) where
+  steady_drop : AreSteady (drop_lines v)
+  steady_drop = (fit.me, tt)
+
+  steady_query : (from : Enclave) → IsNumber from → AreSteady (query_lines v from)
+  steady_query from near =
+      steady_either (knows_way v) (lines.Sent v.me from (here_of v.me) ∷ []) (lines.Asked v.me from ∷ []) ((fit.me, near, valid_here v.me fit.me), tt) ((fit.me, near), tt)
+
+  steady_askers : (rows : List (ℕ × Enclave)) → AllNumbers rows → AreSteady (told_askers v rows)
+  steady_askers [] all = tt
+  steady_askers (row ∷ rows) all =
+      ((fit.me, All-head IsNumber row.1 (values_of rows) all, valid_here v.me fit.me), steady_askers rows (All-tail IsNumber row.1 (values_of rows) all))
+
+  steady_here : (from : Enclave) → IsNumber from → AreSteady (here_lines v from)
+  steady_here from near =
+      let others = less v.askers (place_among v.parent from) in
+      let last = lines.Sent v.me from (register_of v.me) ∷ [] in
+      steady_either (knows_way v) (drop_lines v) (lines.Way v.me from ∷ told_askers v others ++ last) steady_drop
+      ((fit.me, near), steady_append (told_askers v others) last (steady_askers others (less_numbers v.askers _ fit.askers)) ((fit.me, near, valid_register v.me fit.me), tt))
+
+  steady_passed : (from : Enclave) (over : Option Enclave) (r : Record) → ((x : Enclave) → over ≡ Some x → IsNumber x) → is_valid r ≡ true
+      → AreSteady (passed_lines v from over r)
+  steady_passed from None r near valid = steady_drop
+  steady_passed from (Some over) r near valid =
+      steady_either (over.0 == from.0) (drop_lines v) (lines.Sent v.me over r ∷ []) steady_drop ((fit.me, near over refl, valid), tt)
+
+  steady_register : (from : Enclave) (r : Record) → IsNumber from → is_valid r ≡ true → AreSteady (register_lines v from r)
+  steady_register from r near valid =
+      let origin = (valid_numbers r valid).origin in
+      ((fit.me, origin, near), steady_either v.holder (lines.Route v.me r.origin from ∷ lines.Sent v.me from (admit_of v.me r.origin) ∷ []) (passed_lines v from v.way r)
+      ((fit.me, origin, near), ((fit.me, near, valid_admit v.me r.origin fit.me origin), tt))
+      (steady_passed from v.way r fit.way valid))
+
+  steady_over : (from d : Enclave) (r : Record) (over : Option Enclave) → IsNumber d → ((x : Enclave) → over ≡ Some x → IsNumber x) → is_valid r ≡ true
+      → AreSteady (admit_over v from d r over)
+  steady_over from d r None dest near valid = steady_drop
+  steady_over from d r (Some over) dest near valid = ((fit.me, dest, near over refl), steady_passed from (Some over) r near valid)
+
+  steady_admit : (from : Enclave) (r : Record) (dest : Option Enclave) → ((d : Enclave) → dest ≡ Some d → IsNumber d) → is_valid r ≡ true
+      → AreSteady (admit_to v from r dest)
+  steady_admit from r None dest valid = steady_drop
+  steady_admit from r (Some d) dest valid =
+      steady_either (d.0 == v.me.0) (if v.admitted then drop_lines v else lines.Admitted v.me ∷ []) (admit_over v from d r (at v.backs d.0))
+      (steady_either v.admitted (drop_lines v) (lines.Admitted v.me ∷ []) steady_drop (fit.me, tt))
+      (steady_over from d r (at v.backs d.0) (dest d refl) (λ x is. at_number v.backs d.0 x fit.backs is) valid)
+
+  steady_body : (from : Enclave) (r : Record) (body : Body) → IsNumber from → is_valid r ≡ true → AreSteady (body_lines v from r body)
+  steady_body from r bodies.Query near valid = steady_query from near
+  steady_body from r bodies.Here near valid = steady_here from near
+  steady_body from r bodies.Register near valid = steady_register from r near valid
+  steady_body from r bodies.Admit near valid = steady_admit from r r.dest (valid_numbers r valid).dest valid
+  steady_body from r _ near valid = steady_drop
+
+  pub steady_record : (from : Enclave) (r : Record) → IsNumber from → is_valid r ≡ true → AreSteady (record_lines v from r)
+  steady_record from r near valid = steady_either (is_stray v r) (drop_lines v) (body_lines v from r r.body) steady_drop (steady_body from r r.body near valid)
+
+pub fit_view : (G : Facts) (y : Enclave) → IsFit G → IsNumber y → IsFitView (view_of G y)
+fit_view G y fit number = record { me = number; way = fit.known.over y.0; askers = fit.known.asked y.0; backs = fit.known.back y.0 }
+
+-- ---- deliveries
+
+valid-whole : (n : ℕ) (rs : List Record) → AreValid rs → AreValid (whole_records n rs)
+valid-whole n [] all = tt
+valid-whole n (r ∷ rs) all = by (leb (size_of r) n) (valid-whole (n - size_of r) rs all.1)
+  where
+    by : (b : Bool) → AreValid (whole_records (n - size_of r) rs) → AreValid (cond b (r ∷ whole_records (n - size_of r) rs) [])
+    by true later = (all.0, later)
+    by false later = tt
+
+valid-drop : (k : ℕ) (rs : List Record) → AreValid rs → AreValid (drop k rs)
+valid-drop zero rs all = all
+valid-drop (suc k) [] all = tt
+valid-drop (suc k) (r ∷ rs) all = valid-drop k rs all.1
+
+valid_arriving : (c : ChannelFact) → AreValid c.sent → AreValid (arriving c)
+valid_arriving c all = valid-drop c.got (whole_records c.taken c.sent) (valid-whole c.taken c.sent all)
+
+steady_got : (G : Facts) (x y : Enclave) (rs : List Record) → IsFit G → IsNumber x → IsNumber y → AreValid rs → AreSteady (got_lines G x y rs)
+steady_got G x y [] fit from to valid = tt
+steady_got G x y (r ∷ rs) fit from to valid =
+    let own = lines.Got x y ∷ record_lines (view_of G y) x r in
+    let steady : AreSteady own = ((from, to), steady_record (view_of G y) (fit_view G y fit to) x r from valid.0) in
+    steady_append own (got_lines (after_lines G own) x y rs) steady (steady_got (after_lines G own) x y rs (fit_lines G own fit steady) from to valid.1)
+
+steady_took : (G : Facts) (x y : Enclave) (count : ℕ) → IsFit G → IsNumber x → IsNumber y → AreSteady (took_lines G x y count)
+steady_took G x y count fit from to =
+    let H = after_line G (lines.Took x y count) in
+    let after : IsFit H = fit_line G fit (lines.Took x y count) (from, to) in
+    ((from, to), steady_got H x y (arriving (H.channel x.0 y.0)) after from to (valid_arriving (H.channel x.0 y.0) (after.channels x.0 y.0)))
+
+pub steady_deliver : (G : Facts) (x y : Enclave) (count : ℕ) → IsFit G → IsNumber x → IsNumber y → AreSteady (deliver_lines G x y count)
+steady_deliver G x y count fit from to =
+    let waiting = length (waiting_bytes G x.0 y.0) in
+    steady_either (waiting == 0) (lines.Idle x y ∷ []) (took_lines G x y (min count waiting)) ((from, to), tt) (steady_took G x y (min count waiting) fit from to)
+
+-- ---- settles
+
+-- both ends of a channel
+abbrev AreNumbers : Enclave × Enclave → Type 0
+AreNumbers ends = IsNumber ends.0 × IsNumber ends.1
+
+channels_fit : (G : Facts) → IsFit G → (cs : List ℕ) → All (λ c. c ≤ 255) cs → All AreNumbers (flat_map (channels_of G) cs)
+channels_fit G fit [] low = All-nil AreNumbers
+channels_fit G fit (c ∷ cs) low =
+    let child : c ≤ 255 = All-head (λ n. n ≤ 255) c cs low in
+    let parent : Enclave = (fact_of (G.enclave c)).parent in
+    let above : IsNumber parent = fit.tree.parent c in
+    let up : Enclave × Enclave = (record { 0 = c }, parent) in
+    let down : Enclave × Enclave = (parent, record { 0 = c }) in
+    let more = flat_map (channels_of G) cs in
+    All-cons AreNumbers up (down ∷ more) (child, above) (All-cons AreNumbers down more (above, child) (channels_fit G fit cs (All-tail (λ n. n ≤ 255) c cs low)))
+
+first_has : {X : Type 0} (P : X → Type 0) (xs : List X) (x : X) → All P xs → slice_get xs 0 ≡ Some x → P x
+first_has P [] x all is = cc
+first_has P (y ∷ ys) x all is = let same : y ≡ x = cc in subst P same (All-head P y ys all)
+
+first_fits : (G : Facts) (channel : Enclave × Enclave) → IsFit G → first_waiting G ≡ Some channel → AreNumbers channel
+first_fits G channel fit is =
+    let most = fit.tree.most in
+    let low = All-weaker (λ k. (1 ≤ k) × (k < 1 + (G.born - 1))) (λ k. k ≤ 255) (λ k h. omega (arith, h.0, h.1, most)) (range_with_len 1 (G.born - 1)) (All-range 1 (G.born - 1)) in
+    let all = channels_fit G fit (range_with_len 1 (G.born - 1)) low in
+    first_has AreNumbers (waiting_channels G) channel (All-filter (waits G) AreNumbers (flat_map (channels_of G) (range_with_len 1 (G.born - 1))) all) is
+
+steady_end : (G : Facts) (made : ℕ) → AreSteady (settle_end G made ∷ [])
+steady_end G made = (by (is_some (first_waiting G)), tt)
+  where
+    by : (b : Bool) → IsSteady (if b then lines.Waiting made else lines.Settled made)
+    by true = tt
+    by false = tt
+
+-- the rest of a settle, where that channel is the first in which something waits
+abbrev settle_at : ℕ → ℕ → Facts → Option (Enclave × Enclave) → List Line
+settle_at left made G first =
+    option_map_or (λ channel. let own = deliver_lines G channel.0 channel.1 (next_rest G channel.0 channel.1) in own ++ settle_from left (made + 1) (after_lines G own)) first (settle_end G made ∷ [])
+
+pub steady_settle : (left made : ℕ) (G : Facts) → IsFit G → AreSteady (settle_from left made G)
+steady_settle zero made G fit = steady_end G made
+steady_settle (suc left) made G fit = by (first_waiting G) refl (steady_settle left (made + 1))
+  where
+    by : (o : Option (Enclave × Enclave)) → first_waiting G ≡ o → ((H : Facts) → IsFit H → AreSteady (settle_from left (made + 1) H))
+        → AreSteady (settle_at left made G o)
+    by None is more = steady_end G made
+    by (Some channel) is more =
+        let own = deliver_lines G channel.0 channel.1 (next_rest G channel.0 channel.1) in
+        let ends = first_fits G channel fit is in
+        let steady : AreSteady own = steady_deliver G channel.0 channel.1 (next_rest G channel.0 channel.1) fit ends.0 ends.1 in
+        steady_append own (settle_from left (made + 1) (after_lines G own)) steady (more (after_lines G own) (fit_lines G own fit steady))
