@@ -1,5 +1,5 @@
 -- Facts whose numbers fit the types of lines, and the lines that leave them so.
-use Rattle.std.proofs.Common.{◌≡◌, ◌+◌, ◌≤◌, ℕ, List, [], ◌∷◌, ◌++◌, Bool, true, false, cond, eqb, ◌&&◌, is_some, Option, None, Some, All, refl, sym, subst, arith}
+use Rattle.std.proofs.Common.{◌≡◌, ◌≤◌, ℕ, List, [], ◌∷◌, ◌++◌, true, eqb, ◌&&◌, is_some, Option, None, Some, All, sym, subst}
 use Rattle.std.specs.List.{AllByRecursion}
 use Rattle.std.specs.Map.{keys_of, values_of}
 use Rattle.std.specs.Ordering.{nat_cmp}
@@ -7,15 +7,13 @@ use Rattle.std.proofs.lemmas.Bool.{eqb-true, cond_both}
 use Rattle.std.proofs.lemmas.List.Elements.{All-nil, All-cons, All-append}
 use Rattle.std.proofs.lemmas.Map.Views.{All-keys-insert_entry, All-values-insert_entry}
 use Rattle.xm_num.specs.declared.Enclave.{Enclave}
-use Rattle.xm_num.specs.declared.Block.{Block}
-use Rattle.xm_num.specs.declared.Kind.{Kind}
 use Rattle.xm_num.specs.Rows.{put}
 use Rattle.xemem_language.specs.declared.record.Record.{Record}
 use Rattle.xemem_language.specs.declared.line.Line.{Line}
 use Rattle.xemem_language.specs.declared.line.Line.TheVariants as lines
 use Rattle.xemem_wire.specs.Spelling.{is_valid, AreValid}
 use Rattle.line_reader.specs.Typed.{Is16, Is32}
-use Rattle.enclave_rules.specs.Blocks.{BlockFact, Absent, Free, Lent, Held, is_listed}
+use Rattle.enclave_rules.specs.Blocks.{BlockFact, Absent, Free, Lent, Held}
 use Rattle.global_model.specs.Facts.{ChannelFact, EnclaveFact, Facts, OwnPage, after_line, after_lines, as_admitted, at_number, at_pair, fact_of, with_got, with_sent, with_taken}
 
 -- ---- what fits
@@ -94,14 +92,14 @@ valid-sent : (rs : List Record) (r : Record) → AreValid rs → is_valid r ≡ 
 valid-sent [] r all valid = (valid, tt)
 valid-sent (s ∷ ss) r all valid = (all.0, valid-sent ss r all.1 valid)
 
--- ---- steady lines: they bear no enclave, start no process and allocate nothing, and their numbers, but for counts, fit
+-- ---- steady lines: they bear no enclave, start no process and allocate nothing, and their numbers fit
 
 abbrev pub IsSteady : Line → Type 0
 IsSteady (lines.Told e of) = IsNumber e × IsNumber of
 IsSteady (lines.Admitted e) = IsNumber e
 IsSteady (lines.Touched e p page frame) = Is16 e.0 × Is32 p.0 × Is32 page.0 × Is32 frame.0
 IsSteady (lines.Sent x y r) = IsNumber x × IsNumber y × (is_valid r ≡ true)
-IsSteady (lines.Took x y count) = IsNumber x × IsNumber y
+IsSteady (lines.Took x y count) = IsNumber x × IsNumber y × Is32 count
 IsSteady (lines.Idle x y) = IsNumber x × IsNumber y
 IsSteady (lines.Got x y) = IsNumber x × IsNumber y
 IsSteady (lines.Dropped e) = IsNumber e
@@ -109,8 +107,8 @@ IsSteady (lines.Asked e by) = IsNumber e × IsNumber by
 IsSteady (lines.Way e over) = IsNumber e × IsNumber over
 IsSteady (lines.Back e of over) = IsNumber e × IsNumber of × IsNumber over
 IsSteady (lines.Route e of over) = IsNumber e × IsNumber of × IsNumber over
-IsSteady (lines.Settled made) = Unit {0}
-IsSteady (lines.Waiting made) = Unit {0}
+IsSteady (lines.Settled made) = Is32 made
+IsSteady (lines.Waiting made) = Is32 made
 IsSteady (lines.AtWay e over) = IsNumber e × IsNumber over
 IsSteady (lines.AtWayOwn e) = IsNumber e
 IsSteady (lines.AtWayNone e) = IsNumber e

@@ -1,10 +1,9 @@
--- The numbers of the lines of a journal fit their types: first each command's, but for counts, and then the counts along the journal.
-use Rattle.std.proofs.Common.{◌≡◌, ◌+◌, ◌-◌, ◌*◌, ◌/◌, ◌<◌, ◌≤◌, ◌^◌, ℕ, zero, suc, List, [], ◌∷◌, ◌++◌, length, take, drop, filter, map, Bool, true, false, cond, leb, ltb, eqb, not, ◌&&◌, is_some, Option, None, Some, if◌then◌else◌, All, refl, sym, ap, ◌∙◌, subst, arith, length-append, length-drop, length-take}
-use Rattle.std.specs.Prelude.{is_none}
-use Rattle.std.specs.List.{AllByRecursion, range_with_len, flat_map, list_any}
+-- The numbers of the lines of a journal fit their types, command by command.
+use Rattle.std.proofs.Common.{◌≡◌, ◌+◌, ◌-◌, ◌*◌, ◌/◌, ◌<◌, ◌≤◌, ◌^◌, ℕ, zero, suc, List, [], ◌∷◌, ◌++◌, length, take, drop, filter, map, Bool, true, false, leb, ltb, eqb, not, ◌&&◌, is_some, Option, None, Some, if◌then◌else◌, All, refl, sym, ap, ◌∙◌, subst, arith, append-nil, length-append, length-drop, length-take}
+use Rattle.std.specs.List.{AllByRecursion, range_with_len}
 use Rattle.std.specs.Option.{option_map, option_map_or}
 use Rattle.std.specs.Map.{values_of, keys_of}
-use Rattle.std.proofs.lemmas.Bool.{leb-true, leb-false, ltb-true, ltb-false, eqb-true, and_parts, cond_both}
+use Rattle.std.proofs.lemmas.Bool.{leb-true, leb-false, ltb-false, eqb-true, and_parts, cond_both}
 use Rattle.std.proofs.lemmas.List.Concat.{flat_map-append}
 use Rattle.std.proofs.lemmas.List.FromFn.{length-map-range_with_len}
 use Rattle.std.proofs.lemmas.List.Elements.{All-nil, All-cons, All-head, All-tail, All-append, All-map, All-take, All-drop, All-filter, All-weaker}
@@ -27,87 +26,89 @@ use Rattle.xemem_language.specs.declared.line.Line.{Line}
 use Rattle.xemem_language.specs.declared.line.Line.TheVariants as lines
 use Rattle.xemem_language.specs.Spelling.{line_words, words_in}
 use Rattle.xemem_language.specs.Ranges.{IsInRange}
-use Rattle.xemem_wire.specs.Spelling.{spelling_of, header_of, spellings_of, is_valid, AreValid}
+use Rattle.xemem_wire.specs.Spelling.{spelling_of, header_of, spellings_of, AreValid}
 use Rattle.line_reader.specs.Typed.{Is8, Is16, Is32, IsTyped}
 use Rattle.enclave_rules.specs.Blocks.{BlockFact, Absent, Free, Lent, Held, is_listed}
-use Rattle.enclave_rules.specs.Pages.{own_page}
-use Rattle.enclave_rules.specs.View.{View, host}
+use Rattle.enclave_rules.specs.View.{host}
 use Rattle.enclave_rules.specs.Steps.{child_lines, told_lines, adopt_lines, query_of, knows_way, route_lines, bytes_lines, state_line, state_lines}
-use Rattle.global_model.specs.Facts.{ChannelFact, EnclaveFact, Facts, OwnPage, after_line, after_lines, at_number, at_pair, facts_at, no_facts, own_from, fact_of, with_sent, with_taken, with_got, with_lent, is_living_enclave, is_living_process}
-use Rattle.global_model.specs.Space.{Mapping, is_of, with_own, pages_of, mapping_of, space_of, is_unused, unused_frames, free_blocks}
-use Rattle.global_model.specs.Channels.{is_neighbour, was_born, waiting_bytes, waiting_of}
+use Rattle.global_model.specs.Facts.{EnclaveFact, Facts, after_line, after_lines, facts_at, no_facts, own_from, fact_of, with_sent, with_taken, with_got, is_living_enclave, is_living_process}
+use Rattle.global_model.specs.Space.{Mapping, is_of, pages_of, mapping_of, space_of, is_unused, unused_frames, free_blocks}
+use Rattle.global_model.specs.Channels.{is_neighbour, was_born, waiting_bytes}
 use Rattle.global_model.specs.Views.{view_of}
-use Rattle.global_model.specs.Refusals.{when, denies, is_taken, refusal_of}
+use Rattle.global_model.specs.Refusals.{when, is_taken, refusal_of}
 use Rattle.global_model.specs.Place.{may_stand, IsPlacedAfter, IsPlaced}
-use Rattle.global_model.specs.Due.{next_enclave, next_pid, touched_lines, link_lines, acts_of, step_lines, journal_from, journal_of}
-use Rattle.global_model.specs.Carriage.{CarriedAt, IsCarried}
-use Rattle.global_model.specs.Rest.{RestAt, IsRested, lines_since}
-use Rattle.global_model.specs.Journals.{Follows, onto, deliveries_in, do_commands}
-use Rattle.history_laws.specs.Fitting.{FitsAt, IsCountable, IsFitting}
+use Rattle.global_model.specs.Due.{next_enclave, next_pid, touched_lines, acts_of, step_lines, journal_from, journal_of}
+use Rattle.global_model.specs.Journals.{onto}
+use Rattle.history_laws.specs.Fitting.{IsCountable}
 use Rattle.history_laws.specs.Laws.{Laws}
-use Rattle.history_laws.proofs.Follow.{Follows-append, Follows-front}
-use Rattle.history_laws.proofs.Legal.{All-range, IsBehind, behind_page}
-use Rattle.history_laws.proofs.Fit.{IsNumber, AllNumbers, IsLow, IsFitBlock, IsFitPage, IsFit, IsSteady, AreSteady, fit_line, fit_lines, at_number_fits}
-use Rattle.history_laws.proofs.Steady.{steady_append, steady_either, valid_query, HasNumbers, valid_numbers, fit_view, steady_deliver, steady_settle}
+use Rattle.history_laws.proofs.Legal.{All-range, behind_page}
+use Rattle.history_laws.proofs.Fit.{IsNumber, AllNumbers, IsLow, IsFitBlock, IsFitPage, IsFit, IsSteady, AreSteady, fit_line, at_number_fits}
+use Rattle.history_laws.proofs.Steady.{steady_append, steady_either, valid_query, valid_numbers, steady_deliver, steady_settle}
 
--- ---- lines whose numbers fit, but for counts, of which the rule of the line says no more than that they are counted
-
-abbrev IsFitted : List Line → Line → Type 0
-IsFitted past (lines.Took x y count) = Is16 x.0 × Is16 y.0
-IsFitted past (lines.Settled made) = Unit {0}
-IsFitted past (lines.Waiting made) = Unit {0}
-IsFitted past (lines.Bytes x y at bytes) = Is16 x.0 × Is16 y.0 × (at ≤ length (waiting_bytes (facts_at past) x.0 y.0)) × All Is8 bytes
-IsFitted past line = IsTyped line
-
-record IsFittedUpTo (past journal : List Line) : Type 0 where
-  lines : Follows IsFitted past journal
-  fit : IsFit (facts_at (onto journal past))
+-- ---- steady lines
 
 wide : (e : Enclave) → IsNumber e → Is16 e.0
 wide e number = omega (arith, number)
 
-fitted_line : (past : List Line) (l : Line) → IsSteady l → IsFitted past l
-fitted_line past (lines.Told e of) s = (wide e s.0, wide of s.1)
-fitted_line past (lines.Admitted e) s = wide e s
-fitted_line past (lines.Touched e p page frame) s = s
-fitted_line past (lines.Sent x y r) s =
+typed_line : (l : Line) → IsSteady l → IsTyped l
+typed_line (lines.Told e of) s = (wide e s.0, wide of s.1)
+typed_line (lines.Admitted e) s = wide e s
+typed_line (lines.Touched e p page frame) s = s
+typed_line (lines.Sent x y r) s =
     let numbers = valid_numbers r s.2 in
     (wide x s.0, wide y s.1, wide r.origin numbers.origin, numbers.call, numbers.body)
-fitted_line past (lines.Took x y count) s = (wide x s.0, wide y s.1)
-fitted_line past (lines.Idle x y) s = (wide x s.0, wide y s.1)
-fitted_line past (lines.Got x y) s = (wide x s.0, wide y s.1)
-fitted_line past (lines.Dropped e) s = wide e s
-fitted_line past (lines.Asked e by) s = (wide e s.0, wide by s.1)
-fitted_line past (lines.Way e over) s = (wide e s.0, wide over s.1)
-fitted_line past (lines.Back e of over) s = (wide e s.0, wide of s.1, wide over s.2)
-fitted_line past (lines.Route e of over) s = (wide e s.0, wide of s.1, wide over s.2)
-fitted_line past (lines.Settled made) s = tt
-fitted_line past (lines.Waiting made) s = tt
-fitted_line past (lines.AtWay e over) s = (wide e s.0, wide over s.1)
-fitted_line past (lines.AtWayOwn e) s = wide e s
-fitted_line past (lines.AtWayNone e) s = wide e s
-fitted_line past (lines.AtRoute e of over) s = (wide e s.0, wide of s.1, wide over s.2)
-fitted_line past (lines.BlockFree b) s = s
-fitted_line past (lines.BlockLent b e) s = let number = s.1 in (s.0, omega (arith, number))
-fitted_line past (lines.BlockHeld b e) s = let number = s.1 in (s.0, omega (arith, number))
-fitted_line past _ s = absurd s
+typed_line (lines.Took x y count) s = (wide x s.0, wide y s.1, s.2)
+typed_line (lines.Idle x y) s = (wide x s.0, wide y s.1)
+typed_line (lines.Got x y) s = (wide x s.0, wide y s.1)
+typed_line (lines.Dropped e) s = wide e s
+typed_line (lines.Asked e by) s = (wide e s.0, wide by s.1)
+typed_line (lines.Way e over) s = (wide e s.0, wide over s.1)
+typed_line (lines.Back e of over) s = (wide e s.0, wide of s.1, wide over s.2)
+typed_line (lines.Route e of over) s = (wide e s.0, wide of s.1, wide over s.2)
+typed_line (lines.Settled made) s = s
+typed_line (lines.Waiting made) s = s
+typed_line (lines.AtWay e over) s = (wide e s.0, wide over s.1)
+typed_line (lines.AtWayOwn e) s = wide e s
+typed_line (lines.AtWayNone e) s = wide e s
+typed_line (lines.AtRoute e of over) s = (wide e s.0, wide of s.1, wide over s.2)
+typed_line (lines.BlockFree b) s = s
+typed_line (lines.BlockLent b e) s = let number = s.1 in (s.0, omega (arith, number))
+typed_line (lines.BlockHeld b e) s = let number = s.1 in (s.0, omega (arith, number))
+typed_line _ s = absurd s
 
-fitted_steady : (ls past : List Line) → IsFit (facts_at past) → AreSteady ls → IsFittedUpTo past ls
-fitted_steady [] past fit steady = record { lines = tt; fit = fit }
-fitted_steady (l ∷ ls) past fit steady =
-    let more = fitted_steady ls (l ∷ past) (fit_line (facts_at past) fit l steady.0) steady.1 in
-    record { lines = (fitted_line past l steady.0, more.lines); fit = more.fit }
+typed_lines : (ls : List Line) → AreSteady ls → All IsTyped ls
+typed_lines [] steady = All-nil IsTyped
+typed_lines (l ∷ ls) steady = All-cons IsTyped l ls (typed_line l steady.0) (typed_lines ls steady.1)
+
+-- ---- lines behind a past: they are typed where few words stand before their command, and what they leave fits
+
+record IsFittedUpTo (few : Type 0) (past journal : List Line) : Type 0 where
+  typed : few → All IsTyped journal
+  fit : IsFit (facts_at (onto journal past))
+
+fit_onto : (ls past : List Line) → IsFit (facts_at past) → AreSteady ls → IsFit (facts_at (onto ls past))
+fit_onto [] past fit steady = fit
+fit_onto (l ∷ ls) past fit steady = fit_onto ls (l ∷ past) (fit_line (facts_at past) fit l steady.0) steady.1
+
+fitted_steady : (few : Type 0) (ls past : List Line) → IsFit (facts_at past) → AreSteady ls → IsFittedUpTo few past ls
+fitted_steady few ls past fit steady = record { typed = λ is. typed_lines ls steady; fit = fit_onto ls past fit steady }
+
+fitted_cons : (few : Type 0) (l : Line) (ls past : List Line) → IsTyped l → IsFittedUpTo few (l ∷ past) ls → IsFittedUpTo few past (l ∷ ls)
+fitted_cons few l ls past typed more = record { typed = λ is. All-cons IsTyped l ls typed (more.typed is); fit = more.fit }
+
+fitted_one : (few : Type 0) (l : Line) (past : List Line) → IsTyped l → IsFit (facts_at (l ∷ past)) → IsFittedUpTo few past (l ∷ [])
+fitted_one few l past typed fit = fitted_cons few l [] past typed (record { typed = λ is. All-nil IsTyped; fit = fit })
 
 -- a command whose acts fit where it isn't refused
 with_refusal : (c : Command) (past : List Line) → IsFit (facts_at (lines.Do c ∷ past))
-    → (refusal_of (facts_at past) c ≡ None → IsFittedUpTo (lines.Do c ∷ past) (acts_of (facts_at past) c))
-    → IsFittedUpTo past (step_lines (facts_at past) c)
+    → (refusal_of (facts_at past) c ≡ None → IsFittedUpTo (IsCountable past) (lines.Do c ∷ past) (acts_of (facts_at past) c))
+    → IsFittedUpTo (IsCountable past) past (step_lines (facts_at past) c)
 with_refusal c past fit acts = by (refusal_of (facts_at past) c) refl
   where
     by : (o : Option Cause) → refusal_of (facts_at past) c ≡ o
-        → IsFittedUpTo past (lines.Do c ∷ option_map_or (λ cause. lines.Refused cause ∷ []) o (acts_of (facts_at past) c))
-    by None is = let more = acts is in record { lines = (tt, more.lines); fit = more.fit }
-    by (Some cause) is = record { lines = (tt, (tt, tt)); fit = fit }
+        → IsFittedUpTo (IsCountable past) past (lines.Do c ∷ option_map_or (λ cause. lines.Refused cause ∷ []) o (acts_of (facts_at past) c))
+    by None is = fitted_cons (IsCountable past) (lines.Do c) (acts_of (facts_at past) c) past tt (acts is)
+    by (Some cause) is = fitted_cons (IsCountable past) (lines.Do c) (lines.Refused cause ∷ []) past tt (fitted_one (IsCountable past) (lines.Refused cause) (lines.Do c ∷ past) tt fit)
 
 -- ---- conditions that don't hold
 
@@ -154,35 +155,34 @@ fit_born G e kind parent ns blocks fit room number above =
       own = fit.own;
     }
 
-fitted_born : (G : Facts) (past : List Line) (e : Enclave) (kind : Kind) (parent : Enclave) (ns : Bool) (blocks : ℕ) (more : List Line)
+fitted_born : (few : Type 0) (G : Facts) (past : List Line) (e : Enclave) (kind : Kind) (parent : Enclave) (ns : Bool) (blocks : ℕ) (more : List Line)
     → G ≡ facts_at past → IsFit G → G.born ≤ 255 → IsNumber e → IsNumber parent → AreSteady more
-    → IsFittedUpTo past (lines.Born e kind parent ns (take blocks (free_blocks G)) ∷ more)
-fitted_born G past e kind parent ns blocks more is fit room number above steady =
+    → IsFittedUpTo few past (lines.Born e kind parent ns (take blocks (free_blocks G)) ∷ more)
+fitted_born few G past e kind parent ns blocks more is fit room number above steady =
     let line = lines.Born e kind parent ns (take blocks (free_blocks G)) in
     let after : IsFit (facts_at (line ∷ past)) = subst (λ H. IsFit (after_line H line)) is (fit_born G e kind parent ns _ fit room number above) in
-    let rest = fitted_steady more (line ∷ past) after steady in
-    record { lines = ((wide e number, wide parent above, blocks_fit G blocks fit), rest.lines); fit = rest.fit }
+    fitted_cons few line more past (wide e number, wide parent above, blocks_fit G blocks fit) (fitted_steady few more (line ∷ past) after steady)
 
 steady_told : (child : Enclave) (dead : List Enclave) → IsNumber child → All IsNumber dead → AreSteady (told_lines child dead)
 steady_told child [] number all = tt
 steady_told child (d ∷ dead) number all = ((number, All-head IsNumber d dead all), steady_told child dead number (All-tail IsNumber d dead all))
 
 fitted_host : (blocks : ℕ) (ns : Bool) (past : List Line) → IsFit (facts_at past) → (facts_at past).born ≡ 0
-    → IsFittedUpTo past (step_lines (facts_at past) (commands.Host blocks ns))
+    → IsFittedUpTo (IsCountable past) past (step_lines (facts_at past) (commands.Host blocks ns))
 fitted_host blocks ns past fit none =
     with_refusal (commands.Host blocks ns) past fit
-    (λ met. fitted_born (facts_at past) (lines.Do (commands.Host blocks ns) ∷ past) host kinds.Host host ns blocks (if ns then lines.Admitted host ∷ [] else []) refl fit (omega (arith, none)) (omega arith) (omega arith)
+    (λ met. fitted_born (IsCountable past) (facts_at past) (lines.Do (commands.Host blocks ns) ∷ past) host kinds.Host host ns blocks (if ns then lines.Admitted host ∷ [] else []) refl fit (omega (arith, none)) (omega arith) (omega arith)
     (steady_either ns (lines.Admitted host ∷ []) [] (omega arith, tt) tt))
 
 fitted_boot : Laws → (kind : Kind) (parent : Enclave) (blocks : ℕ) (ns : Bool) (past : List Line) → IsFit (facts_at past)
-    → IsFittedUpTo past (step_lines (facts_at past) (commands.Boot kind parent blocks ns))
+    → IsFittedUpTo (IsCountable past) past (step_lines (facts_at past) (commands.Boot kind parent blocks ns))
 fitted_boot laws kind parent blocks ns past fit = with_refusal (commands.Boot kind parent blocks ns) past fit acts
   where
     G : Facts
     G = facts_at past
 
     acts : refusal_of (facts_at past) (commands.Boot kind parent blocks ns) ≡ None
-        → IsFittedUpTo (lines.Do (commands.Boot kind parent blocks ns) ∷ past) (acts_of (facts_at past) (commands.Boot kind parent blocks ns))
+        → IsFittedUpTo (IsCountable past) (lines.Do (commands.Boot kind parent blocks ns) ∷ past) (acts_of (facts_at past) (commands.Boot kind parent blocks ns))
     acts none =
         let H = facts_at past in
         let fourth = when causes.NoBlocks (ltb (length (free_blocks H)) blocks) ∷ [] in
@@ -197,7 +197,7 @@ fitted_boot laws kind parent blocks ns past fit = with_refusal (commands.Boot ki
         let told = told_lines child (H.heard parent.0) in
         let own = child_lines child parent ns in
         let adopted = adopt_lines (view_of H parent) child in
-        fitted_born H (lines.Do (commands.Boot kind parent blocks ns) ∷ past) child kind parent ns blocks ((told ++ own) ++ adopted) refl fit (omega (arith, room)) number above
+        fitted_born (IsCountable past) H (lines.Do (commands.Boot kind parent blocks ns) ∷ past) child kind parent ns blocks ((told ++ own) ++ adopted) refl fit (omega (arith, room)) number above
         (steady_append (told ++ own) adopted
         (steady_append told own (steady_told child (H.heard parent.0) number (fit.known.dead parent.0))
         (steady_either ns (lines.Admitted child ∷ []) (lines.Sent child parent (query_of child) ∷ []) (number, tt) ((number, above, valid_query child number), tt)))
@@ -206,27 +206,25 @@ fitted_boot laws kind parent blocks ns past fit = with_refusal (commands.Boot ki
 -- ---- processes and their pages
 
 fitted_proc : Laws → (e : Enclave) (uid gid : ℕ) (past : List Line) → IsFit (facts_at past) → IsInRange (commands.Proc e uid gid)
-    → IsFittedUpTo past (step_lines (facts_at past) (commands.Proc e uid gid))
+    → IsFittedUpTo (IsCountable past) past (step_lines (facts_at past) (commands.Proc e uid gid))
 fitted_proc laws e uid gid past fit range = with_refusal (commands.Proc e uid gid) past fit (λ none.
     let G = facts_at past in
     let one = laws.act.unmet causes.NoEnclave (not (is_living_enclave (G.enclave e.0))) (when causes.TooMany (leb 1024 G.starts) ∷ []) none in
     let few = leb-false 1024 G.starts (laws.act.unmet causes.TooMany (leb 1024 G.starts) [] one.1).0 in
     let mine = fit.starts.each e.0 in
     let number : Is16 e.0 = wide e (living_number G e fit one.0) in
-    record {
-      lines = ((number, omega (arith, few, mine), range.1.1, range.2.1), tt);
-      fit = record {
-        pool = fit.pool;
-        tree = fit.tree;
-        known = fit.known;
-        channels = fit.channels;
-        starts = record {
-          most = omega (arith, few);
-          each = at_number_fits (λ n. n ≤ G.starts + 1) e.0 (G.started e.0 + 1) G.started (omega (arith, mine)) (λ j. let old = fit.starts.each j in omega (arith, old));
-        };
-        own = fit.own;
+    fitted_one (IsCountable past) (lines.Proc e (next_pid G e) uid gid) (lines.Do (commands.Proc e uid gid) ∷ past) (number, omega (arith, few, mine), range.1.1, range.2.1)
+    (record {
+      pool = fit.pool;
+      tree = fit.tree;
+      known = fit.known;
+      channels = fit.channels;
+      starts = record {
+        most = omega (arith, few);
+        each = at_number_fits (λ n. n ≤ G.starts + 1) e.0 (G.started e.0 + 1) G.started (omega (arith, mine)) (λ j. let old = fit.starts.each j in omega (arith, old));
       };
-    })
+      own = fit.own;
+    }))
 
 frames_fit : (G : Facts) (e n : ℕ) → IsFit G → All (λ f. Is32 f.0) (take n (unused_frames G e))
 frames_fit G e n fit =
@@ -241,7 +239,7 @@ own_fits e p page (f ∷ frames) within all =
     (own_fits e p (page + 1) frames (omega (arith, within)) (All-tail (λ (x : Frame). Is32 x.0) f frames all))
 
 fitted_alloc : Laws → (e : Enclave) (p : Pid) (at : Vpn) (pages : ℕ) (past : List Line) → IsFit (facts_at past) → IsInRange (commands.Alloc e p at pages)
-    → IsFittedUpTo past (step_lines (facts_at past) (commands.Alloc e p at pages))
+    → IsFittedUpTo (IsCountable past) past (step_lines (facts_at past) (commands.Alloc e p at pages))
 fitted_alloc laws e p at pages past fit range = with_refusal (commands.Alloc e p at pages) past fit (λ none.
     let G = facts_at past in
     let drawn = take pages (unused_frames G e.0) in
@@ -254,17 +252,15 @@ fitted_alloc laws e p at pages past fit range = with_refusal (commands.Alloc e p
     let within = ltb-false 16777216 (at.0 + pages) (laws.act.unmet causes.BadRange (ltb 16777216 (at.0 + pages)) fourth two.1).0 in
     let frames = frames_fit G e.0 pages fit in
     let few = length-take pages (unused_frames G e.0) in
-    record {
-      lines = ((wide e (living_number G e fit one.0), range.1.1, omega (arith, within), frames), tt);
-      fit = record {
-        pool = fit.pool;
-        tree = fit.tree;
-        known = fit.known;
-        channels = fit.channels;
-        starts = fit.starts;
-        own = All-append IsFitPage G.own (own_from e p at.0 drawn) fit.own (own_fits e p at.0 drawn (omega (arith, within, few)) frames);
-      };
-    })
+    fitted_one (IsCountable past) (lines.Alloc e p at drawn) (lines.Do (commands.Alloc e p at pages) ∷ past) (wide e (living_number G e fit one.0), range.1.1, omega (arith, within), frames)
+    (record {
+      pool = fit.pool;
+      tree = fit.tree;
+      known = fit.known;
+      channels = fit.channels;
+      starts = fit.starts;
+      own = All-append IsFitPage G.own (own_from e p at.0 drawn) fit.own (own_fits e p at.0 drawn (omega (arith, within, few)) frames);
+    }))
 
 -- a page that is mapped, and its frame
 found_fits : Laws → (G : Facts) → IsFit G → (e p page : ℕ) (m : Mapping) → space_of G e p page ≡ Some m → Is32 page × Is32 m.frame.0
@@ -279,16 +275,16 @@ found_fits laws G fit e p page m is = by (at (pages_of G e p) page) refl is
         (subst Is32 b.number b.has.0, subst (λ f. Is32 f.0) frame b.has.1)
 
 fitted_touch : Laws → (e : Enclave) (p : Pid) (addr : ℕ) (want : Want) (past : List Line) → IsFit (facts_at past) → IsInRange (commands.Touch e p addr want)
-    → IsFittedUpTo past (step_lines (facts_at past) (commands.Touch e p addr want))
+    → IsFittedUpTo (IsCountable past) past (step_lines (facts_at past) (commands.Touch e p addr want))
 fitted_touch laws e p addr want past fit range = with_refusal (commands.Touch e p addr want) past fit (λ none. by (space_of (facts_at past) e.0 p.0 (addr / 4096)) refl)
   where
     by : (o : Option Mapping) → space_of (facts_at past) e.0 p.0 (addr / 4096) ≡ o
-        → IsFittedUpTo (lines.Do (commands.Touch e p addr want) ∷ past) (touched_lines e p (record { 0 = addr / 4096 }) o)
-    by None is = record { lines = tt; fit = fit }
+        → IsFittedUpTo (IsCountable past) (lines.Do (commands.Touch e p addr want) ∷ past) (touched_lines e p (record { 0 = addr / 4096 }) o)
+    by None is = record { typed = λ few. All-nil IsTyped; fit = fit }
     by (Some m) is =
         let found = found_fits laws (facts_at past) fit e.0 p.0 (addr / 4096) m is in
         let most = range.0.1 in
-        record { lines = ((omega (arith, most), range.1.1, found.0, found.1), tt); fit = fit }
+        fitted_one (IsCountable past) (lines.Touched e p (record { 0 = addr / 4096 }) m.frame) (lines.Do (commands.Touch e p addr want) ∷ past) (omega (arith, most), range.1.1, found.0, found.1) fit
 
 -- ---- what is shown
 
@@ -327,107 +323,6 @@ bytes_fit laws (r ∷ rs) valid = All-append Is8 (spelling_of r) (spellings_of r
     below [] all = All-nil Is8
     below (b ∷ bytes) all = let low = all.0 in All-cons Is8 b bytes (omega (arith, low)) (below bytes all.1)
 
--- lines of bytes, which are no more than wait behind the place of the first
-fitted_bytes : (x y : Enclave) (most at : ℕ) (bytes : List ℕ) (past : List Line) → IsFit (facts_at past) → Is16 x.0 → Is16 y.0
-    → length bytes ≤ length (waiting_bytes (facts_at past) x.0 y.0) - at → All Is8 bytes → IsFittedUpTo past (bytes_lines x y most at bytes)
-fitted_bytes x y zero at bytes past fit from to within all = record { lines = tt; fit = fit }
-fitted_bytes x y (suc most) at [] past fit from to within all = record { lines = tt; fit = fit }
-fitted_bytes x y (suc most) at (byte ∷ bytes) past fit from to within all =
-    let line = lines.Bytes x y at (take 32 (byte ∷ bytes)) in
-    let left = length-drop 32 (byte ∷ bytes) in
-    let more = fitted_bytes x y most (at + 32) (drop 32 (byte ∷ bytes)) (line ∷ past) fit from to (omega (arith, within, left)) (All-drop Is8 32 (byte ∷ bytes) all) in
-    record { lines = ((from, to, omega (arith, within), All-take Is8 32 (byte ∷ bytes) all), more.lines); fit = more.fit }
-
-fitted_link : Laws → (x y : Enclave) (past : List Line) → IsFit (facts_at past) → IsFittedUpTo past (step_lines (facts_at past) (commands.ShowLink x y))
-fitted_link laws x y past fit = with_refusal (commands.ShowLink x y) past fit (λ none.
-    let G = facts_at past in
-    let ends = channel_numbers laws G x y fit none in
-    let channel = G.channel x.0 y.0 in
-    fitted_bytes x y (length (waiting_bytes G x.0 y.0)) 0 (waiting_bytes G x.0 y.0) (lines.Do (commands.ShowLink x y) ∷ past) fit (wide x ends.0) (wide y ends.1)
-    (omega arith)
-    (All-drop Is8 channel.taken (spellings_of channel.sent) (bytes_fit laws channel.sent (fit.channels x.0 y.0))))
-
--- ---- each command
-
--- a command that changes no facts, and whose acts are steady
-fitted_acts : (c : Command) (past : List Line) → IsFit (facts_at (lines.Do c ∷ past)) → (refusal_of (facts_at past) c ≡ None → AreSteady (acts_of (facts_at past) c))
-    → IsFittedUpTo past (step_lines (facts_at past) c)
-fitted_acts c past fit steady = with_refusal c past fit (λ none. fitted_steady (acts_of (facts_at past) c) (lines.Do c ∷ past) fit (steady none))
-
-fitted_pool : (blocks : ℕ) (past : List Line) → IsFit (facts_at past) → IsInRange (commands.Pool blocks)
-    → IsFittedUpTo past (step_lines (facts_at past) (commands.Pool blocks))
-fitted_pool blocks past fit range =
-    let most = range.1 in
-    record {
-      lines = (tt, tt);
-      fit = record {
-        pool = record { most = omega (arith, most); lent = λ b. cond_both (ltb b blocks) Free Absent IsFitBlock (λ is. tt) (λ other. tt) };
-        tree = fit.tree;
-        known = fit.known;
-        channels = fit.channels;
-        starts = fit.starts;
-        own = fit.own;
-      };
-    }
-
--- what is kept along commands, of which there were so many: none is born after the first
-record IsReady (before : ℕ) (past : List Line) : Type 0 where
-  fit : IsFit (facts_at past)
-  fresh : before ≤ 1 → (facts_at past).born ≡ 0
-
-fitted_step : Laws → (before : ℕ) (c : Command) (past : List Line) → IsReady before past → may_stand before c ≡ true → IsInRange c
-    → IsFittedUpTo past (step_lines (facts_at past) c)
-fitted_step laws before (commands.Pool blocks) past ready may range = fitted_pool blocks past ready.fit range
-fitted_step laws before (commands.Host blocks ns) past ready may range =
-    let second : before ≡ 1 = eqb-true before 1 (and_parts _ _ may).0 in
-    fitted_host blocks ns past ready.fit (ready.fresh (omega (arith, second)))
-fitted_step laws before (commands.Boot kind parent blocks ns) past ready may range = fitted_boot laws kind parent blocks ns past ready.fit
-fitted_step laws before (commands.Proc e uid gid) past ready may range = fitted_proc laws e uid gid past ready.fit range
-fitted_step laws before (commands.Alloc e p at pages) past ready may range = fitted_alloc laws e p at pages past ready.fit range
-fitted_step laws before (commands.Touch e p addr want) past ready may range = fitted_touch laws e p addr want past ready.fit range
-fitted_step laws before (commands.Deliver x y count) past ready may range =
-    fitted_acts (commands.Deliver x y count) past ready.fit (λ none. let ends = channel_numbers laws (facts_at past) x y ready.fit none in steady_deliver (facts_at past) x y count ready.fit ends.0 ends.1)
-fitted_step laws before (commands.Settle most) past ready may range =
-    fitted_acts (commands.Settle most) past ready.fit (λ none. steady_settle most 0 (facts_at past) ready.fit)
-fitted_step laws before (commands.ShowRoutes e) past ready may range =
-    fitted_acts (commands.ShowRoutes e) past ready.fit (λ none. steady_routes (facts_at past) e ready.fit (living_number (facts_at past) e ready.fit (laws.act.unmet causes.NoEnclave (not (is_living_enclave ((facts_at past).enclave e.0))) [] none).0))
-fitted_step laws before (commands.ShowLink x y) past ready may range = fitted_link laws x y past ready.fit
-fitted_step laws before commands.ShowPool past ready may range =
-    let G = facts_at past in
-    let pool = ready.fit.pool in
-    let most = pool.most in
-    let count = length-map-range_with_len G.block 0 G.pool in
-    fitted_acts commands.ShowPool past ready.fit (λ none. steady_states 0 (map G.block (range_with_len 0 G.pool)) (omega (arith, count, most)) (All-map IsFitBlock G.block (range_with_len 0 G.pool) (λ k d lt. pool.lent _)))
-fitted_step laws before c past ready may range = record { lines = (tt, tt); fit = ready.fit }
-
-fresh_step : (before : ℕ) (c : Command) (past : List Line) → IsReady before past → may_stand before c ≡ true → before + 1 ≤ 1
-    → (facts_at (onto (step_lines (facts_at past) c) past)).born ≡ 0
-fresh_step before (commands.Pool blocks) past ready may few = ready.fresh (omega (arith, few))
-fresh_step before (commands.Host blocks ns) past ready may few = let second = eqb-true before 1 (and_parts _ _ may).0 in absurd (omega (arith, few, second))
-fresh_step before _ past ready may few = let late = leb-true 2 before (and_parts _ _ may).0 in absurd (omega (arith, few, late))
-
-fitted_journal : Laws → (cs : List Command) (before : ℕ) (G : Facts) (past : List Line) → G ≡ facts_at past → IsReady before past
-    → IsPlacedAfter before cs → Follows IsFitted past (journal_from G cs)
-fitted_journal laws [] before G past is ready placed = tt
-fitted_journal laws (c ∷ cs) before G past is ready placed =
-    let ls = step_lines G c in
-    let one : IsFittedUpTo past ls = rw is (fitted_step laws before c past ready placed.0 placed.1) in
-    let facts : after_lines G ls ≡ facts_at (onto ls past) = ap (λ H. after_lines H ls) is ∙ sym (laws.past.facts ls past) in
-    let next : IsReady (before + 1) (onto ls past) = record { fit = one.fit; fresh = rw is (fresh_step before c past ready placed.0) } in
-    Follows-append IsFitted ls (journal_from (after_lines G ls) cs) past one.lines (fitted_journal laws cs (before + 1) (after_lines G ls) (onto ls past) facts next placed.2)
-
-no_facts-fit : IsFit no_facts
-no_facts-fit = record {
-  pool = record { most = omega arith; lent = λ b. tt };
-  tree = record { most = omega arith; number = λ e some. cc; parent = λ e. omega arith };
-  known = record { over = λ e x is. cc; asked = λ e. All-nil IsNumber; back = λ e. All-nil IsNumber; route = λ e. All-nil IsNumber; lies = λ e. All-nil IsLow; dead = λ e. All-nil IsNumber };
-  channels = λ x y. tt;
-  starts = record { most = omega arith; each = λ e. omega arith };
-  own = All-nil IsFitPage;
-}
-
--- ---- counts
-
 -- a record has at most four bytes for each word of the line that sends it
 few_bytes : (x y : Enclave) (r : Record) → length (spelling_of r) ≤ 4 * length (line_words (lines.Sent x y r))
 unfolding spelling_of header_of
@@ -453,45 +348,148 @@ sent_bytes (lines.Got a b ∷ past) x y =
 sent_bytes (lines.Do (commands.Pool blocks) ∷ past) x y = let old = sent_bytes past x y in omega (arith, old)
 sent_bytes (line ∷ past) x y = let old = sent_bytes past x y in omega (arith, old)
 
-waiting_few : (past : List Line) (x y : ℕ) → length (waiting_bytes (facts_at past) x y) ≤ 4 * words_in past
-waiting_few past x y =
+waiting_few : (past : List Line) (x y : ℕ) → IsCountable past → length (waiting_bytes (facts_at past) x y) ≤ 4294967295
+waiting_few past x y few =
     let sent = sent_bytes past x y in
     let left = length-drop ((facts_at past).channel x y).taken (spellings_of ((facts_at past).channel x y).sent) in
-    omega (arith, sent, left)
+    omega (arith, sent, left, few)
 
-deliveries_few : (past : List Line) → deliveries_in (lines_since past) ≤ words_in past
-deliveries_few [] = omega arith
-deliveries_few (lines.Do command ∷ past) = omega arith
-deliveries_few (line ∷ past) = let old = deliveries_few past in omega (arith, old)
+-- lines of bytes, which are no more than so many behind the place of the first
+fitted_bytes : (few : Type 0) (all : ℕ) (x y : Enclave) (most at : ℕ) (bytes : List ℕ) (past : List Line) → (few → all ≤ 4294967295) → IsFit (facts_at past)
+    → Is16 x.0 → Is16 y.0 → length bytes ≤ all - at → All Is8 bytes → IsFittedUpTo few past (bytes_lines x y most at bytes)
+fitted_bytes few all x y zero at bytes past low fit from to within each = record { typed = λ is. All-nil IsTyped; fit = fit }
+fitted_bytes few all x y (suc most) at [] past low fit from to within each = record { typed = λ is. All-nil IsTyped; fit = fit }
+fitted_bytes few all x y (suc most) at (byte ∷ bytes) past low fit from to within each =
+    let line = lines.Bytes x y at (take 32 (byte ∷ bytes)) in
+    let left = length-drop 32 (byte ∷ bytes) in
+    let more = fitted_bytes few all x y most (at + 32) (drop 32 (byte ∷ bytes)) (line ∷ past) low fit from to (omega (arith, within, left)) (All-drop Is8 32 (byte ∷ bytes) each) in
+    record {
+      typed = λ is. let most_bytes = low is in
+          All-cons IsTyped line _ (from, to, omega (arith, within, most_bytes), All-take Is8 32 (byte ∷ bytes) each) (more.typed is);
+      fit = more.fit;
+    }
 
-typed_line : (past : List Line) (line : Line) → IsFitted past line → CarriedAt past line → RestAt past line → FitsAt past line
-typed_line past (lines.Took x y count) fitted carried rest few =
-    let waiting = waiting_few past x.0 y.0 in
-    let within = carried.1 in
-    (fitted.0, fitted.1, omega (arith, few, waiting, within))
-typed_line past (lines.Bytes x y at bytes) fitted carried rest few =
-    let waiting = waiting_few past x.0 y.0 in
-    let within = fitted.2 in
-    (fitted.0, fitted.1, omega (arith, few, waiting, within), fitted.3)
-typed_line past (lines.Settled made) fitted carried rest few = let made_is = rest.2.count in let all = deliveries_few past in omega (arith, few, made_is, all)
-typed_line past (lines.Waiting made) fitted carried rest few = let made_is = rest.1.count in let all = deliveries_few past in omega (arith, few, made_is, all)
-typed_line past _ fitted carried rest few = fitted
+fitted_link : Laws → (x y : Enclave) (past : List Line) → IsFit (facts_at past) → IsFittedUpTo (IsCountable past) past (step_lines (facts_at past) (commands.ShowLink x y))
+fitted_link laws x y past fit = with_refusal (commands.ShowLink x y) past fit (λ none.
+    let G = facts_at past in
+    let ends = channel_numbers laws G x y fit none in
+    let channel = G.channel x.0 y.0 in
+    let waiting = waiting_bytes G x.0 y.0 in
+    fitted_bytes (IsCountable past) (length waiting) x y (length waiting) 0 waiting (lines.Do (commands.ShowLink x y) ∷ past) (waiting_few past x.0 y.0) fit (wide x ends.0) (wide y ends.1)
+    (omega arith)
+    (All-drop Is8 channel.taken (spellings_of channel.sent) (bytes_fit laws channel.sent (fit.channels x.0 y.0))))
 
-typed_lines : (ls past : List Line) → Follows IsFitted past ls → Follows CarriedAt past ls → Follows RestAt past ls → Follows FitsAt past ls
-typed_lines [] past fitted carried rest = tt
-typed_lines (l ∷ ls) past fitted carried rest =
-    (typed_line past l fitted.0 carried.0 rest.0, typed_lines ls (l ∷ past) fitted.1 carried.1 rest.1)
+-- ---- each command
+
+-- a command that changes no facts, and whose acts are steady
+fitted_acts : (c : Command) (past : List Line) → IsFit (facts_at (lines.Do c ∷ past)) → (refusal_of (facts_at past) c ≡ None → AreSteady (acts_of (facts_at past) c))
+    → IsFittedUpTo (IsCountable past) past (step_lines (facts_at past) c)
+fitted_acts c past fit steady = with_refusal c past fit (λ none. fitted_steady (IsCountable past) (acts_of (facts_at past) c) (lines.Do c ∷ past) fit (steady none))
+
+fitted_pool : (blocks : ℕ) (past : List Line) → IsFit (facts_at past) → IsInRange (commands.Pool blocks)
+    → IsFittedUpTo (IsCountable past) past (step_lines (facts_at past) (commands.Pool blocks))
+fitted_pool blocks past fit range =
+    let most = range.1 in
+    fitted_one (IsCountable past) (lines.Do (commands.Pool blocks)) past tt
+    (record {
+      pool = record { most = omega (arith, most); lent = λ b. cond_both (ltb b blocks) Free Absent IsFitBlock (λ is. tt) (λ other. tt) };
+      tree = fit.tree;
+      known = fit.known;
+      channels = fit.channels;
+      starts = fit.starts;
+      own = fit.own;
+    })
+
+-- what is kept along commands, of which there were so many: none is born after the first
+record IsReady (before : ℕ) (past : List Line) : Type 0 where
+  fit : IsFit (facts_at past)
+  fresh : before ≤ 1 → (facts_at past).born ≡ 0
+
+fitted_step : Laws → (before : ℕ) (c : Command) (past : List Line) → IsReady before past → may_stand before c ≡ true → IsInRange c
+    → IsFittedUpTo (IsCountable past) past (step_lines (facts_at past) c)
+fitted_step laws before (commands.Pool blocks) past ready may range = fitted_pool blocks past ready.fit range
+fitted_step laws before (commands.Host blocks ns) past ready may range =
+    let second : before ≡ 1 = eqb-true before 1 (and_parts _ _ may).0 in
+    fitted_host blocks ns past ready.fit (ready.fresh (omega (arith, second)))
+fitted_step laws before (commands.Boot kind parent blocks ns) past ready may range = fitted_boot laws kind parent blocks ns past ready.fit
+fitted_step laws before (commands.Proc e uid gid) past ready may range = fitted_proc laws e uid gid past ready.fit range
+fitted_step laws before (commands.Alloc e p at pages) past ready may range = fitted_alloc laws e p at pages past ready.fit range
+fitted_step laws before (commands.Touch e p addr want) past ready may range = fitted_touch laws e p addr want past ready.fit range
+fitted_step laws before (commands.Deliver x y count) past ready may range =
+    fitted_acts (commands.Deliver x y count) past ready.fit (λ none. let ends = channel_numbers laws (facts_at past) x y ready.fit none in steady_deliver (facts_at past) x y count ready.fit ends.0 ends.1 range.2.1)
+fitted_step laws before (commands.Settle most) past ready may range =
+    fitted_acts (commands.Settle most) past ready.fit (λ none. let few = range.1 in steady_settle laws most 0 (facts_at past) ready.fit (omega (arith, few)))
+fitted_step laws before (commands.ShowRoutes e) past ready may range =
+    fitted_acts (commands.ShowRoutes e) past ready.fit (λ none. steady_routes (facts_at past) e ready.fit (living_number (facts_at past) e ready.fit (laws.act.unmet causes.NoEnclave (not (is_living_enclave ((facts_at past).enclave e.0))) [] none).0))
+fitted_step laws before (commands.ShowLink x y) past ready may range = fitted_link laws x y past ready.fit
+fitted_step laws before commands.ShowPool past ready may range =
+    let G = facts_at past in
+    let pool = ready.fit.pool in
+    let most = pool.most in
+    let count = length-map-range_with_len G.block 0 G.pool in
+    fitted_acts commands.ShowPool past ready.fit (λ none. steady_states 0 (map G.block (range_with_len 0 G.pool)) (omega (arith, count, most)) (All-map IsFitBlock G.block (range_with_len 0 G.pool) (λ k d lt. pool.lent _)))
+fitted_step laws before c past ready may range = fitted_one (IsCountable past) (lines.Do c) past tt ready.fit
+
+fresh_step : (before : ℕ) (c : Command) (past : List Line) → IsReady before past → may_stand before c ≡ true → before + 1 ≤ 1
+    → (facts_at (onto (step_lines (facts_at past) c) past)).born ≡ 0
+fresh_step before (commands.Pool blocks) past ready may few = ready.fresh (omega (arith, few))
+fresh_step before (commands.Host blocks ns) past ready may few = let second = eqb-true before 1 (and_parts _ _ may).0 in absurd (omega (arith, few, second))
+fresh_step before _ past ready may few = let late = leb-true 2 before (and_parts _ _ may).0 in absurd (omega (arith, few, late))
+
+no_facts-fit : IsFit no_facts
+no_facts-fit = record {
+  pool = record { most = omega arith; lent = λ b. tt };
+  tree = record { most = omega arith; number = λ e some. cc; parent = λ e. omega arith };
+  known = record { over = λ e x is. cc; asked = λ e. All-nil IsNumber; back = λ e. All-nil IsNumber; route = λ e. All-nil IsNumber; lies = λ e. All-nil IsLow; dead = λ e. All-nil IsNumber };
+  channels = λ x y. tt;
+  starts = record { most = omega arith; each = λ e. omega arith };
+  own = All-nil IsFitPage;
+}
 
 -- ---- journals
 
-pub journal_of-fits : Laws → (cs : List Command) → IsPlaced cs → IsRested (journal_of cs) → Follows FitsAt [] (journal_of cs)
-journal_of-fits laws cs placed rested =
-    let fitted = fitted_journal laws cs 0 no_facts [] refl (record { fit = no_facts-fit; fresh = λ few. refl }) placed in
-    typed_lines (journal_of cs) [] fitted (laws.journal.carried cs placed) rested
+words_in-append : (ls ms : List Line) → words_in (ls ++ ms) ≡ words_in ls + words_in ms
+words_in-append [] ms = omega arith
+words_in-append (l ∷ ls) ms = let more = words_in-append ls ms in omega (arith, more)
 
-typed_journal : (ls past : List Line) → Follows FitsAt past ls → words_in past + words_in ls < 2 ^ 30 → All IsTyped ls
-typed_journal [] past fits few = All-nil IsTyped
-typed_journal (l ∷ ls) past fits few = All-cons IsTyped l ls (fits.0 (omega (arith, few))) (typed_journal ls (l ∷ past) fits.1 (omega (arith, few)))
+words_in-onto : (ls past : List Line) → words_in (onto ls past) ≡ words_in ls + words_in past
+words_in-onto [] past = omega arith
+words_in-onto (l ∷ ls) past = let more = words_in-onto ls (l ∷ past) in omega (arith, more)
 
-pub front_typed : (journal rest : List Line) → IsFitting (journal ++ rest) → IsCountable journal → All IsTyped journal
-front_typed journal rest fits few = typed_journal journal [] (Follows-front FitsAt journal rest [] fits) (omega (arith, few))
+next_ready : Laws → (before : ℕ) (c : Command) (G : Facts) (past : List Line) → G ≡ facts_at past → IsReady before past → may_stand before c ≡ true → IsInRange c
+    → IsReady (before + 1) (onto (step_lines G c) past)
+next_ready laws before c G past is ready may range =
+    record { fit = rw is (fitted_step laws before c past ready may range).fit; fresh = rw is (fresh_step before c past ready may) }
+
+next_facts : Laws → (ls : List Line) (G : Facts) (past : List Line) → G ≡ facts_at past → after_lines G ls ≡ facts_at (onto ls past)
+next_facts laws ls G past is = ap (λ H. after_lines H ls) is ∙ sym (laws.past.facts ls past)
+
+typed_step : Laws → (before : ℕ) (c : Command) (G : Facts) (past : List Line) → G ≡ facts_at past → IsReady before past → may_stand before c ≡ true → IsInRange c
+    → IsCountable past → All IsTyped (step_lines G c)
+typed_step laws before c G past is ready may range few = subst (λ H. All IsTyped (step_lines H c)) (sym is) ((fitted_step laws before c past ready may range).typed few)
+
+-- the lines of commands, and of one more where there is one, where few words stand before that one
+typed_from : Laws → (cs last : List Command) (before : ℕ) (G : Facts) (past : List Line) → G ≡ facts_at past → IsReady before past
+    → IsPlacedAfter before (cs ++ last) → length last ≤ 1 → words_in past + words_in (journal_from G cs) < 2 ^ 30 → All IsTyped (journal_from G (cs ++ last))
+typed_from laws [] [] before G past is ready placed one few = All-nil IsTyped
+typed_from laws [] (c ∷ []) before G past is ready placed one few =
+    All-append IsTyped (step_lines G c) [] (typed_step laws before c G past is ready placed.0 placed.1 (omega (arith, few))) (All-nil IsTyped)
+typed_from laws [] (c ∷ d ∷ last) before G past is ready placed one few = absurd (omega (arith, one))
+typed_from laws (c ∷ cs) last before G past is ready placed one few =
+    let ls = step_lines G c in
+    let H = after_lines G ls in
+    let sum = words_in-append ls (journal_from H cs) in
+    let turned = words_in-onto ls past in
+    All-append IsTyped ls (journal_from H (cs ++ last)) (typed_step laws before c G past is ready placed.0 placed.1 (omega (arith, few)))
+    (typed_from laws cs last (before + 1) H (onto ls past) (next_facts laws ls G past is) (next_ready laws before c G past is ready placed.0 placed.1) placed.2 one (omega (arith, few, sum, turned)))
+
+start_ready : IsReady 0 []
+start_ready = record { fit = no_facts-fit; fresh = λ few. refl }
+
+pub journal_of-typed : Laws → (cs : List Command) → IsPlaced cs → IsCountable (journal_of cs) → All IsTyped (journal_of cs)
+journal_of-typed laws cs placed few =
+    subst (λ ds. All IsTyped (journal_of ds)) (append-nil cs)
+    (typed_from laws cs [] 0 no_facts [] refl start_ready (subst IsPlaced (sym (append-nil cs)) placed) (omega arith) (omega (arith, few)))
+
+pub journal_of-typed_more : Laws → (cs : List Command) (c : Command) → IsPlaced (cs ++ c ∷ []) → IsCountable (journal_of cs) → All IsTyped (journal_of (cs ++ c ∷ []))
+journal_of-typed_more laws cs c placed few = typed_from laws cs (c ∷ []) 0 no_facts [] refl start_ready placed (omega arith) (omega (arith, few))

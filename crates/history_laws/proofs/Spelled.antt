@@ -2,7 +2,7 @@
 use Rattle.std.proofs.Common.{◌≡◌, ◌+◌, ◌≤◌, ℕ, List, [], ◌∷◌, ◌++◌, true, not, Option, None, Some, arith}
 use Rattle.std.specs.List.{All, AllByRecursion}
 use Rattle.std.proofs.lemmas.Bool.{leb-true, and_parts}
-use Rattle.std.proofs.lemmas.List.Elements.{All-nil, All-cons, All-head, All-tail}
+use Rattle.std.proofs.lemmas.List.Elements.{All-nil, All-cons}
 use Rattle.xm_num.specs.declared.Enclave.{Enclave}
 use Rattle.xemem_language.specs.declared.record.Record.{Record}
 use Rattle.xemem_language.specs.declared.record.Body.{Body}
@@ -73,8 +73,3 @@ spelled_lines (l ∷ ls) past tellable carried =
 -- the records that are sent are valid, as the journal is carried
 pub journal_of-spelled : Laws → (cs : List Command) → IsPlaced cs → All IsSpelled (journal_of cs)
 journal_of-spelled laws cs placed = spelled_lines (journal_of cs) [] (tellable_journal laws cs 0 no_facts placed) (laws.journal.carried cs placed)
-
--- and so has each line of a front of it
-pub front_spelled : (journal rest : List Line) → All IsSpelled (journal ++ rest) → All IsSpelled journal
-front_spelled [] rest all = All-nil IsSpelled
-front_spelled (l ∷ ls) rest all = All-cons IsSpelled l ls (All-head IsSpelled l (ls ++ rest) all) (front_spelled ls rest (All-tail IsSpelled l (ls ++ rest) all))

@@ -1,12 +1,12 @@
 -- What an enclave writes for records, and a delivery or a settle, is steady where the facts fit.
-use Rattle.std.proofs.Common.{◌≡◌, ◌+◌, ◌-◌, ◌<◌, ◌≤◌, ◌^◌, ℕ, zero, suc, min, List, [], ◌∷◌, ◌++◌, length, drop, filter, Bool, true, false, cond, leb, eqb, not, ◌&&◌, ltb, is_some, Option, None, Some, if◌then◌else◌, All, refl, sym, ap, subst, arith}
+use Rattle.std.proofs.Common.{◌≡◌, ◌+◌, ◌-◌, ◌<◌, ◌≤◌, ◌^◌, ℕ, zero, suc, min, List, [], ◌∷◌, ◌++◌, length, drop, Bool, true, false, cond, leb, eqb, not, ◌&&◌, ltb, is_some, Option, None, Some, if◌then◌else◌, All, refl, subst, arith}
 use Rattle.std.specs.Prelude.{◌==◌}
 use Rattle.std.specs.List.{range_with_len, flat_map, slice_get}
 use Rattle.std.specs.Option.{option_map_or}
-use Rattle.std.specs.Map.{values_of, keys_of, lookup}
+use Rattle.std.specs.Map.{values_of, lookup}
 use Rattle.std.specs.Ordering.{nat_cmp}
 use Rattle.std.specs.BTreeMap.{is_at}
-use Rattle.std.proofs.lemmas.Bool.{leb-true, le-leb, ltb-true, eqb-true, and_parts}
+use Rattle.std.proofs.lemmas.Bool.{leb-true, le-leb, ltb-true, eqb-true, and_parts, cond_both}
 use Rattle.std.proofs.lemmas.List.Elements.{All-nil, All-cons, All-head, All-tail, All-filter, All-weaker}
 use Rattle.std.proofs.lemmas.Map.Views.{All-map-remove_entry}
 use Rattle.xm_num.specs.declared.Enclave.{Enclave}
@@ -16,15 +16,16 @@ use Rattle.xemem_language.specs.declared.record.Body.{Body}
 use Rattle.xemem_language.specs.declared.record.Body.TheVariants as bodies
 use Rattle.xemem_language.specs.declared.line.Line.{Line}
 use Rattle.xemem_language.specs.declared.line.Line.TheVariants as lines
-use Rattle.xemem_wire.specs.Table.{kind_of, is_built, is_call, has_call, is_destination, is_enclave, is_undirected}
+use Rattle.xemem_wire.specs.Table.{kind_of, is_built, has_call, is_destination, is_enclave, is_undirected}
 use Rattle.xemem_wire.specs.Spelling.{is_valid, AreValid}
-use Rattle.line_reader.specs.Typed.{Is16, Is32, IsTypedBody}
+use Rattle.line_reader.specs.Typed.{Is32, IsTypedBody}
 use Rattle.enclave_rules.specs.View.{View, place_among}
 use Rattle.enclave_rules.specs.Steps.{query_of, here_of, register_of, admit_of, knows_way, is_stray, drop_lines, query_lines, told_askers, here_lines, passed_lines, register_lines, admit_over, admit_to, body_lines, record_lines}
 use Rattle.global_model.specs.Facts.{Facts, ChannelFact, after_line, after_lines, fact_of}
 use Rattle.global_model.specs.Channels.{size_of, waiting_bytes, whole_records, arriving}
 use Rattle.global_model.specs.Views.{view_of}
-use Rattle.global_model.specs.Due.{got_lines, took_lines, deliver_lines, next_rest, channels_of, waits, waiting_channels, first_waiting, settle_end, settle_from}
+use Rattle.global_model.specs.Due.{got_lines, took_lines, deliver_lines, next_rest, rest_of_record, channels_of, waits, waiting_channels, first_waiting, settle_end, settle_from}
+use Rattle.history_laws.specs.Laws.{Laws}
 use Rattle.history_laws.proofs.Fit.{IsNumber, AllNumbers, IsFit, IsSteady, AreSteady, fit_line, fit_lines}
 use Rattle.history_laws.proofs.Legal.{All-range}
 
@@ -148,10 +149,12 @@ module _ (v : View) (fit : IsFitView v) where
 
   steady_register : (from : Enclave) (r : Record) → IsNumber from → is_valid r ≡ true → AreSteady (register_lines v from r)
   steady_register from r near valid =
-      let origin = (valid_numbers r valid).origin in
-      ((fit.me, origin, near), steady_either v.holder (lines.Route v.me r.origin from ∷ lines.Sent v.me from (admit_of v.me r.origin) ∷ []) (passed_lines v from v.way r)
-      ((fit.me, origin, near), ((fit.me, near, valid_admit v.me r.origin fit.me origin), tt))
-      (steady_passed from v.way r fit.way valid))
+      let origin = (valid_numbers r valid).origin in (
+        (fit.me, origin, near),
+        steady_either v.holder (lines.Route v.me r.origin from ∷ lines.Sent v.me from (admit_of v.me r.origin) ∷ []) (passed_lines v from v.way r)
+            ((fit.me, origin, near), ((fit.me, near, valid_admit v.me r.origin fit.me origin), tt))
+            (steady_passed from v.way r fit.way valid),
+      )
 
   steady_over : (from d : Enclave) (r : Record) (over : Option Enclave) → IsNumber d → ((x : Enclave) → over ≡ Some x → IsNumber x) → is_valid r ≡ true
       → AreSteady (admit_over v from d r over)
@@ -204,16 +207,16 @@ steady_got G x y (r ∷ rs) fit from to valid =
     let steady : AreSteady own = ((from, to), steady_record (view_of G y) (fit_view G y fit to) x r from valid.0) in
     steady_append own (got_lines (after_lines G own) x y rs) steady (steady_got (after_lines G own) x y rs (fit_lines G own fit steady) from to valid.1)
 
-steady_took : (G : Facts) (x y : Enclave) (count : ℕ) → IsFit G → IsNumber x → IsNumber y → AreSteady (took_lines G x y count)
-steady_took G x y count fit from to =
+steady_took : (G : Facts) (x y : Enclave) (count : ℕ) → IsFit G → IsNumber x → IsNumber y → Is32 count → AreSteady (took_lines G x y count)
+steady_took G x y count fit from to few =
     let H = after_line G (lines.Took x y count) in
-    let after : IsFit H = fit_line G fit (lines.Took x y count) (from, to) in
-    ((from, to), steady_got H x y (arriving (H.channel x.0 y.0)) after from to (valid_arriving (H.channel x.0 y.0) (after.channels x.0 y.0)))
+    let after : IsFit H = fit_line G fit (lines.Took x y count) (from, to, few) in
+    ((from, to, few), steady_got H x y (arriving (H.channel x.0 y.0)) after from to (valid_arriving (H.channel x.0 y.0) (after.channels x.0 y.0)))
 
-pub steady_deliver : (G : Facts) (x y : Enclave) (count : ℕ) → IsFit G → IsNumber x → IsNumber y → AreSteady (deliver_lines G x y count)
-steady_deliver G x y count fit from to =
+pub steady_deliver : (G : Facts) (x y : Enclave) (count : ℕ) → IsFit G → IsNumber x → IsNumber y → Is32 count → AreSteady (deliver_lines G x y count)
+steady_deliver G x y count fit from to few =
     let waiting = length (waiting_bytes G x.0 y.0) in
-    steady_either (waiting == 0) (lines.Idle x y ∷ []) (took_lines G x y (min count waiting)) ((from, to), tt) (steady_took G x y (min count waiting) fit from to)
+    steady_either (waiting == 0) (lines.Idle x y ∷ []) (took_lines G x y (min count waiting)) ((from, to), tt) (steady_took G x y (min count waiting) fit from to (omega (arith, few)))
 
 -- ---- settles
 
@@ -243,27 +246,38 @@ first_fits G channel fit is =
     let all = channels_fit G fit (range_with_len 1 (G.born - 1)) low in
     first_has AreNumbers (waiting_channels G) channel (All-filter (waits G) AreNumbers (flat_map (channels_of G) (range_with_len 1 (G.born - 1))) all) is
 
-steady_end : (G : Facts) (made : ℕ) → AreSteady (settle_end G made ∷ [])
-steady_end G made = (by (is_some (first_waiting G)), tt)
+-- a delivery of a settle takes no more than a record
+rest_few : Laws → (taken : ℕ) (rs : List Record) → AreValid rs → rest_of_record taken rs ≤ 16404
+rest_few laws taken [] valid = omega arith
+rest_few laws taken (r ∷ rs) valid =
+    let most = laws.wire.most r valid.0 in
+    cond_both (leb (size_of r) taken) (rest_of_record (taken - size_of r) rs) (size_of r - taken) (λ n. n ≤ 16404)
+    (λ is. rest_few laws (taken - size_of r) rs valid.1) (λ other. omega (arith, most))
+
+steady_end : (G : Facts) (made : ℕ) → Is32 made → AreSteady (settle_end G made ∷ [])
+steady_end G made few = (by (is_some (first_waiting G)), tt)
   where
     by : (b : Bool) → IsSteady (if b then lines.Waiting made else lines.Settled made)
-    by true = tt
-    by false = tt
+    by true = few
+    by false = few
 
 -- the rest of a settle, where that channel is the first in which something waits
 abbrev settle_at : ℕ → ℕ → Facts → Option (Enclave × Enclave) → List Line
 settle_at left made G first =
     option_map_or (λ channel. let own = deliver_lines G channel.0 channel.1 (next_rest G channel.0 channel.1) in own ++ settle_from left (made + 1) (after_lines G own)) first (settle_end G made ∷ [])
 
-pub steady_settle : (left made : ℕ) (G : Facts) → IsFit G → AreSteady (settle_from left made G)
-steady_settle zero made G fit = steady_end G made
-steady_settle (suc left) made G fit = by (first_waiting G) refl (steady_settle left (made + 1))
+pub steady_settle : Laws → (left made : ℕ) (G : Facts) → IsFit G → Is32 (made + left) → AreSteady (settle_from left made G)
+steady_settle laws zero made G fit few = steady_end G made (omega (arith, few))
+steady_settle laws (suc left) made G fit few = by (first_waiting G) refl (λ H after. steady_settle laws left (made + 1) H after (omega (arith, few)))
   where
     by : (o : Option (Enclave × Enclave)) → first_waiting G ≡ o → ((H : Facts) → IsFit H → AreSteady (settle_from left (made + 1) H))
         → AreSteady (settle_at left made G o)
-    by None is more = steady_end G made
+    by None is more = steady_end G made (omega (arith, few))
     by (Some channel) is more =
-        let own = deliver_lines G channel.0 channel.1 (next_rest G channel.0 channel.1) in
+        let x = channel.0 in
+        let y = channel.1 in
+        let own = deliver_lines G x y (next_rest G x y) in
         let ends = first_fits G channel fit is in
-        let steady : AreSteady own = steady_deliver G channel.0 channel.1 (next_rest G channel.0 channel.1) fit ends.0 ends.1 in
+        let rest = rest_few laws (G.channel x.0 y.0).taken (G.channel x.0 y.0).sent (fit.channels x.0 y.0) in
+        let steady : AreSteady own = steady_deliver G x y (next_rest G x y) fit ends.0 ends.1 (omega (arith, rest)) in
         steady_append own (settle_from left (made + 1) (after_lines G own)) steady (more (after_lines G own) (fit_lines G own fit steady))

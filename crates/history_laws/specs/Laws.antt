@@ -1,5 +1,5 @@
 -- The laws on which those of histories rest, as the functions of the crates below ensure them.
-use Rattle.std.specs.Prelude.{◌≡◌, ◌<◌, ℕ, List, [], ◌∷◌, ◌++◌, ◌==◌, drop, Bool, false, true, Some, None, if◌then◌else◌}
+use Rattle.std.specs.Prelude.{◌≡◌, ◌<◌, ◌≤◌, ℕ, List, [], ◌∷◌, ◌++◌, ◌==◌, drop, length, Bool, false, true, Some, None, if◌then◌else◌}
 use Rattle.std.specs.List.{AllByRecursion}
 use Rattle.xm_num.specs.declared.Enclave.{Enclave}
 use Rattle.xm_num.specs.declared.Page.{Page}
@@ -41,8 +41,9 @@ pub record RowLaws : Type 0 where
   pub ways : (table : List (ℕ × Enclave)) (k q : ℕ) (v : Enclave) → at (put table k v) q ≡ (if k == q then Some v else at table q)
   pub pages : (table : List (ℕ × Page)) (k q : ℕ) (v : Page) → at (put table k v) q ≡ (if k == q then Some v else at table q)
 
--- the bytes of records
+-- the spelling of a record
 pub record WireLaws : Type 0 where
+  pub most : (r : Record) → is_valid r ≡ true → length (spelling_of r) ≤ 16404
   pub bytes : (r : Record) → is_valid r ≡ true → AllByRecursion (λ byte. byte < 256) (spelling_of r)
 
 pub record Laws : Type 0 where

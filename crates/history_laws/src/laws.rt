@@ -1,5 +1,5 @@
 // Laws of histories: each is the contract of a function that does nothing, which a crate above calls to have it.
-ghost use Rattle.std.specs.Prelude.{◌≡◌, ◌++◌, ℕ, List, All};
+ghost use Rattle.std.specs.Prelude.{◌≡◌, ◌++◌, ◌∷◌, [], ℕ, List, All};
 ghost use Rattle.xm_num.specs.Rows.{at};
 ghost use Rattle.xemem_language.specs.declared.command.Command.{Command as Commands};
 ghost use Rattle.xemem_language.specs.declared.line.Line.{Line as JournalLine};
@@ -10,7 +10,7 @@ ghost use Rattle.global_model.specs.Facts.{facts_at};
 ghost use Rattle.global_model.specs.Due.{journal_of};
 ghost use Rattle.global_model.specs.Journals.{do_commands};
 ghost use Rattle.history_laws.specs.History.{IsHistory, IsLegal, IsTold, IsWhole};
-ghost use Rattle.history_laws.specs.Fitting.{IsCountable, IsFitting};
+ghost use Rattle.history_laws.specs.Fitting.{IsCountable};
 ghost use Rattle.history_laws.specs.Ways.{way_heard, back_heard, route_heard};
 ghost use Rattle.history_laws.specs.Counts.{IsLimited, births_in, starts_in, starts_by, has_server};
 ghost use Rattle.history_laws.specs.Laws.{Laws};
@@ -85,23 +85,13 @@ pub fn journals_are_spelled()
     laws();
 }
 
-/// Each number of a line fits the type of its field, where few lines stand before it.
+/// Each number of a journal's lines fits its type, where the journal isn't too long; and those of the lines of one command more.
 pub fn journals_fit()
-    ensures { (commands : List Commands) → IsPlaced commands → IsFitting (journal_of commands) }
+    ensures whole { (commands : List Commands) → IsPlaced commands → IsCountable (journal_of commands) → All IsTyped (journal_of commands) }
+    ensures more { (commands : List Commands) (command : Commands) → IsPlaced (commands ++ command ∷ []) → IsCountable (journal_of commands)
+        → All IsTyped (journal_of (commands ++ command ∷ [])) }
 {
     laws();
-    journals_are_rested();
-}
-
-/// A journal that is told, wherever it ends, can be spelled: each of its lines has a spelling, and in one that isn't too long
-/// each number fits the type of its field.
-pub fn told_are_spelled()
-    ensures spelled { (journal : List JournalLine) → IsTold journal → IsPlaced (do_commands journal) → All IsSpelled journal }
-    ensures typed { (journal : List JournalLine) → IsTold journal → IsPlaced (do_commands journal) → IsCountable journal → All IsTyped journal }
-{
-    laws();
-    journals_are_spelled();
-    journals_fit();
 }
 
 /// The neighbours over which an enclave's ways go are those of which it heard last.

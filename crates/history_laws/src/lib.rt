@@ -7,6 +7,5 @@ mod laws;
 
 pub use laws::{
     fronts_are_histories, journals_are_histories, journals_are_legal, journals_are_spelled,
-    journals_fit, one_journal, pasts_are_counted, told_are_histories, told_are_spelled,
-    ways_are_heard,
+    journals_fit, one_journal, pasts_are_counted, told_are_histories, ways_are_heard,
 };

@@ -1,5 +1,8 @@
-use Rattle.history_laws.proofs.Fitting.{journal_of-fits}
+use Rattle.history_laws.proofs.Fitting.{journal_of-typed, journal_of-typed_more}
 use Rattle.history_laws.proofs.laws.journals_fit.Goals as goal
 
-pub returns : goal.returns
-returns c = λ commands placed. journal_of-fits c.laws.ensures commands placed (c.journals_are_rested.ensures commands placed)
+pub returns-clause-whole : goal.returns-clause-whole
+returns-clause-whole c = journal_of-typed c.laws.ensures
+
+pub returns-clause-more : goal.returns-clause-more
+returns-clause-more c = journal_of-typed_more c.laws.ensures
