@@ -10,6 +10,7 @@ use Rattle.text_words.specs.Solid.{IsSolid, AreWords}
 use Rattle.text_words.specs.Words.{lines_of}
 use Rattle.line_reader.specs.Lines.{text_line}
 use Rattle.line_reader.specs.Typed.{IsTyped}
+use Rattle.scenario_text.specs.Reading.{IsReadAs}
 
 -- what a text of a journal is split into, and that a line is read back from its text
 abbrev SplitAgain : Type 0
@@ -42,14 +43,14 @@ lines_of-text are_words (line ∷ journal) =
     ap lines_of (append_assoc body (10 ∷ []) (text_of journal)) ∙ lines_of-line body (text_of journal) (joined_is_one_line (line_words line) (are_words line)) ∙ ap (λ ls. body ∷ ls) (lines_of-text are_words journal)
 
 -- what the lines of a journal spell
-read_all : (split : SplitAgain) (back : ReadBack) (journal : List Line) → All IsTyped journal → All IsSpelled journal → map text_line (lines_of (text_of journal)) ≡ map (λ line. Some line) journal
+pub read_all : (split : SplitAgain) (back : ReadBack) (journal : List Line) → All IsTyped journal → All IsSpelled journal → IsReadAs (text_of journal) journal
 read_all split back journal typed spelled = ap (map text_line) (split journal) ∙ each journal typed spelled
   where
     each : (js : List Line) → All IsTyped js → All IsSpelled js → map text_line (map (λ line. join_with_byte 32 (line_words line)) js) ≡ map (λ line. Some line) js
     each [] t s = refl
     each (line ∷ js) t s = rw (back line (All-head IsTyped line js t) (All-head IsSpelled line js s), each js (All-tail IsTyped line js t) (All-tail IsSpelled line js s)) refl
 
-some_apart : (a b : List Line) → map (λ line. Some line) a ≡ map (λ line. Some line) b → a ≡ b
+pub some_apart : (a b : List Line) → map (λ line. Some line) a ≡ map (λ line. Some line) b → a ≡ b
 some_apart [] [] h = refl
 some_apart [] (y ∷ b) h = cc
 some_apart (x ∷ a) [] h = cc
@@ -58,7 +59,3 @@ some_apart (x ∷ a) (y ∷ b) h =
     let same : x ≡ y = cc in
     let rest : map (λ line. Some line) a ≡ map (λ line. Some line) b = cc in
     rw (same, some_apart a b rest) refl
-
-pub journals_apart : (split : SplitAgain) (back : ReadBack) (a b : List Line) → All IsTyped a → All IsTyped b → All IsSpelled a → All IsSpelled b → text_of a ≡ text_of b → a ≡ b
-journals_apart split back a b ta tb sa sb h =
-    some_apart a b (sym (read_all split back a ta sa) ∙ ap (λ text. map text_line (lines_of text)) h ∙ read_all split back b tb sb)

@@ -5,3 +5,4 @@ pub use Rattle.command_reader.specs.Scenario
 pub use Rattle.line_reader.specs.Slots
 pub use Rattle.line_reader.specs.Lines
 pub use Rattle.line_reader.specs.Typed
+pub mod Reading

@@ -1,11 +1,12 @@
 // Laws of journals: a crate above calls such a function to have its contract.
-ghost use Rattle.std.specs.Prelude.{◌≡◌, List, map};
+ghost use Rattle.std.specs.Prelude.{◌≡◌, ℕ, List, map};
 ghost use Rattle.std.specs.List.{join_with_byte, All};
 ghost use Rattle.xemem_language.specs.declared.line.Line.{Line as JournalLine};
 ghost use Rattle.xemem_language.specs.Ranges.{IsSpelled};
 ghost use Rattle.xemem_language.specs.Spelling.{line_words, text_of};
 ghost use Rattle.text_words.specs.Words.{lines_of, words_of};
 ghost use Rattle.line_reader.specs.Typed.{IsTyped};
+ghost use Rattle.scenario_text.specs.Reading.{IsReadAs};
 
 use line_reader::{lines_are_read_back, lines_are_words};
 use text_words::words_are_split_again;
@@ -20,9 +21,11 @@ pub fn journals_are_split_again()
     lines_are_words();
 }
 
-/// Journals whose lines have spellings are told apart by their texts.
-pub fn one_reading()
-    ensures { (a b : List JournalLine) → All IsTyped a → All IsTyped b → All IsSpelled a → All IsSpelled b → text_of a ≡ text_of b → a ≡ b }
+/// The text of a journal, whose lines have spellings and whose numbers fit their types, is read back as this journal. A text is
+/// read as no other.
+pub fn journals_are_read_back()
+    ensures back { (journal : List JournalLine) → All IsTyped journal → All IsSpelled journal → IsReadAs (text_of journal) journal }
+    ensures only { (text : List ℕ) (a b : List JournalLine) → IsReadAs text a → IsReadAs text b → a ≡ b }
 {
     journals_are_split_again();
     lines_are_read_back();

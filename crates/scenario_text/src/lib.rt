@@ -8,7 +8,7 @@ pub use command_reader::{
     SyntaxFault, commands_are_read_back, commands_are_words, place_ok, read_command,
     scenarios_are_placed,
 };
-pub use laws::{journals_are_split_again, one_reading};
+pub use laws::{journals_are_read_back, journals_are_split_again};
 pub use line_printer::{digits, print_line, text};
 pub use line_reader::{lines_are_read_back, lines_are_words, read_line};
 pub use text_words::first_line;
