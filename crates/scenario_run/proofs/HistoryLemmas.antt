@@ -1,7 +1,7 @@
 -- Fronts of journals and of their commands.
 use Rattle.std.proofs.Common.{◌≡◌, ◌+◌, ◌≤◌, ℕ, List, [], ◌∷◌, ◌++◌, length, length-append, true, refl, sym, ap, ◌∙◌, arith, append_assoc}
-use Rattle.std.proofs.lemmas.List.Elements.{filter-append}
-use Rattle.std.specs.List.{filter}
+use Rattle.std.proofs.lemmas.List.Elements.{filter-append, All-nil, All-cons, All-head, All-tail}
+use Rattle.std.specs.List.{filter, All}
 use Rattle.std.proofs.lemmas.List.Concat.{flat_map-append}
 use Rattle.xemem_language.specs.declared.command.Command.{Command}
 use Rattle.xemem_language.specs.declared.line.Line.{Line}
@@ -56,3 +56,10 @@ journal_from-append G (x ∷ xs) ys =
 -- the journal of more commands goes on from that of the first ones
 pub journal_more : (xs ys : List Command) → (rest : List Line) × (journal_of (xs ++ ys) ≡ journal_of xs ++ rest)
 journal_more xs ys = journal_from-append no_facts xs ys
+
+-- ---- fronts of lines
+
+-- what holds of each line holds of each of a front
+pub All-front : (P : Line → Type 0) (journal rest : List Line) → All P (journal ++ rest) → All P journal
+All-front P [] rest all = All-nil P
+All-front P (l ∷ ls) rest all = All-cons P l ls (All-head P l (ls ++ rest) all) (All-front P ls rest (All-tail P l (ls ++ rest) all))

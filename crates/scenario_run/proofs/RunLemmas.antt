@@ -5,12 +5,16 @@ use Rattle.std.proofs.KnownBytes.{Appends-trans}
 use Rattle.std.proofs.Math.Seq.{take-append-add}
 use Rattle.xemem_language.specs.declared.command.Command.{Command}
 use Rattle.xemem_language.specs.declared.line.Line.{Line}
-use Rattle.xemem_language.specs.Ranges.{IsInRange}
+use Rattle.std.specs.List.{All}
+use Rattle.xemem_language.specs.Ranges.{IsInRange, IsSpelled}
 use Rattle.global_model.specs.Place.{may_stand, IsPlaced}
 use Rattle.global_model.specs.Due.{journal_of}
 use Rattle.xemem_language.specs.Spelling.{text_of}
 use Rattle.global_model.specs.Journals.{do_commands}
+use Rattle.history_laws.specs.Fitting.{IsCountable}
 use Rattle.history_laws.specs.History.{IsHistory}
+use Rattle.scenario_text.specs.Reading.{IsReadAs}
+use Rattle.scenario_text.specs.Typed.{IsTyped}
 use Rattle.scenario_text.specs.Words.{lines_of}
 use Rattle.scenario_text.specs.Scenario.{Ending, Stop, TooMany, TooLong, Faulty, Unbuilt, Scenario, onto_scenario}
 use Rattle.scenario_run.specs.Scenario.{scenario_of, scenario_from, said}
@@ -23,7 +27,7 @@ use Rattle.scenario_run.specs.declared.execute.Fault.{Fault}
 use Rattle.scenario_run.specs.declared.execute.Fault.TheVariants as faults
 use Rattle.scenario_run.specs.Laws.{Laws}
 use Rattle.scenario_run.specs.Run.{IsRun, IsRunSoFar, IsRunFull, IsGoing, IsFilled, Writes, WritesFront, Leaves, LeavesIn, FaultLeaves, FillsOn, Ends, ending_status, judged_status, status_of, stop_status}
-use Rattle.scenario_run.proofs.HistoryLemmas.{placed_front, placed_last, text_of-append, line_in, one_delivery, journal_more}
+use Rattle.scenario_run.proofs.HistoryLemmas.{All-front, placed_front, placed_last, text_of-append, line_in, one_delivery, journal_more}
 use Rattle.scenario_run.proofs.StepLemmas.{cut_whole}
 
 -- what was done so far on the world, after so many commands, and what is left of the scenario
@@ -103,11 +107,35 @@ lawful_front : Laws → (bytes : List ℕ) (done : List Command) (left : Scenari
 lawful_front laws bytes done left journal rest is whole =
     laws.fronts journal rest (subst IsHistory whole (laws.history done (front_placed laws bytes done left is)))
 
+-- ---- how what was written is read
+
+-- the world's journal is short
+going_countable : (v : WorldView) → IsGoing v → IsCountable (journal_of (do_commands v.journal))
+going_countable v going = let few = going.short.words in rw (← going.told) (omega (arith, few))
+
+-- its numbers fit, and so do those of one command more
+going_fits : Laws → (bytes : List ℕ) (v : WorldView) (left : Scenario) → IsGoing v → scenario_of bytes ≡ onto_scenario (do_commands v.journal) left
+    → All IsTyped (journal_of (do_commands v.journal))
+going_fits laws bytes v left going is = laws.fits (do_commands v.journal) (front_placed laws bytes (do_commands v.journal) left is) (going_countable v going)
+
+next_fits : Laws → (bytes : List ℕ) (v : WorldView) (c : Command) (left : Scenario) → IsGoing v → scenario_of bytes ≡ onto_scenario (do_commands v.journal ++ c ∷ []) left
+    → All IsTyped (journal_of (do_commands v.journal ++ c ∷ []))
+next_fits laws bytes v c left going is = laws.fits_more (do_commands v.journal) c (front_placed laws bytes (do_commands v.journal ++ c ∷ []) left is) (going_countable v going)
+
+-- a front of the journal of first commands of the scenario is read back from its text
+read_front : Laws → (bytes : List ℕ) (done : List Command) (left : Scenario) (journal rest : List Line) → scenario_of bytes ≡ onto_scenario done left → All IsTyped (journal_of done)
+    → journal_of done ≡ journal ++ rest → IsReadAs (text_of journal) journal
+read_front laws bytes done left journal rest is fits whole =
+    let spelled = laws.spelled done (front_placed laws bytes done left is) in
+    laws.read journal (All-front IsTyped journal rest (subst (All IsTyped) whole fits)) (All-front IsSpelled journal rest (subst (All IsSpelled) whole spelled))
+
 -- the journal of first commands of the scenario
-run_so_far : Laws → (bytes : List ℕ) (done : List Command) (left : Scenario) → scenario_of bytes ≡ onto_scenario done left → IsRunSoFar bytes (text_of (journal_of done))
-run_so_far laws bytes done left is = record {
+run_so_far : Laws → (bytes : List ℕ) (done : List Command) (left : Scenario) → scenario_of bytes ≡ onto_scenario done left → All IsTyped (journal_of done)
+    → IsRunSoFar bytes (text_of (journal_of done))
+run_so_far laws bytes done left is fits = record {
   journal = journal_of done;
   text = refl;
+  read = read_front laws bytes done left (journal_of done) [] is fits (sym (append-nil _));
   commands = record { rest = left.commands; is = ap (λ s. s.commands) is ∙ ap (λ cs. cs ++ left.commands) (sym (laws.commands done)) };
   history = lawful_front laws bytes done left (journal_of done) [] is (sym (append-nil _));
   whole = laws.whole done;
@@ -116,13 +144,14 @@ run_so_far laws bytes done left is = record {
 leaves_memory : Laws → (bytes : List ℕ) (v w : WorldView) (before number : ℕ) (rest : List ℕ) (old new newer : Option (List ℕ)) → SoFar bytes v before number rest old new → Appends new newer [] → LeavesIn old newer statuses.Memory bytes w
 leaves_memory laws bytes v w before number rest old new newer s none =
     let text = text_of v.journal in
-    (text, subst (Appends old newer) (append-nil text) (Appends-trans old new newer text [] s.put none), rw s.going.told (run_so_far laws bytes (do_commands v.journal) _ s.scenario_is))
+    (text, subst (Appends old newer) (append-nil text) (Appends-trans old new newer text [] s.put none), rw s.going.told (run_so_far laws bytes (do_commands v.journal) _ s.scenario_is (going_fits laws bytes v _ s.going s.scenario_is)))
 
 -- the journal of all of them is the world's
 run_whole : Laws → (bytes : List ℕ) (v : WorldView) (left : Scenario) → IsGoing v → scenario_of bytes ≡ onto_scenario (do_commands v.journal) left → left.commands ≡ [] → IsRun bytes (text_of v.journal)
 run_whole laws bytes v left going is none = record {
   journal = v.journal;
   text = refl;
+  read = read_front laws bytes (do_commands v.journal) left v.journal [] is (going_fits laws bytes v left going is) (sym going.told ∙ sym (append-nil v.journal));
   commands = sym (ap (λ s. s.commands) is ∙ ap (λ cs. do_commands v.journal ++ cs) none ∙ append-nil (do_commands v.journal));
   history = lawful_front laws bytes (do_commands v.journal) left v.journal [] is (sym going.told ∙ sym (append-nil v.journal));
   whole = rw going.told (laws.whole (do_commands v.journal));
@@ -172,11 +201,12 @@ leaves_write laws bytes v w before number rest after c old new newer s next writ
     let all : text_of (journal_of done) ≡ text_of v.journal ++ piece = ap text_of writes.grown ∙ text_of-append v.journal writes.lines in
     let m = length (text_of v.journal) + n in
     let cut : text_of v.journal ++ take n piece ≡ take m (text_of (journal_of done)) = sym (take-append-add (text_of v.journal) piece n) ∙ ap (take m) (sym all) in
-    (text_of v.journal ++ take n piece, Appends-trans old new newer (text_of v.journal) (take n piece) s.put writes.wrote.2, record { text = text_of (journal_of done); run = run_so_far laws bytes done _ next.is; count = m; front = cut })
+    (text_of v.journal ++ take n piece, Appends-trans old new newer (text_of v.journal) (take n piece) s.put writes.wrote.2, record { text = text_of (journal_of done); run = run_so_far laws bytes done _ next.is (next_fits laws bytes v c _ s.going next.is); count = m; front = cut })
 
 -- the journal of first commands, cut
-run_full : Laws → (bytes : List ℕ) (which : Which) (done : List Command) (c : Command) (left : Scenario) (journal : List Line) → scenario_of bytes ≡ onto_scenario (done ++ c ∷ []) left → IsCut which done c journal → IsRunFull which bytes (text_of journal)
-run_full laws bytes which done c left journal is cut =
+run_full : Laws → (bytes : List ℕ) (which : Which) (done : List Command) (c : Command) (left : Scenario) (journal : List Line) → scenario_of bytes ≡ onto_scenario (done ++ c ∷ []) left → All IsTyped (journal_of (done ++ c ∷ []))
+    → IsCut which done c journal → IsRunFull which bytes (text_of journal)
+run_full laws bytes which done c left journal is fits cut =
     let all = done ++ c ∷ [] in
     let rest = cut.2.line ∷ cut.2.rest in
     let whole = cut_whole which done c journal cut in
@@ -184,6 +214,7 @@ run_full laws bytes which done c left journal is cut =
     record {
       journal = journal;
       text = refl;
+      read = read_front laws bytes all left journal rest is fits whole;
       commands = record { rest = do_commands rest ++ left.commands; is = ap (λ s. s.commands) is ∙ ap (λ cs. cs ++ left.commands) commands ∙ append_assoc (do_commands journal) (do_commands rest) left.commands };
       history = lawful_front laws bytes all left journal rest is whole;
       done = done;
@@ -206,7 +237,7 @@ unfolding run_full
 leaves_limit laws bytes v w before number rest after c old new newer which limit s next filled =
     let lines = filled.wrote.lines in
     let text : text_of v.journal ++ text_of lines ≡ text_of w.journal = sym (text_of-append v.journal lines) ∙ ap text_of (sym filled.wrote.grown) in
-    let run = run_full laws bytes which (do_commands v.journal) c _ w.journal next.is filled.cut in
+    let run = run_full laws bytes which (do_commands v.journal) c _ w.journal next.is (next_fits laws bytes v c _ s.going next.is) filled.cut in
     rw filled.most
     (text_of w.journal, subst (Appends old newer) text (Appends-trans old new newer _ _ s.put filled.wrote.wrote), limit_leaves bytes w (text_of w.journal) which (filled.limit, run, record { has = refl; full = filled.full }))
 
@@ -244,6 +275,7 @@ pub no_run : (bytes : List ℕ) → IsRunSoFar bytes []
 no_run bytes = record {
   journal = [];
   text = refl;
+  read = refl;
   commands = record { rest = (scenario_of bytes).commands; is = refl };
   history = record { legal = tt; carried = tt; told = tt; rested = tt };
   whole = refl;

@@ -19,8 +19,8 @@ abbrev pub AsksRun : List (String Global) → Type 0
 AsksRun words = map string_bytes words ≡ codes "run" ∷ []
 
 -- The headline. The source was read to its end, no line stops the scenario, and what was appended to the sink is
--- the text of a lawful history that is whole, whose commands are exactly those of the scenario. That history is the
--- world's journal, and each step on the world was carried through.
+-- the text of a lawful history that is whole, whose commands are exactly those of the scenario, and is read back, line by line,
+-- as this history. That is the world's journal, and each step on the world was carried through.
 pub record WritesHistory (left left_new put put_new : Option (List ℕ)) (world : WorldView) : Type 0 where
   pub bytes : List ℕ
   pub read : GivesAll left left_new bytes most

@@ -4,6 +4,7 @@ use Rattle.std.specs.Io.KnownBytes.{Appends}
 use Rattle.xm_edge.specs.Whole.{AppendsFront}
 use Rattle.xemem_language.specs.declared.command.Command.{Command}
 use Rattle.xemem_language.specs.declared.line.Line.{Line}
+use Rattle.scenario_text.specs.Reading.{IsReadAs}
 use Rattle.scenario_text.specs.Scenario.{Ending, Stop, TooMany, TooLong, Faulty, Unbuilt}
 use Rattle.scenario_run.specs.Scenario.{scenario_of}
 use Rattle.xemem_language.specs.Spelling.{text_of}
@@ -26,20 +27,23 @@ pub record IsFront (commands : List Command) (bytes : List ℕ) : Type 0 where
   pub rest : List Command
   pub is : (scenario_of bytes).commands ≡ commands ++ rest
 
--- What was written is the text of a lawful history that is whole, whose commands are those of the scenario. It passes no
--- limit.
+-- What was written is the text of a lawful history that is whole, whose commands are those of the scenario, and is read
+-- back as this history. It passes no limit.
 pub record IsRun (bytes written : List ℕ) : Type 0 where
   pub journal : List Line
   pub text : written ≡ text_of journal
+  pub read : IsReadAs written journal
   pub commands : do_commands journal ≡ (scenario_of bytes).commands
   pub history : IsHistory journal
   pub whole : IsWhole journal
   pub short : IsShort journal
 
--- What was written is the text of a lawful history that is whole, whose commands are the first ones of the scenario.
+-- What was written is the text of a lawful history that is whole, whose commands are the first ones of the scenario, and is
+-- read back as this history.
 pub record IsRunSoFar (bytes written : List ℕ) : Type 0 where
   pub journal : List Line
   pub text : written ≡ text_of journal
+  pub read : IsReadAs written journal
   pub commands : IsFront (do_commands journal) bytes
   pub history : IsHistory journal
   pub whole : IsWhole journal
@@ -51,12 +55,13 @@ pub record IsRunCut (bytes written : List ℕ) : Type 0 where
   pub count : ℕ
   pub front : written ≡ take count text
 
--- What was written is the text of a lawful history whose commands are the first ones of the scenario. It is the journal
--- of the commands `done` and of one more, up to the line that would pass the limit, and that line is one of the last
--- command's.
+-- What was written is the text of a lawful history whose commands are the first ones of the scenario, and is read back as
+-- this history. It is the journal of the commands `done` and of one more, up to the line that would pass the limit, and that
+-- line is one of the last command's.
 pub record IsRunFull (which : Which) (bytes written : List ℕ) : Type 0 where
   pub journal : List Line
   pub text : written ≡ text_of journal
+  pub read : IsReadAs written journal
   pub commands : IsFront (do_commands journal) bytes
   pub history : IsHistory journal
   pub done : List Command

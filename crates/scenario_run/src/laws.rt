@@ -2,8 +2,10 @@
 ghost use Rattle.scenario_run.specs.Laws.{Laws};
 
 use global_model::{journals_grow, pasts_grow};
-use history_laws::{fronts_are_histories, journals_are_histories, one_journal};
-use scenario_text::scenarios_are_placed;
+use history_laws::{
+    fronts_are_histories, journals_are_histories, journals_are_spelled, journals_fit, one_journal,
+};
+use scenario_text::{journals_are_read_back, scenarios_are_placed};
 
 /// All of them at once.
 pub fn laws()
@@ -15,4 +17,7 @@ pub fn laws()
     journals_are_histories();
     fronts_are_histories();
     scenarios_are_placed();
+    journals_are_spelled();
+    journals_fit();
+    journals_are_read_back();
 }

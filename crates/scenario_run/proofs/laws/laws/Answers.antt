@@ -9,5 +9,9 @@ returns c = record {
   history = c.journals_are_histories.ensures;
   fronts = c.fronts_are_histories.ensures;
   placed = c.scenarios_are_placed.ensures is_built;
+  spelled = c.journals_are_spelled.ensures;
+  fits = c.journals_fit.ensures.whole;
+  fits_more = c.journals_fit.ensures.more;
+  read = c.journals_are_read_back.ensures.back;
   more = c.journals_grow.ensures.journal;
 }
