@@ -7,4 +7,5 @@ pub mod Told
 pub mod Spelled
 pub mod Fit
 pub mod Steady
+pub mod Fitted
 pub mod Fitting

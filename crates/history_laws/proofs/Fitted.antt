@@ -1,0 +1,379 @@
+-- The lines of a command whose numbers fit their types, and leave facts whose numbers do: births, processes and their pages, and
+-- what is shown.
+use Rattle.std.proofs.Common.{◌≡◌, ◌+◌, ◌-◌, ◌*◌, ◌/◌, ◌<◌, ◌≤◌, ℕ, zero, suc, List, [], ◌∷◌, ◌++◌, length, take, drop, filter, map, Bool, true, false, leb, ltb, eqb, not, ◌&&◌, is_some, Option, None, Some, if◌then◌else◌, All, refl, sym, ap, ◌∙◌, subst, arith, length-append, length-drop, length-take}
+use Rattle.std.specs.List.{AllByRecursion, range_with_len}
+use Rattle.std.specs.Option.{option_map, option_map_or}
+use Rattle.std.specs.Map.{values_of, keys_of}
+use Rattle.std.proofs.lemmas.Bool.{leb-false, ltb-false, eqb-true, and_parts, cond_both}
+use Rattle.std.proofs.lemmas.List.Concat.{flat_map-append}
+use Rattle.std.proofs.lemmas.List.Elements.{All-nil, All-cons, All-head, All-tail, All-append, All-map, All-take, All-drop, All-filter, All-weaker}
+use Rattle.xm_num.specs.declared.Enclave.{Enclave}
+use Rattle.xm_num.specs.declared.Pid.{Pid}
+use Rattle.xm_num.specs.declared.Vpn.{Vpn}
+use Rattle.xm_num.specs.declared.Frame.{Frame}
+use Rattle.xm_num.specs.declared.Block.{Block}
+use Rattle.xm_num.specs.declared.Kind.{Kind}
+use Rattle.xm_num.specs.declared.Kind.TheVariants as kinds
+use Rattle.xm_num.specs.declared.Want.{Want}
+use Rattle.xm_num.specs.declared.Page.{Page}
+use Rattle.xm_num.specs.declared.Cause.{Cause}
+use Rattle.xm_num.specs.declared.Cause.TheVariants as causes
+use Rattle.xm_num.specs.Rows.{at}
+use Rattle.xemem_language.specs.declared.command.Command.{Command}
+use Rattle.xemem_language.specs.declared.command.Command.TheVariants as commands
+use Rattle.xemem_language.specs.declared.record.Record.{Record}
+use Rattle.xemem_language.specs.declared.line.Line.{Line}
+use Rattle.xemem_language.specs.declared.line.Line.TheVariants as lines
+use Rattle.xemem_language.specs.Spelling.{line_words, words_in}
+use Rattle.xemem_language.specs.Ranges.{IsInRange}
+use Rattle.xemem_wire.specs.Spelling.{spelling_of, header_of, spellings_of, AreValid}
+use Rattle.line_reader.specs.Typed.{Is8, Is16, Is32, IsTyped}
+use Rattle.enclave_rules.specs.Blocks.{BlockFact, Absent, Free, Lent, Held, is_listed}
+use Rattle.enclave_rules.specs.View.{host}
+use Rattle.enclave_rules.specs.Steps.{child_lines, told_lines, adopt_lines, query_of, knows_way, route_lines, bytes_lines, state_line, state_lines}
+use Rattle.global_model.specs.Facts.{EnclaveFact, Facts, after_line, facts_at, own_from, fact_of, with_sent, with_taken, with_got, is_living_enclave, is_living_process}
+use Rattle.global_model.specs.Space.{Mapping, is_of, pages_of, mapping_of, space_of, is_unused, unused_frames, free_blocks}
+use Rattle.global_model.specs.Channels.{is_neighbour, was_born, waiting_bytes}
+use Rattle.global_model.specs.Views.{view_of}
+use Rattle.global_model.specs.Refusals.{when, is_taken, refusal_of}
+use Rattle.global_model.specs.Due.{next_enclave, next_pid, touched_lines, acts_of, step_lines}
+use Rattle.global_model.specs.Journals.{onto}
+use Rattle.history_laws.specs.Fitting.{IsCountable}
+use Rattle.history_laws.specs.Laws.{Laws}
+use Rattle.history_laws.proofs.Legal.{All-range, behind_page}
+use Rattle.history_laws.proofs.Fit.{IsNumber, AllNumbers, IsLow, IsFitBlock, IsFitPage, IsFit, IsSteady, AreSteady, fit_line, at_number_fits}
+use Rattle.history_laws.proofs.Steady.{steady_append, steady_either, valid_query, valid_numbers}
+
+-- ---- steady lines
+
+wide : (e : Enclave) → IsNumber e → Is16 e.0
+wide e number = omega (arith, number)
+
+typed_line : (l : Line) → IsSteady l → IsTyped l
+typed_line (lines.Told e of) s = (wide e s.0, wide of s.1)
+typed_line (lines.Admitted e) s = wide e s
+typed_line (lines.Touched e p page frame) s = s
+typed_line (lines.Sent x y r) s =
+    let numbers = valid_numbers r s.2 in
+    (wide x s.0, wide y s.1, wide r.origin numbers.origin, numbers.call, numbers.body)
+typed_line (lines.Took x y count) s = (wide x s.0, wide y s.1, s.2)
+typed_line (lines.Idle x y) s = (wide x s.0, wide y s.1)
+typed_line (lines.Got x y) s = (wide x s.0, wide y s.1)
+typed_line (lines.Dropped e) s = wide e s
+typed_line (lines.Asked e by) s = (wide e s.0, wide by s.1)
+typed_line (lines.Way e over) s = (wide e s.0, wide over s.1)
+typed_line (lines.Back e of over) s = (wide e s.0, wide of s.1, wide over s.2)
+typed_line (lines.Route e of over) s = (wide e s.0, wide of s.1, wide over s.2)
+typed_line (lines.Settled made) s = s
+typed_line (lines.Waiting made) s = s
+typed_line (lines.AtWay e over) s = (wide e s.0, wide over s.1)
+typed_line (lines.AtWayOwn e) s = wide e s
+typed_line (lines.AtWayNone e) s = wide e s
+typed_line (lines.AtRoute e of over) s = (wide e s.0, wide of s.1, wide over s.2)
+typed_line (lines.BlockFree b) s = s
+typed_line (lines.BlockLent b e) s = let number = s.1 in (s.0, omega (arith, number))
+typed_line (lines.BlockHeld b e) s = let number = s.1 in (s.0, omega (arith, number))
+typed_line _ s = absurd s
+
+typed_lines : (ls : List Line) → AreSteady ls → All IsTyped ls
+typed_lines [] steady = All-nil IsTyped
+typed_lines (l ∷ ls) steady = All-cons IsTyped l ls (typed_line l steady.0) (typed_lines ls steady.1)
+
+-- ---- lines behind a past: they are typed where few words stand before their command, and what they leave fits
+
+pub record IsFittedUpTo (few : Type 0) (past journal : List Line) : Type 0 where
+  pub typed : few → All IsTyped journal
+  pub fit : IsFit (facts_at (onto journal past))
+
+fit_onto : (ls past : List Line) → IsFit (facts_at past) → AreSteady ls → IsFit (facts_at (onto ls past))
+fit_onto [] past fit steady = fit
+fit_onto (l ∷ ls) past fit steady = fit_onto ls (l ∷ past) (fit_line (facts_at past) fit l steady.0) steady.1
+
+pub fitted_steady : (few : Type 0) (ls past : List Line) → IsFit (facts_at past) → AreSteady ls → IsFittedUpTo few past ls
+fitted_steady few ls past fit steady = record { typed = λ is. typed_lines ls steady; fit = fit_onto ls past fit steady }
+
+fitted_cons : (few : Type 0) (l : Line) (ls past : List Line) → IsTyped l → IsFittedUpTo few (l ∷ past) ls → IsFittedUpTo few past (l ∷ ls)
+fitted_cons few l ls past typed more = record { typed = λ is. All-cons IsTyped l ls typed (more.typed is); fit = more.fit }
+
+pub fitted_one : (few : Type 0) (l : Line) (past : List Line) → IsTyped l → IsFit (facts_at (l ∷ past)) → IsFittedUpTo few past (l ∷ [])
+fitted_one few l past typed fit = fitted_cons few l [] past typed (record { typed = λ is. All-nil IsTyped; fit = fit })
+
+-- a command whose acts fit where it isn't refused
+pub with_refusal : (c : Command) (past : List Line) → IsFit (facts_at (lines.Do c ∷ past))
+    → (refusal_of (facts_at past) c ≡ None → IsFittedUpTo (IsCountable past) (lines.Do c ∷ past) (acts_of (facts_at past) c))
+    → IsFittedUpTo (IsCountable past) past (step_lines (facts_at past) c)
+with_refusal c past fit acts = by (refusal_of (facts_at past) c) refl
+  where
+    by : (o : Option Cause) → refusal_of (facts_at past) c ≡ o
+        → IsFittedUpTo (IsCountable past) past (lines.Do c ∷ option_map_or (λ cause. lines.Refused cause ∷ []) o (acts_of (facts_at past) c))
+    by None is = fitted_cons (IsCountable past) (lines.Do c) (acts_of (facts_at past) c) past tt (acts is)
+    by (Some cause) is = fitted_cons (IsCountable past) (lines.Do c) (lines.Refused cause ∷ []) past tt (fitted_one (IsCountable past) (lines.Refused cause) (lines.Do c ∷ past) tt fit)
+
+-- ---- conditions that don't hold
+
+not_false : (b : Bool) → not b ≡ false → b ≡ true
+not_false true is = refl
+not_false false is = cc
+
+living_some : (fact : Option EnclaveFact) → is_living_enclave fact ≡ true → is_some fact ≡ true
+living_some None is = cc
+living_some (Some fact) is = refl
+
+pub living_number : (G : Facts) (e : Enclave) → IsFit G → not (is_living_enclave (G.enclave e.0)) ≡ false → IsNumber e
+living_number G e fit lives = fit.tree.number e.0 (living_some (G.enclave e.0) (not_false _ lives))
+
+-- both ends of a channel
+pub channel_numbers : Laws → (G : Facts) (x y : Enclave) → IsFit G
+    → refusal_of G (commands.ShowLink x y) ≡ None → IsNumber x × IsNumber y
+channel_numbers laws G x y fit none =
+    let there = and_parts _ _ (not_false _ (laws.act.unmet causes.NoEnclave (not (is_living_enclave (G.enclave y.0) && was_born G x.0)) (when causes.NoLink (not (is_neighbour G x.0 y.0)) ∷ []) none).0) in
+    (fit.tree.number x.0 there.1, fit.tree.number y.0 (living_some (G.enclave y.0) there.0))
+
+-- ---- births
+
+blocks_fit : (G : Facts) (n : ℕ) → IsFit G → All (λ b. Is16 b.0) (take n (free_blocks G))
+blocks_fit G n fit =
+    let most = fit.pool.most in
+    let low = All-weaker (λ b. (0 ≤ b) × (b < 0 + G.pool)) Is16 (λ b h. omega (arith, h.1, most)) (range_with_len 0 G.pool) (All-range 0 G.pool) in
+    All-take (λ b. Is16 b.0) n (free_blocks G) (All-map (λ (b : Block). Is16 b.0) (λ b. record { 0 = b }) _ (All-filter _ Is16 (range_with_len 0 G.pool) low))
+
+fit_born : (G : Facts) (e : Enclave) (kind : Kind) (parent : Enclave) (ns : Bool) (blocks : List Block) → IsFit G → G.born ≤ 255 → IsNumber e → IsNumber parent
+    → IsFit (after_line G (lines.Born e kind parent ns blocks))
+fit_born G e kind parent ns blocks fit room number above =
+    let fact : Option EnclaveFact = Some (record { kind = kind; parent = parent; blocks = blocks; ns = ns; living = true; admitted = false }) in
+    record {
+      pool = record { most = fit.pool.most; lent = λ b. cond_both (is_listed blocks b) (Lent e.0) (G.block b) IsFitBlock (λ is. number) (λ other. fit.pool.lent b) };
+      tree = record {
+        most = omega (arith, room);
+        number = λ j. cond_both (eqb j e.0) fact (G.enclave j) (λ found. is_some found ≡ true → j ≤ 255) (λ is some. subst (λ k. k ≤ 255) (sym (eqb-true j e.0 is)) number) (λ other. fit.tree.number j);
+        parent = λ j. cond_both (eqb j e.0) fact (G.enclave j) (λ found. IsNumber (fact_of found).parent) (λ is. above) (λ other. fit.tree.parent j);
+      };
+      known = fit.known;
+      channels = fit.channels;
+      starts = fit.starts;
+      own = fit.own;
+    }
+
+fitted_born : (few : Type 0) (G : Facts) (past : List Line) (e : Enclave) (kind : Kind) (parent : Enclave) (ns : Bool) (blocks : ℕ) (more : List Line)
+    → G ≡ facts_at past → IsFit G → G.born ≤ 255 → IsNumber e → IsNumber parent → AreSteady more
+    → IsFittedUpTo few past (lines.Born e kind parent ns (take blocks (free_blocks G)) ∷ more)
+fitted_born few G past e kind parent ns blocks more is fit room number above steady =
+    let line = lines.Born e kind parent ns (take blocks (free_blocks G)) in
+    let after : IsFit (facts_at (line ∷ past)) = subst (λ H. IsFit (after_line H line)) is (fit_born G e kind parent ns _ fit room number above) in
+    fitted_cons few line more past (wide e number, wide parent above, blocks_fit G blocks fit) (fitted_steady few more (line ∷ past) after steady)
+
+steady_told : (child : Enclave) (dead : List Enclave) → IsNumber child → All IsNumber dead → AreSteady (told_lines child dead)
+steady_told child [] number all = tt
+steady_told child (d ∷ dead) number all = ((number, All-head IsNumber d dead all), steady_told child dead number (All-tail IsNumber d dead all))
+
+pub fitted_host : (blocks : ℕ) (ns : Bool) (past : List Line) → IsFit (facts_at past) → (facts_at past).born ≡ 0
+    → IsFittedUpTo (IsCountable past) past (step_lines (facts_at past) (commands.Host blocks ns))
+fitted_host blocks ns past fit none =
+    with_refusal (commands.Host blocks ns) past fit
+    (λ met. fitted_born (IsCountable past) (facts_at past) (lines.Do (commands.Host blocks ns) ∷ past) host kinds.Host host ns blocks (if ns then lines.Admitted host ∷ [] else []) refl fit (omega (arith, none)) (omega arith) (omega arith)
+    (steady_either ns (lines.Admitted host ∷ []) [] (omega arith, tt) tt))
+
+pub fitted_boot : Laws → (kind : Kind) (parent : Enclave) (blocks : ℕ) (ns : Bool) (past : List Line) → IsFit (facts_at past)
+    → IsFittedUpTo (IsCountable past) past (step_lines (facts_at past) (commands.Boot kind parent blocks ns))
+fitted_boot laws kind parent blocks ns past fit = with_refusal (commands.Boot kind parent blocks ns) past fit acts
+  where
+    G : Facts
+    G = facts_at past
+
+    acts : refusal_of (facts_at past) (commands.Boot kind parent blocks ns) ≡ None
+        → IsFittedUpTo (IsCountable past) (lines.Do (commands.Boot kind parent blocks ns) ∷ past) (acts_of (facts_at past) (commands.Boot kind parent blocks ns))
+    acts none =
+        let H = facts_at past in
+        let fourth = when causes.NoBlocks (ltb (length (free_blocks H)) blocks) ∷ [] in
+        let third = when causes.NameServerTaken (ns && H.server) ∷ fourth in
+        let second = when causes.TooMany (leb 256 H.born) ∷ third in
+        let one = laws.act.unmet causes.NoEnclave (not (is_living_enclave (H.enclave parent.0))) second none in
+        let two = laws.act.unmet causes.TooMany (leb 256 H.born) third one.1 in
+        let room = leb-false 256 H.born two.0 in
+        let above : IsNumber parent = living_number H parent fit one.0 in
+        let child = next_enclave H in
+        let number : IsNumber child = omega (arith, room) in
+        let told = told_lines child (H.heard parent.0) in
+        let own = child_lines child parent ns in
+        let adopted = adopt_lines (view_of H parent) child in
+        fitted_born (IsCountable past) H (lines.Do (commands.Boot kind parent blocks ns) ∷ past) child kind parent ns blocks ((told ++ own) ++ adopted) refl fit (omega (arith, room)) number above
+        (steady_append (told ++ own) adopted
+        (steady_append told own (steady_told child (H.heard parent.0) number (fit.known.dead parent.0))
+        (steady_either ns (lines.Admitted child ∷ []) (lines.Sent child parent (query_of child) ∷ []) (number, tt) ((number, above, valid_query child number), tt)))
+        (steady_either (knows_way (view_of H parent)) [] (lines.Sent parent child (query_of parent) ∷ []) tt ((above, number, valid_query parent above), tt)))
+
+-- ---- processes and their pages
+
+pub fitted_proc : Laws → (e : Enclave) (uid gid : ℕ) (past : List Line) → IsFit (facts_at past) → IsInRange (commands.Proc e uid gid)
+    → IsFittedUpTo (IsCountable past) past (step_lines (facts_at past) (commands.Proc e uid gid))
+fitted_proc laws e uid gid past fit range = with_refusal (commands.Proc e uid gid) past fit (λ none.
+    let G = facts_at past in
+    let one = laws.act.unmet causes.NoEnclave (not (is_living_enclave (G.enclave e.0))) (when causes.TooMany (leb 1024 G.starts) ∷ []) none in
+    let few = leb-false 1024 G.starts (laws.act.unmet causes.TooMany (leb 1024 G.starts) [] one.1).0 in
+    let mine = fit.starts.each e.0 in
+    let number : Is16 e.0 = wide e (living_number G e fit one.0) in
+    fitted_one (IsCountable past) (lines.Proc e (next_pid G e) uid gid) (lines.Do (commands.Proc e uid gid) ∷ past) (number, omega (arith, few, mine), range.1.1, range.2.1)
+    (record {
+      pool = fit.pool;
+      tree = fit.tree;
+      known = fit.known;
+      channels = fit.channels;
+      starts = record {
+        most = omega (arith, few);
+        each = at_number_fits (λ n. n ≤ G.starts + 1) e.0 (G.started e.0 + 1) G.started (omega (arith, mine)) (λ j. let old = fit.starts.each j in omega (arith, old));
+      };
+      own = fit.own;
+    }))
+
+frames_fit : (G : Facts) (e n : ℕ) → IsFit G → All (λ f. Is32 f.0) (take n (unused_frames G e))
+frames_fit G e n fit =
+    let most = fit.pool.most in
+    let low = All-weaker (λ f. (0 ≤ f) × (f < 0 + 64 * G.pool)) Is32 (λ f h. omega (arith, h.1, most)) (range_with_len 0 (64 * G.pool)) (All-range 0 (64 * G.pool)) in
+    All-take (λ f. Is32 f.0) n (unused_frames G e) (All-map (λ (f : Frame). Is32 f.0) (λ f. record { 0 = f }) _ (All-filter (is_unused G e) Is32 (range_with_len 0 (64 * G.pool)) low))
+
+own_fits : (e : Enclave) (p : Pid) (page : ℕ) (frames : List Frame) → page + length frames ≤ 16777216 → All (λ f. Is32 f.0) frames → All IsFitPage (own_from e p page frames)
+own_fits e p page [] within all = All-nil IsFitPage
+own_fits e p page (f ∷ frames) within all =
+    All-cons IsFitPage _ _ (omega (arith, within), All-head (λ (x : Frame). Is32 x.0) f frames all)
+    (own_fits e p (page + 1) frames (omega (arith, within)) (All-tail (λ (x : Frame). Is32 x.0) f frames all))
+
+pub fitted_alloc : Laws → (e : Enclave) (p : Pid) (at : Vpn) (pages : ℕ) (past : List Line) → IsFit (facts_at past) → IsInRange (commands.Alloc e p at pages)
+    → IsFittedUpTo (IsCountable past) past (step_lines (facts_at past) (commands.Alloc e p at pages))
+fitted_alloc laws e p at pages past fit range = with_refusal (commands.Alloc e p at pages) past fit (λ none.
+    let G = facts_at past in
+    let drawn = take pages (unused_frames G e.0) in
+    let fifth = when causes.NoFrames (ltb (length (unused_frames G e.0)) pages) ∷ [] in
+    let fourth = when causes.Taken (is_taken G e.0 p.0 at.0 pages) ∷ fifth in
+    let third = when causes.BadRange (ltb 16777216 (at.0 + pages)) ∷ fourth in
+    let second = when causes.NoProcess (not (is_living_process (G.process e.0 p.0))) ∷ third in
+    let one = laws.act.unmet causes.NoEnclave (not (is_living_enclave (G.enclave e.0))) second none in
+    let two = laws.act.unmet causes.NoProcess (not (is_living_process (G.process e.0 p.0))) third one.1 in
+    let within = ltb-false 16777216 (at.0 + pages) (laws.act.unmet causes.BadRange (ltb 16777216 (at.0 + pages)) fourth two.1).0 in
+    let frames = frames_fit G e.0 pages fit in
+    let few = length-take pages (unused_frames G e.0) in
+    fitted_one (IsCountable past) (lines.Alloc e p at drawn) (lines.Do (commands.Alloc e p at pages) ∷ past) (wide e (living_number G e fit one.0), range.1.1, omega (arith, within), frames)
+    (record {
+      pool = fit.pool;
+      tree = fit.tree;
+      known = fit.known;
+      channels = fit.channels;
+      starts = fit.starts;
+      own = All-append IsFitPage G.own (own_from e p at.0 drawn) fit.own (own_fits e p at.0 drawn (omega (arith, within, few)) frames);
+    }))
+
+-- a page that is mapped, and its frame
+found_fits : Laws → (G : Facts) → IsFit G → (e p page : ℕ) (m : Mapping) → space_of G e p page ≡ Some m → Is32 page × Is32 m.frame.0
+found_fits laws G fit e p page m is = by (at (pages_of G e p) page) refl is
+  where
+    by : (o : Option Page) → at (pages_of G e p) page ≡ o → option_map mapping_of o ≡ Some m → Is32 page × Is32 m.frame.0
+    by None found same = cc
+    by (Some row) found same =
+        let b = behind_page laws IsFitPage (filter (is_of e p) G.own) page row (All-filter (is_of e p) IsFitPage G.own fit.own) found in
+        let mapping : mapping_of row ≡ m = cc in
+        let frame : b.own.frame ≡ m.frame = ap (λ x. x.frame) b.is ∙ ap (λ x. x.frame) mapping in
+        (subst Is32 b.number b.has.0, subst (λ f. Is32 f.0) frame b.has.1)
+
+pub fitted_touch : Laws → (e : Enclave) (p : Pid) (addr : ℕ) (want : Want) (past : List Line) → IsFit (facts_at past) → IsInRange (commands.Touch e p addr want)
+    → IsFittedUpTo (IsCountable past) past (step_lines (facts_at past) (commands.Touch e p addr want))
+fitted_touch laws e p addr want past fit range = with_refusal (commands.Touch e p addr want) past fit (λ none. by (space_of (facts_at past) e.0 p.0 (addr / 4096)) refl)
+  where
+    by : (o : Option Mapping) → space_of (facts_at past) e.0 p.0 (addr / 4096) ≡ o
+        → IsFittedUpTo (IsCountable past) (lines.Do (commands.Touch e p addr want) ∷ past) (touched_lines e p (record { 0 = addr / 4096 }) o)
+    by None is = record { typed = λ few. All-nil IsTyped; fit = fit }
+    by (Some m) is =
+        let found = found_fits laws (facts_at past) fit e.0 p.0 (addr / 4096) m is in
+        let most = range.0.1 in
+        fitted_one (IsCountable past) (lines.Touched e p (record { 0 = addr / 4096 }) m.frame) (lines.Do (commands.Touch e p addr want) ∷ past) (omega (arith, most), range.1.1, found.0, found.1) fit
+
+-- ---- what is shown
+
+pub steady_routes : (G : Facts) (e : Enclave) → IsFit G → IsNumber e → AreSteady (route_lines (view_of G e))
+steady_routes G e fit number = (by (view_of G e).holder (G.way e.0) (fit.known.over e.0), rows (G.routes e.0) (fit.known.lies e.0) (fit.known.route e.0))
+  where
+    by : (holder : Bool) (way : Option Enclave) → ((x : Enclave) → way ≡ Some x → IsNumber x)
+        → IsSteady (if holder then lines.AtWayOwn e else option_map_or (λ over. lines.AtWay e over) way (lines.AtWayNone e))
+    by true way near = number
+    by false None near = number
+    by false (Some over) near = (number, near over refl)
+
+    rows : (routes : List (ℕ × Enclave)) → All IsLow (keys_of routes) → AllNumbers routes
+        → AreSteady (map (λ row. lines.AtRoute e (record { 0 = row.0 }) row.1) routes)
+    rows [] low near = tt
+    rows (row ∷ routes) low near =
+        ((number, All-head IsLow row.0 (keys_of routes) low, All-head IsNumber row.1 (values_of routes) near), rows routes (All-tail IsLow row.0 (keys_of routes) low) (All-tail IsNumber row.1 (values_of routes) near))
+
+pub steady_states : (b : ℕ) (ss : List BlockFact) → b + length ss ≤ 65536 → All IsFitBlock ss → AreSteady (state_lines b ss)
+steady_states b [] within all = tt
+steady_states b (s ∷ ss) within all =
+    steady_append (state_line b s) (state_lines (b + 1) ss) (by s (All-head IsFitBlock s ss all)) (steady_states (b + 1) ss (omega (arith, within)) (All-tail IsFitBlock s ss all))
+  where
+    by : (state : BlockFact) → IsFitBlock state → AreSteady (state_line b state)
+    by Absent fits = tt
+    by Free fits = (omega (arith, within), tt)
+    by (Lent e) fits = ((omega (arith, within), fits), tt)
+    by (Held e) fits = ((omega (arith, within), fits), tt)
+
+-- bytes are spelled of valid records
+bytes_fit : Laws → (rs : List Record) → AreValid rs → All Is8 (spellings_of rs)
+bytes_fit laws [] valid = All-nil Is8
+bytes_fit laws (r ∷ rs) valid = All-append Is8 (spelling_of r) (spellings_of rs) (below (spelling_of r) (laws.wire.bytes r valid.0)) (bytes_fit laws rs valid.1)
+  where
+    below : (bytes : List ℕ) → AllByRecursion (λ byte. byte < 256) bytes → All Is8 bytes
+    below [] all = All-nil Is8
+    below (b ∷ bytes) all = let low = all.0 in All-cons Is8 b bytes (omega (arith, low)) (below bytes all.1)
+
+-- a record has at most four bytes for each word of the line that sends it
+few_bytes : (x y : Enclave) (r : Record) → length (spelling_of r) ≤ 4 * length (line_words (lines.Sent x y r))
+unfolding spelling_of header_of
+few_bytes x y r = omega arith
+
+sent_bytes : (past : List Line) (x y : ℕ) → length (spellings_of ((facts_at past).channel x y).sent) ≤ 4 * words_in past
+sent_bytes [] x y = omega arith
+sent_bytes (lines.Sent a b r ∷ past) x y =
+    let old = sent_bytes past x y in
+    let few = few_bytes a b r in
+    let G = facts_at past in
+    cond_both (eqb x a.0 && eqb y b.0) (with_sent r (G.channel x y)) (G.channel x y) (λ c. length (spellings_of c.sent) ≤ 4 * words_in (lines.Sent a b r ∷ past))
+    (λ is. let sum = ap length (flat_map-append spelling_of (G.channel x y).sent (r ∷ [])) ∙ length-append (spellings_of (G.channel x y).sent) (spellings_of (r ∷ [])) in let last = length-append (spelling_of r) [] in omega (arith, old, few, sum, last))
+    (λ other. omega (arith, old))
+sent_bytes (lines.Took a b count ∷ past) x y =
+    let old = sent_bytes past x y in
+    let G = facts_at past in
+    cond_both (eqb x a.0 && eqb y b.0) (with_taken count (G.channel x y)) (G.channel x y) (λ c. length (spellings_of c.sent) ≤ 4 * words_in (lines.Took a b count ∷ past)) (λ is. omega (arith, old)) (λ other. omega (arith, old))
+sent_bytes (lines.Got a b ∷ past) x y =
+    let old = sent_bytes past x y in
+    let G = facts_at past in
+    cond_both (eqb x a.0 && eqb y b.0) (with_got (G.channel x y)) (G.channel x y) (λ c. length (spellings_of c.sent) ≤ 4 * words_in (lines.Got a b ∷ past)) (λ is. omega (arith, old)) (λ other. omega (arith, old))
+sent_bytes (lines.Do (commands.Pool blocks) ∷ past) x y = let old = sent_bytes past x y in omega (arith, old)
+sent_bytes (line ∷ past) x y = let old = sent_bytes past x y in omega (arith, old)
+
+waiting_few : (past : List Line) (x y : ℕ) → IsCountable past → length (waiting_bytes (facts_at past) x y) ≤ 4294967295
+waiting_few past x y few =
+    let sent = sent_bytes past x y in
+    let left = length-drop ((facts_at past).channel x y).taken (spellings_of ((facts_at past).channel x y).sent) in
+    omega (arith, sent, left, few)
+
+-- lines of bytes, which are no more than so many behind the place of the first
+fitted_bytes : (few : Type 0) (all : ℕ) (x y : Enclave) (most at : ℕ) (bytes : List ℕ) (past : List Line) → (few → all ≤ 4294967295) → IsFit (facts_at past)
+    → Is16 x.0 → Is16 y.0 → length bytes ≤ all - at → All Is8 bytes → IsFittedUpTo few past (bytes_lines x y most at bytes)
+fitted_bytes few all x y zero at bytes past low fit from to within each = record { typed = λ is. All-nil IsTyped; fit = fit }
+fitted_bytes few all x y (suc most) at [] past low fit from to within each = record { typed = λ is. All-nil IsTyped; fit = fit }
+fitted_bytes few all x y (suc most) at (byte ∷ bytes) past low fit from to within each =
+    let line = lines.Bytes x y at (take 32 (byte ∷ bytes)) in
+    let left = length-drop 32 (byte ∷ bytes) in
+    let more = fitted_bytes few all x y most (at + 32) (drop 32 (byte ∷ bytes)) (line ∷ past) low fit from to (omega (arith, within, left)) (All-drop Is8 32 (byte ∷ bytes) each) in
+    record {
+      typed = λ is. let most_bytes = low is in
+          All-cons IsTyped line _ (from, to, omega (arith, within, most_bytes), All-take Is8 32 (byte ∷ bytes) each) (more.typed is);
+      fit = more.fit;
+    }
+
+pub fitted_link : Laws → (x y : Enclave) (past : List Line) → IsFit (facts_at past) → IsFittedUpTo (IsCountable past) past (step_lines (facts_at past) (commands.ShowLink x y))
+fitted_link laws x y past fit = with_refusal (commands.ShowLink x y) past fit (λ none.
+    let G = facts_at past in
+    let ends = channel_numbers laws G x y fit none in
+    let channel = G.channel x.0 y.0 in
+    let waiting = waiting_bytes G x.0 y.0 in
+    fitted_bytes (IsCountable past) (length waiting) x y (length waiting) 0 waiting (lines.Do (commands.ShowLink x y) ∷ past) (waiting_few past x.0 y.0) fit (wide x ends.0) (wide y ends.1)
+    (omega arith)
+    (All-drop Is8 channel.taken (spellings_of channel.sent) (bytes_fit laws channel.sent (fit.channels x.0 y.0))))
