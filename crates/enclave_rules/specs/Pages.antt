@@ -1,6 +1,6 @@
--- Own pages, what an access allows, and the frames of a block.
+-- Own pages, what an access allows, and the frames of blocks.
 use Rattle.std.specs.Prelude.{ℕ, List, map, Bool, true, false, ◌*◌}
-use Rattle.std.specs.List.{range_with_len}
+use Rattle.std.specs.List.{range_with_len, flat_map}
 use Rattle.xm_num.specs.declared.Frame.{Frame}
 use Rattle.xm_num.specs.declared.Block.{Block}
 use Rattle.xm_num.specs.declared.Page.{Page}
@@ -23,6 +23,9 @@ allows accesses.ReadWrite want = true
 abbrev pub frame_list : List ℕ → List Frame
 frame_list frames = map (λ f. record { 0 = f }) frames
 
--- the frames of a block
+-- the frames of a block, and those of several
 abbrev pub block_frames : Block → List Frame
 block_frames block = frame_list (range_with_len (64 * block.0) 64)
+
+abbrev pub frames_of : List Block → List Frame
+frames_of blocks = flat_map block_frames blocks
