@@ -74,6 +74,6 @@ abbrev pub machine_frame : Kind → List Block → Frame → Frame
 machine_frame kind blocks f = if is_guest kind then slice_index_or (frames_of blocks) f.0 f else f
 
 -- a line of the journal as the enclave that wrote it names frames
-abbrev pub local_line : CoreView → Line → Line
-local_line c (lines.Alloc e p page frames) = lines.Alloc e p page (map (local_frame c.kind c.blocks) frames)
-local_line c line = line
+abbrev pub local_line : Kind → List Block → Line → Line
+local_line kind blocks (lines.Alloc e p page frames) = lines.Alloc e p page (map (local_frame kind blocks) frames)
+local_line kind blocks line = line

@@ -9,9 +9,11 @@ use Rattle.xemem_language.specs.declared.line.Line.{Line}
 use Rattle.xemem_language.specs.declared.line.Line.TheVariants as lines
 use Rattle.global_model.specs.Facts.{Facts, after_line, after_lines}
 use Rattle.global_model.specs.Channels.{waiting_bytes, arriving}
-use Rattle.enclave_rules.specs.View.{View, host}
+use Rattle.enclave_rules.specs.Core.{host}
+use Rattle.enclave_rules.specs.View.{View}
+use Rattle.enclave_rules.specs.Sending.{knows_way}
 use Rattle.global_model.specs.Views.{view_of}
-use Rattle.enclave_rules.specs.Steps.{knows_way, query_of, record_lines, child_lines, told_lines, adopt_lines, route_lines, state_lines}
+use Rattle.enclave_rules.specs.Steps.{query_of, record_lines, child_lines, told_lines, adopt_lines, route_lines, state_lines}
 use Rattle.global_model.specs.Due.{got_lines, took_lines, deliver_lines, link_lines, next_rest, first_waiting, settle_end, settle_from}
 use Rattle.global_model.specs.Plain.{IsPlain, ArePlain}
 use Rattle.global_model.proofs.Tells.{MayTell, tells_told, tells_bytes, tells_end, tells_routes, tells_states}
@@ -36,7 +38,6 @@ each-weaker P Q h (l ∷ ls) all = (h l all.0, each-weaker P Q h ls all.1)
 -- what is told beside records is plain
 plain_tells : MayTell IsPlain
 plain_tells = record {
-  told = λ e d. tt;
   bytes = λ x y at bytes some most. (some, most);
   settled = λ made. tt;
   waiting = λ made. tt;
@@ -109,7 +110,7 @@ pub plain_birth : (child parent : Enclave) (ns : Bool) (heard : List Enclave) (v
     → ArePlain ((told_lines child heard ++ child_lines child parent ns) ++ adopt_lines v child)
 plain_birth child parent ns heard v =
     plain-append (told_lines child heard ++ child_lines child parent ns) (adopt_lines v child)
-    (plain-append (told_lines child heard) (child_lines child parent ns) (tells_told IsPlain plain_tells child heard)
+    (plain-append (told_lines child heard) (child_lines child parent ns) (tells_told IsPlain (λ e d. tt) child heard)
     (plain_child child parent ns))
     (plain_adopt v child)
 

@@ -19,7 +19,7 @@ use Rattle.global_model.specs.Views.{view_of}
 
 -- the number that the enclave draws for its next process
 abbrev pub next_pid : Facts → Enclave → Pid
-next_pid G e = record { 0 = G.started e.0 + 1 }
+next_pid G e = record { 0 = (G.memory e.0).started + 1 }
 
 -- the line of a touch, where the page is mapped
 abbrev pub touched_lines : Enclave → Pid → Vpn → Option Mapping → List Line
@@ -90,7 +90,7 @@ settle_from (suc left) made G =
 abbrev pub next_enclave : Facts → Enclave
 next_enclave G = record { 0 = G.born }
 
--- the lines of a command that isn't refused
+-- the lines of a command that isn't refused, by the facts after its `do` line
 abbrev pub acts_of : Facts → Command → List Line
 acts_of G (commands.Pool blocks) = []
 acts_of G (commands.Host blocks ns) = host_lines (take blocks (free_blocks G)) ns
@@ -106,9 +106,10 @@ acts_of G (commands.ShowLink x y) = link_lines G x y
 acts_of G commands.ShowPool = state_lines 0 (map G.block (range_with_len 0 G.pool))
 acts_of G command = []
 
--- what follows the `do` line of a command: its refusal, or its acts
+-- What follows the `do` line of a command: its refusal, by the facts at that line, or its acts, by those after it.
 abbrev pub command_lines : Facts → Command → List Line
-command_lines G command = option_map_or (λ cause. lines.Refused cause ∷ []) (refusal_of G command) (acts_of G command)
+command_lines G command =
+    option_map_or (λ cause. lines.Refused cause ∷ []) (refusal_of G command) (acts_of (after_line G (lines.Do command)) command)
 
 -- all lines of a command, by the facts before it
 abbrev pub step_lines : Facts → Command → List Line

@@ -26,10 +26,10 @@ pub record IsFlow (channel : ChannelFact) : Type 0 where
 
 -- what an enclave knows of ways names its neighbours alone
 pub record AreWays (G : Facts) : Type 0 where
-  pub way : (e : ℕ) (x : Enclave) → G.way e ≡ Some x → is_neighbour G e x.0 ≡ true
-  pub askers : (e k : ℕ) (x : Enclave) → at (G.askers e) k ≡ Some x → is_neighbour G e x.0 ≡ true
-  pub backs : (e d : ℕ) (x : Enclave) → at (G.backs e) d ≡ Some x → is_neighbour G e x.0 ≡ true
-  pub routes : (e d : ℕ) (x : Enclave) → at (G.routes e) d ≡ Some x → is_neighbour G e x.0 ≡ true
+  pub way : (e : ℕ) (x : Enclave) → (G.ways e).way ≡ Some x → is_neighbour G e x.0 ≡ true
+  pub askers : (e k : ℕ) (x : Enclave) → at (G.ways e).askers k ≡ Some x → is_neighbour G e x.0 ≡ true
+  pub backs : (e d : ℕ) (x : Enclave) → at (G.ways e).backs d ≡ Some x → is_neighbour G e x.0 ≡ true
+  pub routes : (e d : ℕ) (x : Enclave) → at (G.ways e).routes d ≡ Some x → is_neighbour G e x.0 ≡ true
 
 -- each channel flows, all its whole records were got, and nothing was ever sent but between neighbours
 pub record IsFlowing (G : Facts) : Type 0 where

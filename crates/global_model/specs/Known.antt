@@ -11,9 +11,10 @@ use Rattle.xemem_language.specs.declared.call.ProcessCall.{ProcessCall}
 use Rattle.xemem_language.specs.declared.call.NodeShow.{NodeShow}
 use Rattle.xemem_language.specs.Calls.{call_of, show_of}
 use Rattle.xemem_language.specs.declared.line.Line.{Line}
-use Rattle.enclave_rules.specs.Steps.{adopt_lines, answer_lines, birth_lines, free_from, refusal, start_lines, touch_answer}
+use Rattle.frame_pool.specs.Blocks.{free_blocks}
+use Rattle.enclave_rules.specs.Steps.{adopt_lines, answer_lines, birth_lines, refusal, start_lines, touch_answer}
 use Rattle.enclave_rules.specs.Calls.{call_lines, show_lines}
-use Rattle.enclave_rules.specs.View.{host}
+use Rattle.enclave_rules.specs.Core.{host}
 use Rattle.global_model.specs.Due.{command_lines, next_enclave}
 use Rattle.global_model.specs.Facts.{Facts}
 use Rattle.global_model.specs.Views.{view_of}
@@ -27,11 +28,11 @@ start_by G e uid gid = if nat_le 1024 G.starts then refusal causes.TooMany else 
 
 abbrev pub boot_by : Facts → Kind → Enclave → ℕ → Bool → List Line
 boot_by G kind parent blocks ns =
-    let free = free_from 0 (view_of G host).host.states in
+    let free = free_blocks (view_of G host).host.states in
     if nat_le 256 G.born then refusal causes.TooMany
     else (if ns && G.server then refusal causes.NameServerTaken
     else (if nat_lt (length free) blocks then refusal causes.NoBlocks
-    else birth_lines (next_enclave G) kind parent (take blocks free) ns (view_of G parent).heard ++ adopt_lines (view_of G parent) (next_enclave G)))
+    else birth_lines (next_enclave G) kind parent (take blocks free) ns (view_of G parent).core.heard ++ adopt_lines (view_of G parent) (next_enclave G)))
 
 -- each command's lines follow from the views of the enclaves that it names, how many enclaves were born, and how many
 -- processes were started
