@@ -97,3 +97,23 @@ IsOf y line = ⊥
 
 abbrev pub AreOf : Enclave → List Line → Type 0
 AreOf y journal = AllByRecursion (IsOf y) journal
+
+-- the line changes no view but that of the enclave, and not what is at hand
+abbrev pub IsAbout : Enclave → Line → Type 0
+IsAbout y (lines.Do command) = ⊥
+IsAbout y (lines.Born child kind parent ns blocks) = ⊥
+IsAbout y (lines.Took a b count) = ⊥
+IsAbout y (lines.Got a b) = ⊥
+IsAbout y (lines.End a b torn) = ⊥
+IsAbout y (lines.Told e dead) = e ≡ y
+IsAbout y (lines.Admitted e) = e ≡ y
+IsAbout y (lines.Proc e p uid gid) = e ≡ y
+IsAbout y (lines.Alloc e p page frames) = e ≡ y
+IsAbout y (lines.Asked e by) = e ≡ y
+IsAbout y (lines.Way e over) = e ≡ y
+IsAbout y (lines.Back e of over) = e ≡ y
+IsAbout y (lines.Route e of over) = e ≡ y
+IsAbout y line = Unit {0}
+
+abbrev pub AreAbout : Enclave → List Line → Type 0
+AreAbout y journal = AllByRecursion (IsAbout y) journal

@@ -14,7 +14,6 @@ use Rattle.frame_pool.specs.Blocks.{lend_from}
 use Rattle.xemem_language.specs.declared.line.Line.TheVariants as lines
 use Rattle.enclave_rules.specs.Core.{as_born, with_child, core_line}
 use Rattle.enclave_rules.specs.Host.{no_host, with_birth}
-use Rattle.enclave_rules.specs.View.{born_line}
 use Rattle.global_model.specs.Facts.{Facts, fact_of, with_lent, after_line}
 use Rattle.global_model.specs.Channels.{is_child_of}
 use Rattle.global_model.specs.Views.{child_row, children_of, core_of, host_of, view_of}

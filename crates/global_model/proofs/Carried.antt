@@ -1,9 +1,9 @@
 -- Apt lines are carried, and so the journal of commands that stand where they may; wherever a command has ended all channels flow.
-use Rattle.std.proofs.Common.{◌≡◌, List, [], ◌∷◌, subst, sym}
+use Rattle.std.proofs.Common.{List, [], ◌∷◌}
 use Rattle.xemem_language.specs.declared.command.Command.{Command}
 use Rattle.xemem_language.specs.declared.line.Line.{Line}
 use Rattle.xemem_language.specs.declared.line.Line.TheVariants as lines
-use Rattle.global_model.specs.Facts.{Facts, after_line, facts_at, facts_after}
+use Rattle.global_model.specs.Facts.{facts_at, facts_after}
 use Rattle.global_model.specs.Apt.{IsApt, AreApt, AptAt}
 use Rattle.global_model.specs.Carriage.{CarriedAt, IsCarried}
 use Rattle.global_model.specs.Flow.{IsFlowing}
@@ -11,9 +11,8 @@ use Rattle.global_model.specs.Journals.{Follows}
 use Rattle.global_model.specs.Place.{IsPlaced}
 use Rattle.global_model.specs.Due.{journal_of}
 use Rattle.global_model.proofs.Flow.{next_arrives}
-use Rattle.global_model.proofs.Ways.{ways_near}
-use Rattle.global_model.proofs.Sound.{IsSound, sound_line, sound_start}
-use Rattle.global_model.proofs.Commands.{IsReady, runs_after}
+use Rattle.global_model.proofs.Sound.{IsSound, sound_line, sound_flowing, sound_start}
+use Rattle.global_model.proofs.Commands.{runs_after}
 
 -- apt lines, as a law along a journal
 pub follows_apt : (ls past : List Line) → AreApt (facts_at past) ls → Follows AptAt past ls
@@ -43,10 +42,4 @@ journal_of-carried cs placed = carried_lines (journal_of cs) [] sound_start (run
 pub journal_of-flowing : (cs : List Command) → IsPlaced cs → IsFlowing (facts_after (journal_of cs))
 journal_of-flowing cs placed =
     let ready = (runs_after cs placed).ready in
-    record {
-      tree = ready.sound.tree;
-      ways = ways_near (facts_after (journal_of cs)) ready.sound.near;
-      flows = ready.sound.flows;
-      arrived = ready.got;
-      apart = ready.sound.apart;
-    }
+    sound_flowing (facts_after (journal_of cs)) ready.sound ready.got

@@ -1,5 +1,5 @@
 -- The lines of each command are apt, and wherever a command has ended every whole record was got.
-use Rattle.std.proofs.Common.{◌≡◌, ◌+◌, ◌/◌, ◌<◌, ◌≤◌, ℕ, suc, List, [], ◌∷◌, ◌++◌, length, take, map, Bool, true, false, cond, not, ◌&&◌, ltb, leb, Option, None, Some, refl, sym, ap, ◌∙◌, subst, arith}
+use Rattle.std.proofs.Common.{◌≡◌, ◌+◌, ◌/◌, ◌<◌, ◌≤◌, ℕ, suc, List, [], ◌∷◌, ◌++◌, length, take, map, Bool, true, false, ◌&&◌, leb, Option, None, Some, refl, sym, ap, ◌∙◌, subst, arith}
 use Rattle.std.specs.List.{range_with_len}
 use Rattle.std.specs.Option.{option_map_or}
 use Rattle.std.proofs.lemmas.Bool.{eqb-true, and_parts, and_right, le-leb, leb-true, leb-false}
@@ -22,13 +22,13 @@ use Rattle.enclave_rules.specs.Core.{host, is_guest}
 use Rattle.enclave_rules.specs.View.{View}
 use Rattle.enclave_rules.specs.Sending.{knows_way}
 use Rattle.enclave_rules.specs.Steps.{query_of, child_lines, birth_lines, adopt_lines}
-use Rattle.global_model.specs.Facts.{Facts, no_facts, facts_after, is_living_enclave, runs, after_line, after_lines}
+use Rattle.global_model.specs.Facts.{Facts, no_facts, facts_after, is_living_enclave, after_line, after_lines}
 use Rattle.global_model.specs.Channels.{arriving, is_neighbour, was_born, waiting_bytes}
 use Rattle.global_model.specs.Space.{Mapping, space_of, free_blocks}
-use Rattle.global_model.specs.Refusals.{Condition, first_cause, conditions_of, refusal_of}
+use Rattle.global_model.specs.Refusals.{conditions_of, refusal_of}
 use Rattle.global_model.specs.Views.{view_of}
 use Rattle.global_model.specs.Place.{may_stand, IsPlacedAfter, IsPlaced}
-use Rattle.global_model.specs.Due.{next_enclave, touched_lines, acts_of, command_lines, step_lines, journal_from, journal_of}
+use Rattle.global_model.specs.Due.{next_enclave, touched_lines, acts_of, step_lines, journal_from, journal_of}
 use Rattle.global_model.specs.Apt.{IsBirth, IsNear, NothingArrives, IsApt, AreApt}
 use Rattle.global_model.proofs.Pasts.{after_lines-append}
 use Rattle.global_model.proofs.Refused.{AreUnmet, all_unmet, not_false}
@@ -36,7 +36,7 @@ use Rattle.global_model.proofs.Tree.{near-turned, near_living, living_born, near
 use Rattle.global_model.proofs.Sound.{IsSound, sound_line, sound_start, apt_append}
 use Rattle.global_model.proofs.Tells.{tells_bytes, tells_routes, tells_states}
 use Rattle.global_model.proofs.Writes.{each-append, each_either}
-use Rattle.global_model.proofs.Turns.{IsTurn, begin_turn, end_turn, lives_in, IsClose, IsProper, AreProper, IsUpTo, proper_lines, number_fits}
+use Rattle.global_model.proofs.Turns.{begin_turn, end_turn, lives_in, IsClose, IsProper, AreProper, IsUpTo, proper_lines, number_fits}
 use Rattle.global_model.proofs.Deliveries.{proper_tells, deliver_up_to, settle_up_to}
 
 -- What holds wherever a command has ended, so many commands having been carried out. No enclave is born before the second.
@@ -271,7 +271,7 @@ module _ (before : ℕ) (G : Facts) (ready : IsReady before G) where
     unborn = λ few. born ∙ ready.unborn few;
   }
 
-  run_step : (c : Command) → may_stand before c ≡ true → IsInRange c → IsRun (before + 1) G (step_lines G c)
+  pub run_step : (c : Command) → may_stand before c ≡ true → IsInRange c → IsRun (before + 1) G (step_lines G c)
   run_step (commands.Pool blocks) may range = run_pool before G blocks (eqb-true before 0 (and_parts _ _ may).0) ready
   run_step (commands.Host blocks ns) may range = run_host before G blocks ns (eqb-true before 1 (and_parts _ _ may).0) ready
   run_step (commands.Boot kind parent blocks ns) may range =

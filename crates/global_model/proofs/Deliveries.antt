@@ -7,7 +7,7 @@ use Rattle.xemem_language.specs.declared.record.Record.{Record}
 use Rattle.xemem_language.specs.declared.line.Line.{Line}
 use Rattle.xemem_language.specs.declared.line.Line.TheVariants as lines
 use Rattle.global_model.specs.Facts.{Facts, with_taken, after_line, after_lines}
-use Rattle.global_model.specs.Channels.{is_neighbour, waiting_bytes, arriving}
+use Rattle.global_model.specs.Channels.{waiting_bytes, arriving}
 use Rattle.global_model.specs.Due.{took_lines, deliver_lines, next_rest, first_waiting, settle_end, settle_from}
 use Rattle.global_model.specs.Apt.{IsNear, IsTaking}
 use Rattle.global_model.proofs.Sound.{at_channel, sound_line}
@@ -20,8 +20,6 @@ use Rattle.global_model.proofs.Waiting.{IsWaiting, first_waits, rest_waits}
 pub proper_tells : (near : ℕ → ℕ → Bool) (lives : ℕ → Bool) → MayTell (IsProper near lives)
 proper_tells near lives = record {
   bytes = λ x y at bytes some most. tt;
-  settled = λ made. tt;
-  waiting = λ made. tt;
   own = λ e. tt;
   none = λ e. tt;
   way = λ e over. tt;
@@ -33,9 +31,13 @@ proper_tells near lives = record {
 
 module _ (near : ℕ → ℕ → Bool) (lives : ℕ → Bool) where
   -- bytes are taken, and the records that are whole now arrive
-  took_up_to : (x y : Enclave) (n : ℕ) (G : Facts) → IsClose near lives y x → 1 ≤ n → n ≤ length (waiting_bytes G x.0 y.0)
-      → IsTurn near lives x.0 y.0 [] G → IsUpTo near lives x.0 y.0 [] G (took_lines G x y n)
-  took_up_to x y n G close one within turn =
+  pub record IsTook (x y : Enclave) (n : ℕ) (G : Facts) : Type 0 where
+    pub apt : IsTaking G x y n
+    pub turn : IsTurn near lives x.0 y.0 (arriving ((after_line G (lines.Took x y n)).channel x.0 y.0)) (after_line G (lines.Took x y n))
+
+  pub took : (x y : Enclave) (n : ℕ) (G : Facts) → IsClose near lives y x → 1 ≤ n → n ≤ length (waiting_bytes G x.0 y.0)
+      → IsTurn near lives x.0 y.0 [] G → IsTook x y n G
+  took x y n G close one within turn =
       let H = after_line G (lines.Took x y n) in
       let apt : IsTaking G x y n = record {
         between = record { living = turn.alive y.0 ∙ close.living; near = turn.same y.0 x.0 ∙ close.beside };
@@ -45,21 +47,30 @@ module _ (near : ℕ → ℕ → Bool) (lives : ℕ → Bool) where
       } in
       let whole : arriving (with_taken n (G.channel x.0 y.0)) ≡ arriving (H.channel x.0 y.0)
       = ap arriving (sym (at_pair_same x.0 y.0 (with_taken n) G.channel)) in
-      let start : IsTurn near lives x.0 y.0 (arriving (H.channel x.0 y.0)) H = record {
-        sound = sound_line G (lines.Took x y n) turn.sound apt;
-        same = turn.same;
-        alive = turn.alive;
-        arrives = λ a b. by (arriving (H.channel x.0 y.0)) a b (eqb a x.0 && eqb b y.0) refl
-            (at_channel G x.0 y.0 (λ c. arriving (with_taken n c) ≡ arriving (H.channel x.0 y.0)) a b whole) (turn.arrives a b);
-      } in
-      let rest = got_steps near lives x y close (arriving (H.channel x.0 y.0)) H start in
-      record { apt = (apt, rest.apt); turn = rest.turn }
+      record {
+        apt = apt;
+        turn = record {
+          sound = sound_line G (lines.Took x y n) turn.sound apt;
+          same = turn.same;
+          alive = turn.alive;
+          arrives = λ a b. by (arriving (H.channel x.0 y.0)) a b (eqb a x.0 && eqb b y.0) refl
+              (at_channel G x.0 y.0 (λ c. arriving (with_taken n c) ≡ arriving (H.channel x.0 y.0)) a b whole) (turn.arrives a b);
+        };
+      }
     where
       by : (rs : List Record) (a b : ℕ) (t : Bool) → (eqb a x.0 && eqb b y.0) ≡ t
           → (a ≡ x.0 → b ≡ y.0 → arriving (with_taken n (G.channel a b)) ≡ rs) → arriving (G.channel a b) ≡ cond t [] []
           → arriving (cond t (with_taken n (G.channel a b)) (G.channel a b)) ≡ cond t rs []
       by rs a b true is here there = let both = and_parts (eqb a x.0) (eqb b y.0) is in here (eqb-true a x.0 both.0) (eqb-true b y.0 both.1)
       by rs a b false is here there = there
+
+  took_up_to : (x y : Enclave) (n : ℕ) (G : Facts) → IsClose near lives y x → 1 ≤ n → n ≤ length (waiting_bytes G x.0 y.0)
+      → IsTurn near lives x.0 y.0 [] G → IsUpTo near lives x.0 y.0 [] G (took_lines G x y n)
+  took_up_to x y n G close one within turn =
+      let H = after_line G (lines.Took x y n) in
+      let start : IsTook x y n G = took x y n G close one within turn in
+      let more = got_steps near lives x y close (arriving (H.channel x.0 y.0)) H start.turn in
+      record { apt = (start.apt, more.apt); turn = more.turn }
 
   pub deliver_up_to : (x y : Enclave) (count : ℕ) (G : Facts) → 1 ≤ count → IsNear G y x → IsTurn near lives 0 0 [] G
       → IsUpTo near lives 0 0 [] G (deliver_lines G x y count)
@@ -78,7 +89,7 @@ module _ (near : ℕ → ℕ → Bool) (lives : ℕ → Bool) where
 -- ---- a settle
 
 proper_end : (near : ℕ → ℕ → Bool) (lives : ℕ → Bool) (G : Facts) (made : ℕ) → AreProper near lives (settle_end G made ∷ [])
-proper_end near lives G made = (tells_end (IsProper near lives) (proper_tells near lives) G made, tt)
+proper_end near lives G made = (tells_end (IsProper near lives) (λ made. tt) (λ made. tt) G made, tt)
 
 -- the rest of a settle, where that channel is the first in which something waits
 abbrev pub settle_at : ℕ → ℕ → Facts → Option (Enclave × Enclave) → List Line

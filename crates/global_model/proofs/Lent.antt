@@ -1,19 +1,18 @@
 -- The blocks that are lent to an enclave, what a birth changes of them, and their frames that are in no use.
-use Rattle.std.proofs.Common.{◌≡◌, ◌≢◌, ◌+◌, ◌*◌, ◌/◌, ◌<◌, ℕ, List, [], ◌∷◌, ◌++◌, take, get_or, map, Bool, true, false, cond, not, ◌&&◌, ◌||◌, eqb, refl, sym, ap, ◌∙◌, subst, arith}
+use Rattle.std.proofs.Common.{◌≡◌, ◌≢◌, ◌+◌, ◌*◌, ◌/◌, ◌<◌, ℕ, List, [], ◌∷◌, ◌++◌, take, get_or, map, Bool, true, false, cond, not, ◌&&◌, ◌||◌, eqb, refl, sym, ap, ◌∙◌, arith}
 use Rattle.std.specs.List.{range_with_len, filter, flat_map, list_any}
 use Rattle.std.proofs.lemmas.Bool.{eq-eqb, ne_eqb}
 use Rattle.std.proofs.lemmas.List.{take-map, map-append}
 use Rattle.xm_num.specs.declared.Enclave.{Enclave}
 use Rattle.xm_num.specs.declared.Kind.{Kind}
 use Rattle.xm_num.specs.declared.Block.{Block}
-use Rattle.xm_num.specs.declared.Frame.{Frame}
 use Rattle.xm_num.specs.declared.Page.{Page}
 use Rattle.frame_pool.specs.declared.BlockState.{BlockState}
 use Rattle.frame_pool.specs.declared.BlockState.TheVariants as states
 use Rattle.frame_pool.specs.Blocks.{is_listed, is_free}
 use Rattle.xemem_language.specs.declared.line.Line.TheVariants as lines
 use Rattle.enclave_rules.specs.Core.{is_guest}
-use Rattle.enclave_rules.specs.Memory.{ProcessView, MemoryView, is_used, unused}
+use Rattle.enclave_rules.specs.Memory.{ProcessView, is_used, unused}
 use Rattle.enclave_rules.specs.Pages.{frame_list, frames_of}
 use Rattle.global_model.specs.Facts.{Facts, fact_of, is_living_enclave, after_line}
 use Rattle.global_model.specs.Space.{is_lent_to, is_own_frame, is_unused, unused_frames, free_blocks}

@@ -17,3 +17,9 @@ pub mod Waiting
 pub mod Deliveries
 pub mod Commands
 pub mod Carried
+pub mod Views
+pub mod Seen
+pub mod Handled
+pub mod Answered
+pub mod Settles
+pub mod Rests

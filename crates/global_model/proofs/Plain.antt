@@ -39,8 +39,6 @@ each-weaker P Q h (l ∷ ls) all = (h l all.0, each-weaker P Q h ls all.1)
 plain_tells : MayTell IsPlain
 plain_tells = record {
   bytes = λ x y at bytes some most. (some, most);
-  settled = λ made. tt;
-  waiting = λ made. tt;
   own = λ e. tt;
   none = λ e. tt;
   way = λ e over. tt;
@@ -85,14 +83,14 @@ plain_deliver G x y count =
     plain_either (waiting == 0) (lines.Idle x y ∷ []) (took_lines G x y (min count waiting)) (tt, tt) (plain_took G x y (min count waiting))
 
 pub plain_settle : (left made : ℕ) (G : Facts) → ArePlain (settle_from left made G)
-plain_settle zero made G = (tells_end IsPlain plain_tells G made, tt)
+plain_settle zero made G = (tells_end IsPlain (λ made. tt) (λ made. tt) G made, tt)
 plain_settle (suc left) made G =
     plain_option _ (first_waiting G) (settle_end G made ∷ [])
     (λ channel.
     let own = deliver_lines G channel.0 channel.1 (next_rest G channel.0 channel.1) in
     let H = after_lines G own in
     plain-append own (settle_from left (made + 1) H) (plain_deliver G channel.0 channel.1 _) (plain_settle left (made + 1) H))
-    (tells_end IsPlain plain_tells G made, tt)
+    (tells_end IsPlain (λ made. tt) (λ made. tt) G made, tt)
 
 pub plain_show : (G : Facts) (x y : Enclave) → ArePlain (link_lines G x y)
 plain_show G x y = tells_bytes IsPlain plain_tells x y _ 0 _

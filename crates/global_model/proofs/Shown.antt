@@ -1,5 +1,5 @@
 -- What a line leaves of a view: where it is at the enclave, what the line changes in the view; elsewhere the view itself.
-use Rattle.std.proofs.Common.{◌≡◌, ℕ, map, Bool, true, false, cond, not, ◌&&◌, eqb, Option, None, Some, refl, sym, ap, ◌∙◌, inl, inr}
+use Rattle.std.proofs.Common.{◌≡◌, ℕ, map, Bool, true, false, cond, not, ◌&&◌, eqb, Option, None, Some, refl, sym, inl, inr}
 use Rattle.std.specs.List.{filter, range_with_len}
 use Rattle.std.proofs.lemmas.Bool.{cases_eq, eq-eqb, ne_eqb}
 use Rattle.xm_num.specs.declared.Enclave.{Enclave}
@@ -8,8 +8,7 @@ use Rattle.xemem_language.specs.declared.line.Line.TheVariants as lines
 use Rattle.enclave_rules.specs.Core.{CoreView, local_line}
 use Rattle.enclave_rules.specs.Ways.{ways_line}
 use Rattle.enclave_rules.specs.Memory.{memory_line}
-use Rattle.enclave_rules.specs.Host.{HostView, no_host}
-use Rattle.enclave_rules.specs.View.{View}
+use Rattle.enclave_rules.specs.Host.{no_host}
 use Rattle.global_model.specs.Facts.{Facts, EnclaveFact, as_admitted, has_parent, fact_of, is_living_enclave, with_ways, with_memory, after_line}
 use Rattle.global_model.specs.Views.{core_of, view_of, seen_line}
 use Rattle.global_model.proofs.Sound.{admitted_keeps, keeps_kind, keeps_blocks}

@@ -5,7 +5,6 @@ use Rattle.std.proofs.lemmas.Bool.{ne_eqb, le-ltb, eqb-true, eqb-false, and_part
 use Rattle.xm_num.specs.declared.Enclave.{Enclave}
 use Rattle.xm_num.specs.declared.Kind.{Kind}
 use Rattle.xm_num.specs.declared.Block.{Block}
-use Rattle.xemem_language.specs.declared.record.Record.{Record}
 use Rattle.xemem_language.specs.declared.command.Command.TheVariants as commands
 use Rattle.xemem_language.specs.declared.line.Line.{Line}
 use Rattle.xemem_language.specs.declared.line.Line.TheVariants as lines
@@ -15,13 +14,13 @@ use Rattle.enclave_rules.specs.Ways.{WaysView, no_ways}
 use Rattle.enclave_rules.specs.Memory.{MemoryView, no_memory}
 use Rattle.enclave_rules.specs.Hand.{Hand}
 use Rattle.global_model.specs.Facts.{Facts, no_facts, EnclaveFact, ChannelFact, no_channel, fact_of, as_admitted, at_number, at_pair, with_sent, with_taken, with_got, after_line, after_lines}
-use Rattle.global_model.specs.Channels.{is_neighbour, arriving}
-use Rattle.global_model.specs.Flow.{IsTree, IsFlow}
-use Rattle.global_model.specs.Apt.{IsBirth, IsNear, IsSending, IsTaking, IsGetting, IsApt, AreApt}
+use Rattle.global_model.specs.Channels.{is_neighbour}
+use Rattle.global_model.specs.Flow.{IsTree, IsFlow, IsFlowing}
+use Rattle.global_model.specs.Apt.{IsBirth, IsNear, NothingArrives, IsApt, AreApt}
 use Rattle.global_model.proofs.Flow.{flow_sent, flow_taken, IsNext, next_arrives}
 use Rattle.global_model.proofs.Lent.{lent_blocks, IsOfPool, lent_born, lent_stay, pool_born}
-use Rattle.global_model.proofs.Tree.{near_born, near-turned, living_born, tree_born, tree_admitted, near_admitted, near_grows, far_before}
-use Rattle.global_model.proofs.Ways.{NamesNear, AreNear, none_near, near_more, near_asked, near_way, near_back, near_route, at_number_has}
+use Rattle.global_model.proofs.Tree.{near-turned, living_born, tree_born, tree_admitted, near_admitted, near_grows, far_before}
+use Rattle.global_model.proofs.Ways.{NamesNear, AreNear, ways_near, none_near, near_more, near_asked, near_way, near_back, near_route, at_number_has}
 
 -- The enclaves are a tree, none holds the name server before one is born, and none is a virtual machine. Nobody has heard of a death. Each block is free or lent, and an enclave's
 -- blocks are those that are lent to it. Those who aren't born know nothing. Ways name neighbours, and records flow between
@@ -239,6 +238,10 @@ sound_lines G (l ∷ ls) sound apt = sound_lines (after_line G l) ls (sound_line
 pub apt_append : (G : Facts) (ls ms : List Line) → AreApt G ls → AreApt (after_lines G ls) ms → AreApt G (ls ++ ms)
 apt_append G [] ms first more = more
 apt_append G (l ∷ ls) ms first more = (first.0, apt_append (after_line G l) ls ms first.1 more)
+
+-- where no record that is whole waits, all channels flow
+pub sound_flowing : (G : Facts) → IsSound G → NothingArrives G → IsFlowing G
+sound_flowing G sound none = record { tree = sound.tree; ways = ways_near G sound.near; flows = sound.flows; arrived = none; apart = sound.apart }
 
 -- before the first command
 pub sound_start : IsSound no_facts

@@ -14,11 +14,9 @@ use Rattle.enclave_rules.specs.Steps.{told_lines, route_lines, state_line, state
 use Rattle.global_model.specs.Due.{first_waiting, settle_end}
 use Rattle.global_model.proofs.Writes.{EachIs}
 
--- the lines that tell of waiting bytes, ways, blocks and the end of a settle have the property
+-- the lines that show waiting bytes, ways and blocks have the property
 pub record MayTell (P : Line → Type 0) : Type 0 where
   pub bytes : (x y : Enclave) (at : ℕ) (bytes : List ℕ) → 1 ≤ length bytes → length bytes ≤ 32 → P (lines.Bytes x y at bytes)
-  pub settled : (made : ℕ) → P (lines.Settled made)
-  pub waiting : (made : ℕ) → P (lines.Waiting made)
   pub own : (e : Enclave) → P (lines.AtWayOwn e)
   pub none : (e : Enclave) → P (lines.AtWayNone e)
   pub way : (e over : Enclave) → P (lines.AtWay e over)
@@ -31,6 +29,13 @@ pub tells_told : (P : Line → Type 0) → ((e d : Enclave) → P (lines.Told e 
 tells_told P told child [] = tt
 tells_told P told child (d ∷ heard) = (told child d, tells_told P told child heard)
 
+pub tells_end : (P : Line → Type 0) → ((made : ℕ) → P (lines.Settled made)) → ((made : ℕ) → P (lines.Waiting made)) → (G : Facts) (made : ℕ) → P (settle_end G made)
+tells_end P settled waiting G made = by (is_some (first_waiting G))
+  where
+    by : (b : Bool) → P (if b then lines.Waiting made else lines.Settled made)
+    by true = waiting made
+    by false = settled made
+
 module _ (P : Line → Type 0) (may : MayTell P) where
   pub tells_bytes : (x y : Enclave) (most at : ℕ) (bytes : List ℕ) → EachIs P (bytes_lines x y most at bytes)
   tells_bytes x y zero at bytes = tt
@@ -38,13 +43,6 @@ module _ (P : Line → Type 0) (may : MayTell P) where
   tells_bytes x y (suc most) at (byte ∷ bytes) =
       let some = length-take 32 (byte ∷ bytes) in
       (may.bytes x y at _ (omega (arith, some)) (omega (arith, some)), tells_bytes x y most (at + 32) (drop 32 (byte ∷ bytes)))
-
-  pub tells_end : (G : Facts) (made : ℕ) → P (settle_end G made)
-  tells_end G made = by (is_some (first_waiting G))
-    where
-      by : (b : Bool) → P (if b then lines.Waiting made else lines.Settled made)
-      by true = may.waiting made
-      by false = may.settled made
 
   tells_way : (e : Enclave) (holder : Bool) (way : Option Enclave)
       → P (if holder then lines.AtWayOwn e else option_map_or (λ over. lines.AtWay e over) way (lines.AtWayNone e))

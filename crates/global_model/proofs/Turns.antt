@@ -1,6 +1,6 @@
 -- Records on their turn: the lines of an enclave that answers a record are apt, and so are those of the records that arrive at the
 -- end of a channel.
-use Rattle.std.proofs.Common.{◌≡◌, ◌<◌, ◌≤◌, ℕ, List, [], ◌∷◌, ◌++◌, Bool, true, false, cond, ◌&&◌, eqb, Some, refl, sym, ap, ◌∙◌, subst, arith}
+use Rattle.std.proofs.Common.{◌≡◌, ◌<◌, ◌≤◌, ℕ, List, [], ◌∷◌, ◌++◌, Bool, true, false, cond, ◌&&◌, eqb, refl, sym, ◌∙◌, subst, arith}
 use Rattle.std.proofs.lemmas.Bool.{eqb-true, eq-eqb, and_parts, le-leb}
 use Rattle.xm_num.specs.declared.Enclave.{Enclave}
 use Rattle.xemem_language.specs.declared.record.Record.{Record}
@@ -9,20 +9,19 @@ use Rattle.xemem_wire.specs.Spelling.{is_valid, AreValid}
 use Rattle.xemem_language.specs.declared.line.Line.{Line}
 use Rattle.xemem_language.specs.declared.line.Line.TheVariants as lines
 use Rattle.enclave_rules.specs.View.{View}
-use Rattle.enclave_rules.specs.Steps.{record_lines}
+use Rattle.enclave_rules.specs.Steps.{record_lines, handled_lines}
 use Rattle.global_model.specs.Facts.{Facts, at_pair, with_sent, with_got, is_living_enclave, after_line, after_lines}
 use Rattle.global_model.specs.Channels.{is_neighbour, arriving}
 use Rattle.global_model.specs.Views.{view_of}
 use Rattle.global_model.specs.Due.{got_lines}
-use Rattle.global_model.specs.Apt.{IsNear, IsSending, IsGetting, NothingArrives, IsApt, AreApt}
+use Rattle.global_model.specs.Apt.{IsNear, IsGetting, NothingArrives, IsApt, AreApt}
 use Rattle.global_model.proofs.Pasts.{after_lines-append}
 use Rattle.global_model.proofs.Flow.{valid_arriving, arriving_sent, IsNext, next_arrives}
-use Rattle.global_model.proofs.Tree.{living_born, near_living, near_admitted}
+use Rattle.global_model.proofs.Tree.{living_born, near_admitted}
 use Rattle.global_model.proofs.Ways.{NamesNear, near_more}
 use Rattle.global_model.proofs.Sound.{IsSound, sound_line, apt_append, at_pair_has, at_channel}
 use Rattle.global_model.proofs.Shown.{admitted-living}
-use Rattle.global_model.proofs.Tells.{MayTell}
-use Rattle.global_model.proofs.Writes.{EachIs, MayWrite, MaySend, writes_record}
+use Rattle.global_model.proofs.Writes.{EachIs, MaySend, writes_record}
 
 pub at_pair_same : {A : Type 0} (x y : ℕ) (h : A → A) (f : ℕ → ℕ → A) → at_pair x y h f x y ≡ h (f x y)
 at_pair_same x y h f = rw (eq-eqb x x refl, eq-eqb y y refl) refl
@@ -218,10 +217,10 @@ module _ (near : ℕ → ℕ → Bool) (lives : ℕ → Bool) (x y : Enclave) (c
       by G a b true is here there = let both = and_parts (eqb a x.0) (eqb b y.0) is in here (eqb-true a x.0 both.0) (eqb-true b y.0 both.1)
       by G a b false is here there = there
 
-  pub got_steps : (rs : List Record) (G : Facts) → IsTurn near lives x.0 y.0 rs G → IsUpTo near lives x.0 y.0 [] G (got_lines G x y rs)
-  got_steps [] G turn = record { apt = tt; turn = turn }
-  got_steps (r ∷ rs) G turn =
-      let own = lines.Got x y ∷ record_lines (view_of G y) x r in
+  -- the next record is got and answered
+  pub got_step : (r : Record) (rs : List Record) (G : Facts) → IsTurn near lives x.0 y.0 (r ∷ rs) G
+      → IsUpTo near lives x.0 y.0 rs G (handled_lines (view_of G y) x r)
+  got_step r rs G turn =
       let valid : AreValid (r ∷ rs)
       = subst AreValid (turn.arrives x.0 y.0 ∙ at_pair_same x.0 y.0 (λ none. r ∷ rs) (λ x y. [])) (valid_arriving (G.channel x.0 y.0) (turn.sound.flows x.0 y.0)) in
       let first : IsUpTo near lives x.0 y.0 rs G (lines.Got x y ∷ []) = one_got r rs G turn in
@@ -229,5 +228,11 @@ module _ (near : ℕ → ℕ → Bool) (lives : ℕ → Bool) (x y : Enclave) (c
       let known = near_more (is_neighbour G) near G.ways (λ a b is. sym (turn.same a b) ∙ is) turn.sound.near y.0 in
       let answer : IsUpTo near lives x.0 y.0 rs (after_line G (lines.Got x y)) (record_lines (view_of G y) x r)
       = proper_lines near lives x.0 y.0 rs (record_lines (view_of G y) x r) (after_line G (lines.Got x y)) (proper_record near lives (view_of G y) x r known close me valid.0) first.turn in
-      let one : IsUpTo near lives x.0 y.0 rs G own = record { apt = (first.apt.0, answer.apt); turn = answer.turn } in
+      record { apt = (first.apt.0, answer.apt); turn = answer.turn }
+
+  pub got_steps : (rs : List Record) (G : Facts) → IsTurn near lives x.0 y.0 rs G → IsUpTo near lives x.0 y.0 [] G (got_lines G x y rs)
+  got_steps [] G turn = record { apt = tt; turn = turn }
+  got_steps (r ∷ rs) G turn =
+      let own = handled_lines (view_of G y) x r in
+      let one : IsUpTo near lives x.0 y.0 rs G own = got_step r rs G turn in
       up_to-append near lives x.0 y.0 rs [] G own (got_lines (after_lines G own) x y rs) one (got_steps rs (after_lines G own) one.turn)

@@ -14,7 +14,7 @@ use Rattle.xemem_language.specs.declared.line.Line.{Line}
 use Rattle.xemem_language.specs.declared.line.Line.TheVariants as lines
 use Rattle.enclave_rules.specs.Ways.{place_among}
 use Rattle.enclave_rules.specs.View.{View}
-use Rattle.enclave_rules.specs.Sending.{Next, Server, knows_way, way_to, drop_lines, over_lines, send_lines}
+use Rattle.enclave_rules.specs.Sending.{Server, knows_way, way_to, drop_lines, over_lines, send_lines}
 use Rattle.enclave_rules.specs.Steps.{is_stray, here_of, register_of, admit_of, query_lines, told_askers, here_lines, register_lines, admit_over, admit_to, body_lines, record_lines}
 use Rattle.global_model.proofs.Ways.{AllName, name_less, name_at}
 

@@ -10,7 +10,7 @@ use Rattle.xemem_language.specs.declared.command.Command.TheVariants as commands
 use Rattle.xemem_language.specs.declared.line.Line.{Line}
 use Rattle.xemem_language.specs.declared.line.Line.TheVariants as lines
 use Rattle.xemem_language.specs.declared.record.Record.{Record}
-use Rattle.enclave_rules.specs.Steps.{adopt_lines, birth_lines, bytes_lines, host_lines, record_lines, route_lines, state_lines}
+use Rattle.enclave_rules.specs.Steps.{adopt_lines, birth_lines, bytes_lines, host_lines, handled_lines, route_lines, state_lines}
 use Rattle.global_model.specs.Channels.{arriving, size_of, waiting_bytes}
 use Rattle.global_model.specs.Facts.{Facts, after_line, after_lines, fact_of, facts_at, is_living_enclave, no_facts}
 use Rattle.global_model.specs.Refusals.{refusal_of}
@@ -31,7 +31,7 @@ touched_lines e p page mapping = option_map_or (λ found. lines.Touched e p page
 abbrev pub got_lines : Facts → Enclave → Enclave → List Record → List Line
 got_lines G x y [] = []
 got_lines G x y (r ∷ rs) =
-    let own = lines.Got x y ∷ record_lines (view_of G y) x r in
+    let own = handled_lines (view_of G y) x r in
     own ++ got_lines (after_lines G own) x y rs
 
 abbrev pub took_lines : Facts → Enclave → Enclave → ℕ → List Line

@@ -23,6 +23,7 @@ pub mod Space
 pub mod Refusals
 pub mod Flow
 pub mod Due
+pub mod Handled
 pub mod Known
 pub mod Place
 pub mod Rest

@@ -11,7 +11,6 @@ use Rattle.frame_pool.specs.declared.BlockState.{BlockState}
 use Rattle.frame_pool.specs.declared.BlockState.TheVariants as states
 use Rattle.frame_pool.specs.Blocks.{is_free}
 use Rattle.enclave_rules.specs.Core.{machine_frame}
-use Rattle.enclave_rules.specs.Memory.{ProcessView}
 use Rattle.enclave_rules.specs.Pages.{frame_list}
 use Rattle.global_model.specs.Facts.{EnclaveFact, Facts, fact_of, is_living_enclave, lives}
 

@@ -1,0 +1,155 @@
+-- Lines that are about one enclave change its view by themselves, and no other's; so do those that it writes for records.
+use Rattle.std.proofs.Common.{◌≡◌, ◌≢◌, List, [], ◌∷◌, map, Bool, true, false, cond, eqb, refl, sym, ap, ◌∙◌, subst}
+use Rattle.std.proofs.lemmas.Bool.{eq-eqb, ne_eqb}
+use Rattle.xm_num.specs.declared.Enclave.{Enclave}
+use Rattle.xm_num.specs.declared.Kind.{Kind}
+use Rattle.xm_num.specs.declared.Block.{Block}
+use Rattle.xm_num.specs.declared.Frame.{Frame}
+use Rattle.xemem_language.specs.declared.record.Record.{Record}
+use Rattle.xemem_language.specs.declared.line.Line.{Line}
+use Rattle.xemem_language.specs.declared.line.Line.TheVariants as lines
+use Rattle.enclave_rules.specs.Core.{is_guest, local_frame, place_in}
+use Rattle.enclave_rules.specs.Pages.{frames_of}
+use Rattle.enclave_rules.specs.Hand.{Hand, Reads}
+use Rattle.enclave_rules.specs.View.{View, own_line, own_lines, is_at, IsOf, AreOf, IsAbout, AreAbout}
+use Rattle.enclave_rules.specs.Steps.{record_lines, handled_lines, after_record, lines_of_records}
+use Rattle.global_model.specs.Facts.{Facts, after_line, after_lines}
+use Rattle.global_model.specs.Views.{seen_line, seen_lines}
+use Rattle.global_model.proofs.Writes.{each-append, MayWrite, KnowsNear, MaySend, writes_record}
+
+-- ---- lines about one enclave
+
+-- what they leave alone
+pub record Keeps (v w : View) : Type 0 where
+  pub me : w.me ≡ v.me
+  pub kind : w.core.kind ≡ v.core.kind
+
+about_keeps : (hand : Hand) (y : Enclave) (line : Line) (v : View) → IsAbout y line → Keeps v (own_line hand v line)
+about_keeps hand y (lines.Born e kind parent ns blocks) v about = absurd about
+about_keeps hand y _ v about = record { me = refl; kind = refl }
+
+about_hand : (G : Facts) (y : Enclave) (line : Line) → IsAbout y line → (after_line G line).hand ≡ G.hand
+about_hand G y (lines.Do command) about = absurd about
+about_hand G y (lines.Took a b count) about = absurd about
+about_hand G y (lines.Got a b) about = absurd about
+about_hand G y _ about = refl
+
+-- the enclave, which is no virtual machine, sees its own line
+either_same : (b : Bool) (v : View) → cond b v v ≡ v
+either_same true v = refl
+either_same false v = refl
+
+map_same : (frames : List Frame) → map (λ f. f) frames ≡ frames
+map_same [] = refl
+map_same (f ∷ frames) = ap (λ fs. f ∷ fs) (map_same frames)
+
+local_same : (kind : Kind) (blocks : List Block) (frames : List Frame) → is_guest kind ≡ false → map (local_frame kind blocks) frames ≡ frames
+local_same kind blocks frames plain =
+    ap (λ guest. map (λ (f : Frame). cond guest (record { 0 = place_in (frames_of blocks) f }) f) frames) plain ∙ map_same frames
+
+mine : (e y : Enclave) (v w : View) → e ≡ y → cond (eqb e.0 y.0) v w ≡ v
+mine e y v w same = rw (eq-eqb e.0 y.0 (ap (λ a. a.0) same)) refl
+
+about_own : (G : Facts) (v : View) (line : Line) → is_guest v.core.kind ≡ false → IsAbout v.me line → seen_line G v line ≡ own_line G.hand v line
+about_own G v (lines.Do command) plain about = absurd about
+about_own G v (lines.Born e kind parent ns blocks) plain about = absurd about
+about_own G v (lines.Took a b count) plain about = absurd about
+about_own G v (lines.Got a b) plain about = absurd about
+about_own G v (lines.End a b torn) plain about = absurd about
+about_own G v (lines.Told e dead) plain about = mine e v.me _ _ about
+about_own G v (lines.Admitted e) plain about = mine e v.me _ _ about
+about_own G v (lines.Proc e p uid gid) plain about = mine e v.me _ _ about
+about_own G v (lines.Alloc e p page frames) plain about =
+    mine e v.me _ _ about ∙ ap (λ (fs : List Frame). own_line G.hand v (lines.Alloc e p page fs)) (local_same v.core.kind v.core.blocks frames plain)
+about_own G v (lines.Asked e by) plain about = mine e v.me _ _ about
+about_own G v (lines.Way e over) plain about = mine e v.me _ _ about
+about_own G v (lines.Back e of over) plain about = mine e v.me _ _ about
+about_own G v (lines.Route e of over) plain about = mine e v.me _ _ about
+about_own G v line plain about = either_same (is_at v.me line) v
+
+theirs : (e y : Enclave) (me : Enclave) (v w : View) → e ≡ y → me.0 ≢ y.0 → cond (eqb e.0 me.0) v w ≡ w
+theirs e y me v w same apart = let other : eqb e.0 me.0 ≡ false = ne_eqb e.0 me.0 (λ is. apart (sym is ∙ ap (λ a. a.0) same)) in rw other refl
+
+about_other : (G : Facts) (y : Enclave) (w : View) (line : Line) → IsAbout y line → w.me.0 ≢ y.0 → seen_line G w line ≡ w
+about_other G y w (lines.Do command) about apart = absurd about
+about_other G y w (lines.Born e kind parent ns blocks) about apart = absurd about
+about_other G y w (lines.Took a b count) about apart = absurd about
+about_other G y w (lines.Got a b) about apart = absurd about
+about_other G y w (lines.End a b torn) about apart = absurd about
+about_other G y w (lines.Told e dead) about apart = theirs e y w.me _ w about apart
+about_other G y w (lines.Admitted e) about apart = theirs e y w.me _ w about apart
+about_other G y w (lines.Proc e p uid gid) about apart = theirs e y w.me _ w about apart
+about_other G y w (lines.Alloc e p page frames) about apart = theirs e y w.me _ w about apart
+about_other G y w (lines.Asked e by) about apart = theirs e y w.me _ w about apart
+about_other G y w (lines.Way e over) about apart = theirs e y w.me _ w about apart
+about_other G y w (lines.Back e of over) about apart = theirs e y w.me _ w about apart
+about_other G y w (lines.Route e of over) about apart = theirs e y w.me _ w about apart
+about_other G y w line about apart = either_same (is_at w.me line) w
+
+pub seen_own : (ls : List Line) (G : Facts) (v : View) → is_guest v.core.kind ≡ false → AreAbout v.me ls → seen_lines G v ls ≡ own_lines G.hand v ls
+seen_own [] G v plain about = refl
+seen_own (l ∷ ls) G v plain about =
+    let w = own_line G.hand v l in
+    let keeps : Keeps v w = about_keeps G.hand v.me l v about.0 in
+    ap (λ u. seen_lines (after_line G l) u ls) (about_own G v l plain about.0)
+    ∙ seen_own ls (after_line G l) w (ap is_guest keeps.kind ∙ plain) (subst (λ e. AreAbout e ls) (sym keeps.me) about.1)
+    ∙ ap (λ hand. own_lines hand w ls) (about_hand G v.me l about.0)
+
+pub seen_other : (ls : List Line) (G : Facts) (y : Enclave) (w : View) → AreAbout y ls → w.me.0 ≢ y.0 → seen_lines G w ls ≡ w
+seen_other [] G y w about apart = refl
+seen_other (l ∷ ls) G y w about apart =
+    ap (λ u. seen_lines (after_line G l) u ls) (about_other G y w l about.0 apart) ∙ seen_other ls (after_line G l) y w about.1 apart
+
+pub keeps_lines : (hand : Hand) (y : Enclave) (ls : List Line) (v : View) → AreAbout y ls → Keeps v (own_lines hand v ls)
+keeps_lines hand y [] v about = record { me = refl; kind = refl }
+keeps_lines hand y (l ∷ ls) v about =
+    let one : Keeps v (own_line hand v l) = about_keeps hand y l v about.0 in
+    let more = keeps_lines hand y ls (own_line hand v l) about.1 in
+    record { me = more.me ∙ one.me; kind = more.kind ∙ one.kind }
+
+pub hand_lines : (G : Facts) (y : Enclave) (ls : List Line) → AreAbout y ls → (after_lines G ls).hand ≡ G.hand
+hand_lines G y [] about = refl
+hand_lines G y (l ∷ ls) about = hand_lines (after_line G l) y ls about.1 ∙ about_hand G y l about.0
+
+-- ---- the lines that an enclave writes for a record
+
+knows_all : (v : View) → KnowsNear (λ x. Unit {0}) v
+knows_all v = record { way = λ x is. tt; askers = λ k d lt. tt; backs = λ k d lt. tt }
+
+sends_all : (v : View) (r : Record) → MaySend (λ sent. Unit {0}) v r
+sends_all v r = record { here = tt; register = tt; admit = tt; passed = tt }
+
+pub about_record : (v : View) (from : Enclave) (r : Record) → AreAbout v.me (record_lines v from r)
+about_record v from r = writes_record (IsAbout v.me) (λ x. Unit {0}) (λ sent. Unit {0}) v own from r (knows_all v) tt (sends_all v r)
+  where
+    own : MayWrite (IsAbout v.me) (λ x. Unit {0}) (λ sent. Unit {0}) v
+    own = record {
+      dropped = tt;
+      admitted = refl;
+      asked = λ x near. refl;
+      way = λ x near. refl;
+      back = λ d x near. refl;
+      route = λ d x near. refl;
+      sent = λ x sent near good. tt;
+    }
+
+of_record : (v : View) (from : Enclave) (r : Record) → AreOf v.me (record_lines v from r)
+of_record v from r = writes_record (IsOf v.me) (λ x. Unit {0}) (λ sent. Unit {0}) v own from r (knows_all v) tt (sends_all v r)
+  where
+    own : MayWrite (IsOf v.me) (λ x. Unit {0}) (λ sent. Unit {0}) v
+    own = record {
+      dropped = refl;
+      admitted = refl;
+      asked = λ x near. refl;
+      way = λ x near. refl;
+      back = λ d x near. refl;
+      route = λ d x near. refl;
+      sent = λ x sent near good. refl;
+    }
+
+pub of_records : (v : View) (x : Enclave) (rs : List Record) → AreOf v.me (lines_of_records v x rs)
+of_records v x [] = tt
+of_records v x (r ∷ rs) =
+    let next = after_record v x r in
+    let keeps : Keeps v next = keeps_lines (Reads r) v.me (record_lines v x r) v (about_record v x r) in
+    each-append (IsOf v.me) (handled_lines v x r) (lines_of_records next x rs) (refl, of_record v x r) (subst (λ e. AreOf e (lines_of_records next x rs)) keeps.me (of_records next x rs))
