@@ -2,7 +2,9 @@ pub mod Pasts
 pub mod Flow
 pub mod Runs
 pub mod Tree
+pub mod Rows
 pub mod Ways
+pub mod Owned
 pub mod Lent
 pub mod Sound
 pub mod Refused

@@ -23,7 +23,7 @@ use Rattle.global_model.specs.Flow.{IsTree, IsFlowing}
 use Rattle.global_model.specs.Rest.{IsAtRest, EndsSettle}
 use Rattle.global_model.proofs.Pasts.{after_lines-append, facts_by-more}
 use Rattle.global_model.proofs.Tree.{near-turned, near_born}
-use Rattle.global_model.proofs.Ways.{AllName}
+use Rattle.global_model.proofs.Rows.{AllRows}
 use Rattle.global_model.proofs.Writes.{EachIs, each-append, each_either, writes_record}
 use Rattle.global_model.proofs.Plain.{each-weaker}
 use Rattle.global_model.specs.Apt.{NothingArrives}
@@ -55,7 +55,7 @@ no_deliveries (l ∷ ls) each = rw (each.0.0) (no_deliveries ls each.1)
 
 others_record : (v : View) (from : Enclave) (r : Record) → EachIs IsOther (record_lines v from r)
 others_record v from r =
-    let all : (rows : List (ℕ × Enclave)) → AllName (λ x. Unit {0}) rows = λ rows k d lt. tt in
+    let all : (rows : List (ℕ × Enclave)) → AllRows (λ x. Unit {0}) rows = λ rows k d lt. tt in
     writes_record IsOther (λ x. Unit {0}) (λ r. Unit {0}) v
     (record {
       dropped = (refl, tt);

@@ -1,20 +1,18 @@
 -- Lines that are about one enclave change its view by themselves, and no other's; so do those that it writes for records.
-use Rattle.std.proofs.Common.{◌≡◌, ◌≢◌, List, [], ◌∷◌, map, Bool, true, false, cond, eqb, refl, sym, ap, ◌∙◌, subst}
+use Rattle.std.proofs.Common.{◌≡◌, ◌≢◌, List, [], ◌∷◌, Bool, true, false, cond, eqb, refl, sym, ap, ◌∙◌, subst}
 use Rattle.std.proofs.lemmas.Bool.{eq-eqb, ne_eqb}
 use Rattle.xm_num.specs.declared.Enclave.{Enclave}
-use Rattle.xm_num.specs.declared.Kind.{Kind}
-use Rattle.xm_num.specs.declared.Block.{Block}
 use Rattle.xm_num.specs.declared.Frame.{Frame}
 use Rattle.xemem_language.specs.declared.record.Record.{Record}
 use Rattle.xemem_language.specs.declared.line.Line.{Line}
 use Rattle.xemem_language.specs.declared.line.Line.TheVariants as lines
-use Rattle.enclave_rules.specs.Core.{is_guest, local_frame, place_in}
-use Rattle.enclave_rules.specs.Pages.{frames_of}
+use Rattle.enclave_rules.specs.Core.{is_guest}
 use Rattle.enclave_rules.specs.Hand.{Hand, Reads}
 use Rattle.enclave_rules.specs.View.{View, own_line, own_lines, is_at, IsOf, AreOf, IsAbout, AreAbout}
 use Rattle.enclave_rules.specs.Steps.{record_lines, handled_lines, after_record, lines_of_records}
 use Rattle.global_model.specs.Facts.{Facts, after_line, after_lines}
 use Rattle.global_model.specs.Views.{seen_line, seen_lines}
+use Rattle.global_model.proofs.Sound.{local_same}
 use Rattle.global_model.proofs.Writes.{each-append, MayWrite, KnowsNear, MaySend, writes_record}
 
 -- ---- lines about one enclave
@@ -38,14 +36,6 @@ about_hand G y _ about = refl
 either_same : (b : Bool) (v : View) → cond b v v ≡ v
 either_same true v = refl
 either_same false v = refl
-
-map_same : (frames : List Frame) → map (λ f. f) frames ≡ frames
-map_same [] = refl
-map_same (f ∷ frames) = ap (λ fs. f ∷ fs) (map_same frames)
-
-local_same : (kind : Kind) (blocks : List Block) (frames : List Frame) → is_guest kind ≡ false → map (local_frame kind blocks) frames ≡ frames
-local_same kind blocks frames plain =
-    ap (λ guest. map (λ (f : Frame). cond guest (record { 0 = place_in (frames_of blocks) f }) f) frames) plain ∙ map_same frames
 
 mine : (e y : Enclave) (v w : View) → e ≡ y → cond (eqb e.0 y.0) v w ≡ v
 mine e y v w same = rw (eq-eqb e.0 y.0 (ap (λ a. a.0) same)) refl

@@ -16,7 +16,7 @@ use Rattle.enclave_rules.specs.Ways.{place_among}
 use Rattle.enclave_rules.specs.View.{View}
 use Rattle.enclave_rules.specs.Sending.{Server, knows_way, way_to, drop_lines, over_lines, send_lines}
 use Rattle.enclave_rules.specs.Steps.{is_stray, here_of, register_of, admit_of, query_lines, told_askers, here_lines, register_lines, admit_over, admit_to, body_lines, record_lines}
-use Rattle.global_model.proofs.Ways.{AllName, name_less, name_at}
+use Rattle.global_model.proofs.Rows.{AllRows, all_less, all_at}
 
 -- ---- lists of lines
 
@@ -48,8 +48,8 @@ pub record MayWrite (P : Line → Type 0) (Near : Enclave → Type 0) (Good : Re
 -- the enclaves that a view knows are near
 pub record KnowsNear (Near : Enclave → Type 0) (v : View) : Type 0 where
   pub way : (x : Enclave) → v.ways.way ≡ Some x → Near x
-  pub askers : AllName Near v.ways.askers
-  pub backs : AllName Near v.ways.backs
+  pub askers : AllRows Near v.ways.askers
+  pub backs : AllRows Near v.ways.backs
 
 -- the records that an enclave may send for that one are good
 pub record MaySend (Good : Record → Type 0) (v : View) (r : Record) : Type 0 where
@@ -66,7 +66,7 @@ module _ (P : Line → Type 0) (Near : Enclave → Type 0) (Good : Record → Ty
   writes_query from near good = each_either P (knows_way v) (lines.Sent v.me from (here_of v.me) ∷ []) (lines.Asked v.me from ∷ [])
       (may.sent from _ near good, tt) (may.asked from near, tt)
 
-  writes_askers : (rows : List (ℕ × Enclave)) → AllName Near rows → Good (here_of v.me) → EachIs P (told_askers v rows)
+  writes_askers : (rows : List (ℕ × Enclave)) → AllRows Near rows → Good (here_of v.me) → EachIs P (told_askers v rows)
   writes_askers [] near good = tt
   writes_askers (row ∷ rows) near good = (
     may.sent row.1 _ (All-head Near row.1 (values_of rows) near) good,
@@ -74,7 +74,7 @@ module _ (P : Line → Type 0) (Near : Enclave → Type 0) (Good : Record → Ty
         (All-tail Near row.1 (values_of rows) near) good,
   )
 
-  writes_here : (from : Enclave) → AllName Near v.ways.askers → Near from → Good (here_of v.me) → Good (register_of v.me)
+  writes_here : (from : Enclave) → AllRows Near v.ways.askers → Near from → Good (here_of v.me) → Good (register_of v.me)
       → EachIs P (here_lines v from)
   writes_here from askers near here register =
       let others = less v.ways.askers (place_among v.core.parent from) in
@@ -82,7 +82,7 @@ module _ (P : Line → Type 0) (Near : Enclave → Type 0) (Good : Record → Ty
       each_either P (knows_way v) (drop_lines v) (lines.Way v.me from ∷ told_askers v others ++ last) writes_drop (
         may.way from near,
         each-append P (told_askers v others) last
-            (writes_askers others (name_less Near v.ways.askers (place_among v.core.parent from) askers) here) (may.sent from _ near register, tt),
+            (writes_askers others (all_less Near v.ways.askers (place_among v.core.parent from) askers) here) (may.sent from _ near register, tt),
       )
 
   -- the way, where there is one, goes over an enclave that is near
@@ -115,12 +115,12 @@ module _ (P : Line → Type 0) (Near : Enclave → Type 0) (Good : Record → Ty
   writes_over from d r None near good = writes_drop
   writes_over from d r (Some over) near good = (may.route d over (near over refl), writes_over_way (Some from) (Some over) r near good)
 
-  writes_admit : (from : Enclave) (r : Record) (dest : Option Enclave) → AllName Near v.ways.backs → Good r → EachIs P (admit_to v from r dest)
+  writes_admit : (from : Enclave) (r : Record) (dest : Option Enclave) → AllRows Near v.ways.backs → Good r → EachIs P (admit_to v from r dest)
   writes_admit from r None backs good = writes_drop
   writes_admit from r (Some d) backs good =
       each_either P (d.0 == v.me.0) (if v.core.admitted then drop_lines v else lines.Admitted v.me ∷ []) (admit_over v from d r (at v.ways.backs d.0))
       (each_either P v.core.admitted (drop_lines v) (lines.Admitted v.me ∷ []) writes_drop (may.admitted, tt))
-      (writes_over from d r (at v.ways.backs d.0) (λ x is. name_at Near v.ways.backs d.0 x backs is) good)
+      (writes_over from d r (at v.ways.backs d.0) (λ x is. all_at Near v.ways.backs d.0 x backs is) good)
 
   writes_body : (from : Enclave) (r : Record) (body : Body) → KnowsNear Near v → Near from → MaySend Good v r
       → EachIs P (body_lines v from r body)

@@ -1,6 +1,6 @@
 -- Apt lines: what a line must be like to come next, by the facts before it. It is on its turn, who writes it lives, it names
 -- neighbours, and what it sends is valid.
-use Rattle.std.specs.Prelude.{◌≡◌, ◌+◌, ◌<◌, ◌≤◌, ℕ, List, [], ◌∷◌, length, take, Bool, ◌&&◌, true, false}
+use Rattle.std.specs.Prelude.{Some, ◌≡◌, ◌+◌, ◌/◌, ◌<◌, ◌≤◌, ℕ, List, [], ◌∷◌, length, take, Bool, ◌&&◌, true, false}
 use Rattle.xm_num.specs.declared.Enclave.{Enclave}
 use Rattle.xm_num.specs.declared.Pid.{Pid}
 use Rattle.xm_num.specs.declared.Frame.{Frame}
@@ -14,8 +14,11 @@ use Rattle.xemem_language.specs.declared.record.Record.{Record}
 use Rattle.xemem_wire.specs.Spelling.{is_valid}
 use Rattle.enclave_rules.specs.Core.{is_guest}
 use Rattle.global_model.specs.Channels.{arriving, is_neighbour, waiting_bytes}
-use Rattle.global_model.specs.Facts.{Facts, after_line, facts_at, is_living_enclave, runs}
-use Rattle.global_model.specs.Space.{free_blocks, unused_frames}
+use Rattle.global_model.specs.Facts.{Facts, fact_of, after_line, facts_at, is_living_enclave, runs}
+use Rattle.global_model.specs.Space.{frame_of, free_blocks, is_lent_to, unused_frames}
+use Rattle.enclave_rules.specs.Memory.{ProcessView}
+use Rattle.xm_num.specs.declared.Page.{Page}
+use Rattle.xm_num.specs.Rows.{at}
 
 -- the next enclave is born with the lowest free blocks, under one that lives; the host's parent is written 0
 pub record IsBirth (G : Facts) (e : Enclave) (kind : Kind) (parent : Enclave) (ns : Bool) (blocks : List Block) : Type 0 where
@@ -90,3 +93,12 @@ AreApt G (line ∷ journal) = IsApt G line × AreApt (after_line G line) journal
 
 abbrev pub AptAt : List Line → Line → Type 0
 AptAt past line = IsApt (facts_at past) line
+
+-- each page of a process is an own one, of a frame in a block that is lent to its enclave
+pub record AreOwned (G : Facts) : Type 0 where
+  pub own : (e p v : ℕ) (process : ProcessView) (page : Page) → at (G.memory e).processes p ≡ Some process → at process.pages v ≡ Some page → page.own ≡ true
+  pub lent : (e p v : ℕ) (process : ProcessView) (page : Page) → at (G.memory e).processes p ≡ Some process → at process.pages v ≡ Some page
+      → is_lent_to e (G.block ((frame_of (fact_of (G.enclave e)) page).0 / 64)) ≡ true
+
+abbrev pub OwnedAt : List Line → Line → Type 0
+OwnedAt past line = AreOwned (facts_at past)

@@ -17,7 +17,7 @@ ghost use Rattle.global_model.specs.Facts.{Facts, after_line, after_lines, facts
 ghost use Rattle.global_model.specs.Channels.{whole_records};
 ghost use Rattle.global_model.specs.Views.{view_of, seen_lines};
 ghost use Rattle.global_model.specs.Handled.{AreHandled, SeenAt};
-ghost use Rattle.global_model.specs.Apt.{AptAt, IsTaking};
+ghost use Rattle.global_model.specs.Apt.{AptAt, IsTaking, OwnedAt};
 ghost use Rattle.global_model.specs.Known.{IsAnswered};
 ghost use Rattle.global_model.specs.Due.{deliver_lines, next_rest, first_waiting, acts_of, command_lines, journal_of, step_lines};
 ghost use Rattle.global_model.specs.Refusals.{Condition, when, first_cause};
@@ -62,9 +62,10 @@ pub fn refusals_come_first()
 {}
 
 /// Each line of the journal of commands, each of which may stand after those before it, is apt: on its turn, by one who lives, to
-/// neighbours, and valid.
+/// neighbours, and valid. At each line the pages of processes are own ones, of frames in blocks that are lent to their enclave.
 pub fn journals_are_apt()
-    ensures { (commands : List Commands) → IsPlaced commands → Follows AptAt [] (journal_of commands) }
+    ensures apt { (commands : List Commands) → IsPlaced commands → Follows AptAt [] (journal_of commands) }
+    ensures owned { (commands : List Commands) → IsPlaced commands → Follows OwnedAt [] (journal_of commands) }
 {}
 
 /// The journal of commands, each of which may stand after those before it, is carried. Wherever a command has ended the
