@@ -3,7 +3,7 @@ use Rattle.std.proofs.Common.{subst, ◌≡◌, ◌+◌, ◌-◌, ◌/◌, ◌<�
 use Rattle.std.specs.Prelude.{is_some, is_none, slice_get}
 use Rattle.std.specs.List.{range_with_len, filter, list_any}
 use Rattle.std.specs.Option.{option_map, option_map_or}
-use Rattle.std.proofs.lemmas.Bool.{ne_eqb, ltb-true, ltb-false, lt-ltb, le-ltb}
+use Rattle.std.proofs.lemmas.Bool.{ne_eqb, ltb-false, lt-ltb, le-ltb}
 use Rattle.std.proofs.lemmas.Bool.Decides.{nat_tests}
 use Rattle.std.proofs.lemmas.List.FromFn.{length-map-range_with_len, take-map-range_with_len}
 use Rattle.xm_num.specs.declared.Enclave.{Enclave}
@@ -26,7 +26,7 @@ use Rattle.xemem_language.specs.Calls.{call_of, show_of}
 use Rattle.enclave_rules.specs.Calls.{call_lines, show_lines}
 use Rattle.xemem_language.specs.declared.line.Line.{Line}
 use Rattle.xemem_language.specs.declared.line.Line.TheVariants as lines
-use Rattle.global_model.specs.Facts.{Facts, is_living_enclave, is_living_process}
+use Rattle.global_model.specs.Facts.{Facts, is_living_enclave, is_living_process, lives_at}
 use Rattle.enclave_rules.specs.Blocks.{BlockFact, Absent, Free, is_free}
 use Rattle.global_model.specs.Space.{mapping_of, pages_of, unused_frames, free_blocks}
 use Rattle.enclave_rules.specs.Pages.{allows}
@@ -35,8 +35,9 @@ use Rattle.enclave_rules.specs.View.{ProcessView, host}
 use Rattle.global_model.specs.Views.{process_of, view_of}
 use Rattle.enclave_rules.specs.Steps.{refusal, host_lines, process_at, alloc_lines, page_answer, touch_answer, answer_lines, route_lines, state_lines, free_from, first_blocks}
 use Rattle.global_model.specs.Due.{touched_lines, command_lines}
-use Rattle.global_model.specs.Known.{at_born, start_by, boot_by, IsAnswered}
+use Rattle.global_model.specs.Known.{at_living, start_by, boot_by, IsAnswered}
 use Rattle.global_model.proofs.Runs.{filter_run-same, filter_all}
+use Rattle.global_model.proofs.Tree.{root_lives}
 use Rattle.global_model.proofs.Kept.{IsKnown}
 use Rattle.global_model.proofs.Journeys.{pool_facts}
 
@@ -48,14 +49,14 @@ either_way : (holds : Bool) (cause : Cause) (rest : Option Cause) (acts others :
 either_way true cause rest acts others same = refl
 either_way false cause rest acts others same = same refl
 
--- a condition that an enclave doesn't live, and the test that it was born
-where_born : (G : Facts) → IsKnown G → (e : Enclave) (rest : Option Cause) (acts others : List Line) → (e.0 < G.born → option_map_or (λ c. lines.Refused c ∷ []) rest acts ≡ others)
-    → option_map_or (λ c. lines.Refused c ∷ []) (cond (not (is_living_enclave (G.enclave e.0))) (Some causes.NoEnclave) rest) acts ≡ at_born G.born e others
-where_born G known e rest acts others same = rw (known.tree.enclaves e.0).living (by (ltb e.0 G.born) refl)
+-- a condition that an enclave doesn't live, and the test that it does
+where_lives : (G : Facts) (e : Enclave) (rest : Option Cause) (acts others : List Line) → option_map_or (λ c. lines.Refused c ∷ []) rest acts ≡ others
+    → option_map_or (λ c. lines.Refused c ∷ []) (cond (not (is_living_enclave (G.enclave e.0))) (Some causes.NoEnclave) rest) acts ≡ at_living G e others
+where_lives G e rest acts others same = by (lives_at G e.0)
   where
-    by : (b : Bool) → ltb e.0 G.born ≡ b → option_map_or (λ c. lines.Refused c ∷ []) (cond (not b) (Some causes.NoEnclave) rest) acts ≡ cond b others (refusal causes.NoEnclave)
-    by true is = same (ltb-true e.0 G.born is)
-    by false is = refl
+    by : (b : Bool) → option_map_or (λ c. lines.Refused c ∷ []) (cond (not b) (Some causes.NoEnclave) rest) acts ≡ cond b others (refusal causes.NoEnclave)
+    by true = same
+    by false = refl
 
 -- ---- births and processes
 
@@ -70,20 +71,20 @@ free_run f a (suc n) = by (free_run f (a + 1) n) (is_free (f a))
     by more false = more
 
 boot_answered : (G : Facts) → IsKnown G → (kind : Kind) (parent : Enclave) (blocks : ℕ) (ns : Bool)
-    → command_lines G (commands.Boot kind parent blocks ns) ≡ at_born G.born parent (boot_by G kind parent blocks ns)
+    → command_lines G (commands.Boot kind parent blocks ns) ≡ at_living G parent (boot_by G kind parent blocks ns)
 boot_answered G known kind parent blocks ns =
-    rw (free_run G.block 0 G.pool) (where_born G known parent _ _ _ (λ born. either_way (leb 256 G.born) causes.TooMany _ _ _ (λ room. either_way (ns && G.server) causes.NameServerTaken _ _ _ (λ free. either_way (ltb (length (free_blocks G)) blocks) causes.NoBlocks None _ _ (λ enough. refl)))))
+    rw (free_run G.block 0 G.pool) (where_lives G parent _ _ _ (either_way (leb 256 G.born) causes.TooMany _ _ _ (λ room. either_way (ns && G.server) causes.NameServerTaken _ _ _ (λ free. either_way (ltb (length (free_blocks G)) blocks) causes.NoBlocks None _ _ (λ enough. refl)))))
 
-proc_answered : (G : Facts) → IsKnown G → (e : Enclave) (uid gid : ℕ) → command_lines G (commands.Proc e uid gid) ≡ at_born G.born e (start_by G e uid gid)
+proc_answered : (G : Facts) → IsKnown G → (e : Enclave) (uid gid : ℕ) → command_lines G (commands.Proc e uid gid) ≡ at_living G e (start_by G e uid gid)
 proc_answered G known e uid gid =
     let count : length (view_of G e).processes ≡ G.started e.0 = length-map-range_with_len (process_of G e.0) 1 (G.started e.0) in
-    rw count (where_born G known e _ _ _ (λ born. either_way (leb 1024 G.starts) causes.TooMany None _ _ (λ room. refl)))
+    rw count (where_lives G e _ _ _ (either_way (leb 1024 G.starts) causes.TooMany None _ _ (λ room. refl)))
 
-routes_answered : (G : Facts) → IsKnown G → (e : Enclave) → command_lines G (commands.ShowRoutes e) ≡ at_born G.born e (route_lines (view_of G e))
-routes_answered G known e = where_born G known e None _ _ (λ born. refl)
+routes_answered : (G : Facts) → IsKnown G → (e : Enclave) → command_lines G (commands.ShowRoutes e) ≡ at_living G e (route_lines (view_of G e))
+routes_answered G known e = where_lives G e None _ _ (refl)
 
-pool_answered : (G : Facts) → IsKnown G → command_lines G commands.ShowPool ≡ at_born G.born host (state_lines 0 (view_of G host).host.states)
-pool_answered G known = rw (known.tree.enclaves 0).known (by (ltb 0 G.born))
+pool_answered : (G : Facts) → IsKnown G → command_lines G commands.ShowPool ≡ at_living G host (state_lines 0 (view_of G host).host.states)
+pool_answered G known = rw (root_lives G known.tree) (by (lives_at G 0))
   where
     by : (b : Bool) → option_map_or (λ c. lines.Refused c ∷ []) (cond (not b) (Some causes.NoEnclave) None) (state_lines 0 (map G.block (range_with_len 0 G.pool)))
         ≡ cond b (state_lines 0 (map G.block (range_with_len 0 G.pool))) (refusal causes.NoEnclave)
@@ -142,9 +143,9 @@ taken_is any G e p page count =
     let rows = any (pages_of G e p) page (page + count) in
     ap (λ t. list_any t (range_with_len page count)) (λ i k. is_some-mapped (at (pages_of G e p) k) i) ∙ ap (λ n. list_any (λ k. is_some (at (pages_of G e p) k)) (range_with_len page n)) (sym size) ∙ sym rows
 
-alloc_answered : AnyMapped → (G : Facts) → IsKnown G → (e : Enclave) (p : Pid) (page : Vpn) (count : ℕ) → command_lines G (commands.Alloc e p page count) ≡ at_born G.born e (alloc_lines (view_of G e) p page count)
+alloc_answered : AnyMapped → (G : Facts) → IsKnown G → (e : Enclave) (p : Pid) (page : Vpn) (count : ℕ) → command_lines G (commands.Alloc e p page count) ≡ at_living G e (alloc_lines (view_of G e) p page count)
 alloc_answered any G known e p page count =
-    where_born G known e _ _ _ (λ born. where_runs G known e p _ _ _
+    where_lives G e _ _ _ (where_runs G known e p _ _ _
     (either_way (ltb 16777216 (page.0 + count)) causes.BadRange _ _ _ (λ within. rw (taken_is any G e.0 p.0 page.0 count) (either_way (any_between (pages_of G e.0 p.0) page.0 (page.0 + count)) causes.Taken _ _ _ (λ clear. either_way (ltb (length (unused_frames G e.0)) count) causes.NoFrames None _ _ (λ enough. refl))))))
 
 -- ---- touches
@@ -165,11 +166,11 @@ answer_found : (e : Enclave) (p : Pid) (answer : ProcessView → Result (Vpn × 
 answer_found e p answer None = refl
 answer_found e p answer (Some process) = refl
 
-touch_answered : (G : Facts) → IsKnown G → (e : Enclave) (p : Pid) (addr : ℕ) (want : Want) → command_lines G (commands.Touch e p addr want) ≡ at_born G.born e (answer_lines e p (touch_answer (view_of G e) p addr want))
+touch_answered : (G : Facts) → IsKnown G → (e : Enclave) (p : Pid) (addr : ℕ) (want : Want) → command_lines G (commands.Touch e p addr want) ≡ at_living G e (answer_lines e p (touch_answer (view_of G e) p addr want))
 touch_answered G known e p addr want =
     let page : Vpn = record { 0 = addr / 4096 } in
     let answer : ProcessView → Result (Vpn × Frame) Cause = λ process. page_answer want page (at process.pages (addr / 4096)) in
-    rw (answer_found e p answer (process_at (view_of G e) p)) (where_born G known e _ _ _ (λ born. where_runs G known e p _ _ (λ process. answer_lines e p (answer process)) (page_answered e p page want (at (pages_of G e.0 p.0) (addr / 4096)))))
+    rw (answer_found e p answer (process_at (view_of G e) p)) (where_lives G e _ _ _ (where_runs G known e p _ _ (λ process. answer_lines e p (answer process)) (page_answered e p page want (at (pages_of G e.0 p.0) (addr / 4096)))))
 
 -- ---- the host
 
@@ -190,20 +191,20 @@ host_answered pool blocks ns = either_way (ltb pool blocks) causes.NoBlocks None
 -- ---- calls and what is shown
 
 call_answered : AnyMapped → (G : Facts) → IsKnown G → (command : Command) (k : ProcessCall) → call_of command ≡ Some k
-    → command_lines G command ≡ at_born G.born k.enclave (call_lines (view_of G k.enclave) k.pid k.call)
+    → command_lines G command ≡ at_living G k.enclave (call_lines (view_of G k.enclave) k.pid k.call)
 call_answered any G known (commands.Alloc e p page count) k is =
     let same : record { enclave = e; pid = p; call = calls.Alloc page count } ≡ k = cc in
-    subst (λ (k : ProcessCall). command_lines G (commands.Alloc e p page count) ≡ at_born G.born k.enclave (call_lines (view_of G k.enclave) k.pid k.call)) same (alloc_answered any G known e p page count)
+    subst (λ (k : ProcessCall). command_lines G (commands.Alloc e p page count) ≡ at_living G k.enclave (call_lines (view_of G k.enclave) k.pid k.call)) same (alloc_answered any G known e p page count)
 call_answered any G known _ k is = cc
 
 show_answered : (G : Facts) → IsKnown G → (command : Command) (s : NodeShow) → show_of command ≡ Some s
-    → command_lines G command ≡ at_born G.born s.enclave (show_lines (view_of G s.enclave) s.show)
+    → command_lines G command ≡ at_living G s.enclave (show_lines (view_of G s.enclave) s.show)
 show_answered G known (commands.ShowRoutes e) s is =
     let same : record { enclave = e; show = shows.Routes } ≡ s = cc in
-    subst (λ (s : NodeShow). command_lines G (commands.ShowRoutes e) ≡ at_born G.born s.enclave (show_lines (view_of G s.enclave) s.show)) same (routes_answered G known e)
+    subst (λ (s : NodeShow). command_lines G (commands.ShowRoutes e) ≡ at_living G s.enclave (show_lines (view_of G s.enclave) s.show)) same (routes_answered G known e)
 show_answered G known commands.ShowPool s is =
     let same : record { enclave = host; show = shows.Pool } ≡ s = cc in
-    subst (λ (s : NodeShow). command_lines G commands.ShowPool ≡ at_born G.born s.enclave (show_lines (view_of G s.enclave) s.show)) same (pool_answered G known)
+    subst (λ (s : NodeShow). command_lines G commands.ShowPool ≡ at_living G s.enclave (show_lines (view_of G s.enclave) s.show)) same (pool_answered G known)
 show_answered G known _ s is = cc
 
 pub answered : AnyMapped → (G : Facts) → IsKnown G → IsAnswered G

@@ -18,7 +18,7 @@ use Rattle.global_model.specs.Journals.{Follows, onto}
 use Rattle.global_model.specs.Flow.{IsTree, IsFlow, IsFlowing}
 use Rattle.global_model.proofs.Pasts.{onto-append, facts_at-onto, Follows-append}
 use Rattle.global_model.proofs.Flow.{valid_arriving, flow_sent, arriving_sent, IsNext, next_arrives}
-use Rattle.global_model.proofs.Tree.{near_born, near_living, tree_admitted, near_admitted}
+use Rattle.global_model.proofs.Tree.{same_tree, near_born, near_living, tree_admitted, near_admitted}
 use Rattle.global_model.proofs.Ways.{AllName, AreNear, ways_near, near_more, name_put, at_number_has}
 use Rattle.global_model.proofs.Tells.{MayTell}
 use Rattle.global_model.proofs.Writes.{EachIs, MayWrite, MaySend, writes_record}
@@ -140,7 +140,7 @@ known_line : (near : ℕ → ℕ → Bool) (x y : ℕ) (rs : List Record) (line 
     → ((a b : ℕ) → (after_line G line).channel a b ≡ G.channel a b)
     → IsArriving near x y rs (after_line G line)
 known_line near x y rs line G known old born enclaves channels = record {
-  tree = record { most = rw born old.tree.most; enclaves = λ e. rw (born, enclaves e) (old.tree.enclaves e) };
+  tree = same_tree G (after_line G line) born enclaves old.tree;
   same = λ a b. rw (enclaves a, enclaves b) (old.same a b);
   known = known;
   flows = λ a b. rw (channels a b) (old.flows a b);
@@ -152,7 +152,7 @@ arriving_sends : (near : ℕ → ℕ → Bool) (x y : ℕ) (rs : List Record) (a
     → is_valid r ≡ true
     → IsArriving near x y rs G → IsArriving near x y rs (after_line G (lines.Sent a b r))
 arriving_sends near x y rs a b r G is valid old = record {
-  tree = record { most = old.tree.most; enclaves = old.tree.enclaves };
+  tree = same_tree _ _ refl (λ e. refl) old.tree;
   same = old.same;
   known = record { way = old.known.way; askers = old.known.askers; backs = old.known.backs; routes = old.known.routes };
   flows = λ c d. at_pair_has IsFlow a.0 b.0 (with_sent r) G.channel c d (λ is_a is_b. flow_sent r (G.channel c d) valid (old.flows c d))
@@ -331,7 +331,7 @@ one_got near x y r rs past is old =
     record {
       carried = ((next.sent, next.whole), tt);
       arrives = record {
-        tree = record { most = old.tree.most; enclaves = old.tree.enclaves };
+        tree = same_tree _ _ refl (λ e. refl) old.tree;
         same = old.same;
         known = record { way = old.known.way; askers = old.known.askers; backs = old.known.backs; routes = old.known.routes };
         flows = λ a b. at_pair_has IsFlow x.0 y.0 with_got G.channel a b (at_channel G x.0 y.0 (λ c. IsFlow (with_got c)) a b next.flow)

@@ -33,7 +33,7 @@ use Rattle.global_model.specs.Journals.{Follows, onto}
 use Rattle.global_model.specs.Flow.{IsTree, IsFlowing}
 use Rattle.global_model.proofs.Pasts.{onto-append, facts_at-onto, Follows-append}
 use Rattle.global_model.proofs.Refused.{no_condition, not_false}
-use Rattle.global_model.proofs.Tree.{near-turned, living_born, tree_born, near_grows, near_newborn, far_before}
+use Rattle.global_model.proofs.Tree.{same_tree, living_tree, near-turned, living_born, tree_born, near_grows, near_newborn, far_before}
 use Rattle.global_model.proofs.Ways.{AreNear, ways_near, near_more}
 use Rattle.global_model.proofs.Tells.{tells_told, tells_bytes, tells_routes, tells_states}
 use Rattle.global_model.proofs.Writes.{each-append, each_either}
@@ -240,7 +240,7 @@ run_pool before blocks past sound counted first =
       carried = (tt, tt);
       sound = record {
         flowing = record {
-          tree = record { most = flowing.tree.most; enclaves = flowing.tree.enclaves };
+          tree = same_tree _ _ refl (λ e. refl) flowing.tree;
           ways = record { way = ways.way; askers = ways.askers; backs = ways.backs; routes = ways.routes };
           flows = flowing.flows;
           arrived = flowing.arrived;
@@ -324,11 +324,9 @@ no_sound =
     = record { way = λ e x is. cc; askers = λ e. All-nil _; backs = λ e. All-nil _; routes = λ e. All-nil _ } in
     record {
       flowing = record {
-        tree = record {
-          most = omega arith;
-          enclaves = λ e. let none : ltb e 0 ≡ false = le-ltb e 0
-              (omega arith) in record { known = sym none; living = sym none; above = λ p has some. cc };
-        };
+        tree = living_tree no_facts (omega arith)
+            (λ e. let none : ltb e 0 ≡ false = le-ltb e 0 (omega arith) in record { known = sym none; above = λ p has some. cc })
+            (λ e lt. absurd (omega (arith, lt)));
         ways = ways_near no_facts known;
         flows = λ x y. record { valid = tt; taken = omega arith; got = omega arith };
         arrived = λ x y. refl;

@@ -13,7 +13,7 @@ use Rattle.global_model.specs.Journals.{onto}
 use Rattle.global_model.specs.Flow.{IsFlow}
 use Rattle.global_model.proofs.Pasts.{facts_at-onto}
 use Rattle.global_model.proofs.Flow.{flow_taken}
-use Rattle.global_model.proofs.Tree.{near-turned}
+use Rattle.global_model.proofs.Tree.{same_tree, near-turned}
 use Rattle.global_model.proofs.Arriving.{at_pair_has, at_pair_same, at_channel, IsArriving, not_near, IsProper, AreProper, proper_tells, IsUpTo, up_to-append, proper_lines, got_steps}
 use Rattle.global_model.proofs.Tells.{tells_end}
 use Rattle.global_model.proofs.Waiting.{IsWaiting, first_waits, rest_waits}
@@ -43,7 +43,7 @@ took_up_to near x y n past one within there back old =
     let whole : arriving (with_taken n (G.channel x.0 y.0)) ≡ arriving (H.channel x.0 y.0)
     = ap arriving (sym (at_pair_same x.0 y.0 (with_taken n) G.channel)) in
     let start : IsArriving near x.0 y.0 (arriving (H.channel x.0 y.0)) H = record {
-      tree = record { most = old.tree.most; enclaves = old.tree.enclaves };
+      tree = same_tree G H refl (λ e. refl) old.tree;
       same = old.same;
       known = record { way = old.known.way; askers = old.known.askers; backs = old.known.backs; routes = old.known.routes };
       flows = λ a b. at_pair_has IsFlow x.0 y.0 (with_taken n) G.channel a b

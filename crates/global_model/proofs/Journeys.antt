@@ -11,6 +11,7 @@ use Rattle.global_model.specs.Place.{may_stand, IsPlacedAfter, IsPlaced}
 use Rattle.global_model.specs.Flow.{IsTree}
 use Rattle.global_model.specs.Due.{step_lines, journal_of}
 use Rattle.global_model.proofs.Pasts.{facts_by, facts_by-cons}
+use Rattle.global_model.proofs.Tree.{living_tree}
 use Rattle.global_model.proofs.Kept.{IsKnown, IsOwner}
 use Rattle.global_model.proofs.Apt.{IsReady, ready_step}
 
@@ -21,12 +22,11 @@ abbrev pub pool_facts : ℕ → Facts
 pool_facts blocks = after_line no_facts (lines.Do (commands.Pool blocks))
 
 start_tree : (G : Facts) → G.born ≡ 0 → ((e : ℕ) → G.enclave e ≡ no_facts.enclave e) → IsTree G
-start_tree G none unborn = record {
-  most = omega (arith, none);
-  enclaves = λ e.
-      let below : ltb e G.born ≡ false = le-ltb e G.born (omega (arith, none)) in
-      rw (unborn e) (record { known = sym below; living = sym below; above = λ p has. cc });
-}
+start_tree G none unborn = living_tree G (omega (arith, none))
+    (λ e.
+    let below : ltb e G.born ≡ false = le-ltb e G.born (omega (arith, none)) in
+    rw (unborn e) (record { known = sym below; above = λ p has. cc }))
+    (λ e lt. absurd (omega (arith, none, lt)))
 
 no_runs : (p : ℕ) → false ≡ (leb 1 p && leb p 0)
 no_runs p = grind (arith, nat_tests)

@@ -18,7 +18,7 @@ use Rattle.global_model.specs.Facts.{Facts, EnclaveFact, ChannelFact, OwnPage, P
 use Rattle.enclave_rules.specs.Blocks.{BlockFact, Absent, Free, Lent, Held, is_listed}
 use Rattle.global_model.specs.Space.{unused_frames, free_blocks}
 use Rattle.global_model.specs.Flow.{IsTree}
-use Rattle.global_model.proofs.Tree.{tree_born, tree_admitted}
+use Rattle.global_model.proofs.Tree.{tree_born, tree_admitted, same_tree}
 
 -- ---- what is kept
 
@@ -142,7 +142,7 @@ runs_more fact uid gid p s q next is = by (eqb q p) refl
 
 known_proc : (G : Facts) (e : Enclave) (p : Pid) (uid gid : ℕ) → IsKnown G → e.0 < G.born → p.0 ≡ G.started e.0 + 1 → IsKnown (after_line G (lines.Proc e p uid gid))
 known_proc G e p uid gid known born next = record {
-  tree = record { most = known.tree.most; enclaves = known.tree.enclaves };
+  tree = same_tree G _ refl (λ k. refl) known.tree;
   runs = λ k q. runs k q (eqb k e.0) refl;
   unaware = known.unaware;
   started = λ k le. let apart : eqb k e.0 ≡ false = ne_eqb k e.0 (omega (arith, le, born)) in rw apart (known.started k le);
@@ -163,7 +163,7 @@ owners_from born started e p page (f ∷ frames) born_is started_is =
 
 known_alloc : (G : Facts) (e : Enclave) (p : Pid) (page : Vpn) (frames : List Frame) → IsKnown G → IsOwning G e p frames → IsKnown (after_line G (lines.Alloc e p page frames))
 known_alloc G e p page frames known owning = record {
-  tree = record { most = known.tree.most; enclaves = known.tree.enclaves };
+  tree = same_tree G _ refl (λ k. refl) known.tree;
   runs = known.runs;
   unaware = known.unaware;
   started = known.started;
@@ -187,7 +187,7 @@ known_admitted G e known = record {
 known_with : (G : Facts) (channel : ℕ → ℕ → ChannelFact) (way : ℕ → Option Enclave) (askers backs routes : ℕ → List (ℕ × Enclave)) → IsKnown G
     → AreUnaware G.born way askers backs routes → IsKnown (record G { channel = channel; way = way; askers = askers; backs = backs; routes = routes })
 known_with G channel way askers backs routes known unaware = record {
-  tree = record { most = known.tree.most; enclaves = known.tree.enclaves };
+  tree = same_tree G _ refl (λ k. refl) known.tree;
   runs = known.runs;
   unaware = unaware;
   started = known.started;

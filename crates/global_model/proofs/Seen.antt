@@ -16,7 +16,7 @@ use Rattle.enclave_rules.specs.View.{View, no_host, is_at, seen_lines, free_pool
 use Rattle.global_model.specs.Views.{process_of, child_row, view_of}
 use Rattle.global_model.specs.Place.{may_stand, IsPlacedAfter, IsPlaced}
 use Rattle.global_model.specs.Due.{step_lines, journal_of}
-use Rattle.global_model.proofs.Tree.{child_under, born_living}
+use Rattle.global_model.proofs.Tree.{child_under}
 use Rattle.global_model.proofs.Runs.{map_run-same, filter_run-none}
 use Rattle.global_model.proofs.Kept.{IsKnown, IsOfPool, no_fact, IsApt, AreApt, known_line}
 use Rattle.global_model.proofs.Apt.{IsReady, apt_step}
@@ -37,7 +37,7 @@ shown_line : (G : Facts) (line : Line) (k : Enclave) → IsKnown G → IsApt G l
 shown_line G (lines.Do (commands.Pool blocks)) k known apt = absurd apt
 shown_line G (lines.Born e kind parent ns blocks) k known apt = shown_born G e kind parent ns blocks known apt k
 shown_line G (lines.Told e of) k known apt = absurd apt
-shown_line G (lines.Admitted e) k known apt = shown_admitted G e k (born_living G e.0 known.tree apt)
+shown_line G (lines.Admitted e) k known apt = shown_admitted G e k (known.tree.all_live e.0 apt)
 shown_line G (lines.Proc e p uid gid) k known apt = shown_proc G e p uid gid k known apt.1
 shown_line G (lines.Alloc e p page frames) k known apt = shown_alloc G e p page frames k apt
 shown_line G (lines.Asked e by) k known apt = shown_asked G e by k

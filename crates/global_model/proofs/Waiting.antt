@@ -11,7 +11,7 @@ use Rattle.global_model.specs.Flow.{IsTree, IsFlowing}
 use Rattle.global_model.specs.Due.{rest_of_record, next_rest, channels_of, waits, first_waiting}
 use Rattle.global_model.specs.Rest.{IsAtRest}
 use Rattle.global_model.proofs.Flow.{bytes_of, bytes-cons}
-use Rattle.global_model.proofs.Tree.{child_under, is_child, child_near, parent_near, born_living}
+use Rattle.global_model.proofs.Tree.{child_under, is_child, child_near, parent_near}
 
 -- ---- the rest of a record
 
@@ -158,8 +158,8 @@ child_idle G c p tree none is =
     let both = channel_each G (λ channel. waits G channel ≡ false) 1 (G.born - 1) c (omega (arith, under.some))
     (omega (arith, under.below)) each in
     let above : is_living_enclave (G.enclave parent.0) ≡ true
-    = born_living G parent.0 tree (omega (arith, under.above, under.below, same)) in
-    let here : is_living_enclave (G.enclave c) ≡ true = born_living G c tree under.below in
+    = tree.all_live parent.0 (omega (arith, under.above, under.below, same)) in
+    let here : is_living_enclave (G.enclave c) ≡ true = tree.all_live c under.below in
     record {
       up = subst (λ q. waiting_bytes G c q ≡ []) same (idle G (record { 0 = c }) parent above both.0);
       down = subst (λ q. waiting_bytes G q c ≡ []) same (idle G parent (record { 0 = c }) here both.1);

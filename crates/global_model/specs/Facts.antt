@@ -170,13 +170,17 @@ abbrev pub is_living_enclave : Option EnclaveFact → Bool
 is_living_enclave None = false
 is_living_enclave (Some fact) = fact.living
 
+-- the enclave lives
+abbrev pub lives_at : Facts → ℕ → Bool
+lives_at G e = is_living_enclave (G.enclave e)
+
 abbrev pub is_living_process : Option ProcessFact → Bool
 is_living_process None = false
 is_living_process (Some fact) = fact.living
 
 -- the process lives in a living enclave
 abbrev pub lives : Facts → ℕ → ℕ → Bool
-lives G e p = is_living_enclave (G.enclave e) && is_living_process (G.process e p)
+lives G e p = lives_at G e && is_living_process (G.process e p)
 
 -- the enclave holds the name server
 abbrev pub is_holder : Option EnclaveFact → Bool
