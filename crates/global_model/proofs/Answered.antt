@@ -31,14 +31,15 @@ use Rattle.enclave_rules.specs.Core.{host, is_guest, machine_frame}
 use Rattle.enclave_rules.specs.Memory.{ProcessView}
 use Rattle.enclave_rules.specs.Pages.{allows}
 use Rattle.enclave_rules.specs.Steps.{refusal, host_lines, process_at, unused_in, alloc_lines, page_answer, touch_answer, answer_lines, route_lines, state_lines, first_blocks}
-use Rattle.global_model.specs.Facts.{Facts, EnclaveFact, no_facts, fact_of, is_living_enclave, runs, after_line}
+use Rattle.global_model.specs.Facts.{Facts, EnclaveFact, no_facts, fact_of, is_living_enclave, lives_at, runs, after_line}
 use Rattle.global_model.specs.Space.{mapping_of, pages_of, unused_frames, free_blocks}
 use Rattle.global_model.specs.Refusals.{is_taken, denies}
 use Rattle.global_model.specs.Views.{view_of}
 use Rattle.global_model.specs.Due.{touched_lines, command_lines}
-use Rattle.global_model.specs.Known.{at_born, start_by, boot_by, IsAnswered}
+use Rattle.global_model.specs.Known.{at_living, start_by, boot_by, IsAnswered}
 use Rattle.global_model.proofs.Runs.{filter_all}
 use Rattle.global_model.proofs.Lent.{unused_seen}
+use Rattle.global_model.proofs.Tree.{living_born, root_lives}
 use Rattle.global_model.proofs.Sound.{IsSound}
 
 -- the facts after the pool's command
@@ -53,17 +54,14 @@ either_way : (holds : Bool) (cause : Cause) (rest : Option Cause) (acts others :
 either_way true cause rest acts others same = refl
 either_way false cause rest acts others same = same refl
 
--- a condition that an enclave doesn't live, and the test that it was born
-where_born : (G : Facts) → IsSound G → (e : Enclave) (rest : Option Cause) (acts others : List Line)
-    → (is_living_enclave (G.enclave e.0) ≡ true → e.0 < G.born → option_map_or (λ c. lines.Refused c ∷ []) rest acts ≡ others)
-    → option_map_or (λ c. lines.Refused c ∷ []) (cond (not (is_living_enclave (G.enclave e.0))) (Some causes.NoEnclave) rest) acts ≡ at_born G.born e others
-where_born G sound e rest acts others same = rw living (by (ltb e.0 G.born) refl)
+-- a condition that an enclave doesn't live, and the test that it does
+where_lives : (G : Facts) (e : Enclave) (rest : Option Cause) (acts others : List Line)
+    → (is_living_enclave (G.enclave e.0) ≡ true → option_map_or (λ c. lines.Refused c ∷ []) rest acts ≡ others)
+    → option_map_or (λ c. lines.Refused c ∷ []) (cond (not (is_living_enclave (G.enclave e.0))) (Some causes.NoEnclave) rest) acts ≡ at_living G e others
+where_lives G e rest acts others same = by (is_living_enclave (G.enclave e.0)) refl
   where
-    living : is_living_enclave (G.enclave e.0) ≡ ltb e.0 G.born
-    living = (sound.tree.enclaves e.0).living
-
-    by : (b : Bool) → ltb e.0 G.born ≡ b → option_map_or (λ c. lines.Refused c ∷ []) (cond (not b) (Some causes.NoEnclave) rest) acts ≡ cond b others (refusal causes.NoEnclave)
-    by true is = same (living ∙ is) (ltb-true e.0 G.born is)
+    by : (b : Bool) → is_living_enclave (G.enclave e.0) ≡ b → option_map_or (λ c. lines.Refused c ∷ []) (cond (not b) (Some causes.NoEnclave) rest) acts ≡ cond b others (refusal causes.NoEnclave)
+    by true is = same is
     by false is = refl
 
 -- ---- births and processes
@@ -79,19 +77,19 @@ free_run f a (suc n) = by (free_run f (a + 1) n) (is_free (f a))
     by more false = more
 
 boot_answered : (G : Facts) → IsSound G → (kind : Kind) (parent : Enclave) (blocks : ℕ) (ns : Bool)
-    → command_lines G (commands.Boot kind parent blocks ns) ≡ at_born G.born parent (boot_by G kind parent blocks ns)
+    → command_lines G (commands.Boot kind parent blocks ns) ≡ at_living G parent (boot_by G kind parent blocks ns)
 boot_answered G sound kind parent blocks ns =
-    rw (free_run G.block 0 G.pool) (where_born G sound parent _ _ _ (λ living born. either_way (leb 256 G.born) causes.TooMany _ _ _ (λ room. either_way (ns && G.server) causes.NameServerTaken _ _ _ (λ free. either_way (ltb (length (free_blocks G)) blocks) causes.NoBlocks None _ _ (λ enough. refl)))))
+    rw (free_run G.block 0 G.pool) (where_lives G parent _ _ _ (λ living. either_way (leb 256 G.born) causes.TooMany _ _ _ (λ room. either_way (ns && G.server) causes.NameServerTaken _ _ _ (λ free. either_way (ltb (length (free_blocks G)) blocks) causes.NoBlocks None _ _ (λ enough. refl)))))
 
-proc_answered : (G : Facts) → IsSound G → (e : Enclave) (uid gid : ℕ) → command_lines G (commands.Proc e uid gid) ≡ at_born G.born e (start_by G e uid gid)
+proc_answered : (G : Facts) → IsSound G → (e : Enclave) (uid gid : ℕ) → command_lines G (commands.Proc e uid gid) ≡ at_living G e (start_by G e uid gid)
 proc_answered G sound e uid gid =
-    where_born G sound e _ _ _ (λ living born. either_way (leb 1024 G.starts) causes.TooMany None _ _ (λ room. refl))
+    where_lives G e _ _ _ (λ living. either_way (leb 1024 G.starts) causes.TooMany None _ _ (λ room. refl))
 
-routes_answered : (G : Facts) → IsSound G → (e : Enclave) → command_lines G (commands.ShowRoutes e) ≡ at_born G.born e (route_lines (view_of G e))
-routes_answered G sound e = where_born G sound e None _ _ (λ living born. refl)
+routes_answered : (G : Facts) → IsSound G → (e : Enclave) → command_lines G (commands.ShowRoutes e) ≡ at_living G e (route_lines (view_of G e))
+routes_answered G sound e = where_lives G e None _ _ (λ living. refl)
 
-pool_answered : (G : Facts) → IsSound G → command_lines G commands.ShowPool ≡ at_born G.born host (state_lines 0 (view_of G host).host.states)
-pool_answered G sound = rw (sound.tree.enclaves 0).known (by (ltb 0 G.born))
+pool_answered : (G : Facts) → IsSound G → command_lines G commands.ShowPool ≡ at_living G host (state_lines 0 (view_of G host).host.states)
+pool_answered G sound = rw (root_lives G sound.tree) (by (lives_at G 0))
   where
     by : (b : Bool) → option_map_or (λ c. lines.Refused c ∷ []) (cond (not b) (Some causes.NoEnclave) None) (state_lines 0 (map G.block (range_with_len 0 G.pool)))
         ≡ cond b (state_lines 0 (map G.block (range_with_len 0 G.pool))) (refusal causes.NoEnclave)
@@ -131,10 +129,10 @@ taken_is any G e p page count =
     let rows = any (pages_of G e p) page (page + count) in
     ap (λ t. list_any t (range_with_len page count)) (λ i k. is_some-mapped (fact_of (G.enclave e)) (at (pages_of G e p) k) i) ∙ ap (λ n. list_any (λ k. is_some (at (pages_of G e p) k)) (range_with_len page n)) (sym size) ∙ sym rows
 
-alloc_answered : AnyMapped → (G : Facts) → IsSound G → (e : Enclave) (p : Pid) (page : Vpn) (count : ℕ) → command_lines G (commands.Alloc e p page count) ≡ at_born G.born e (alloc_lines (view_of G e) p page count)
+alloc_answered : AnyMapped → (G : Facts) → IsSound G → (e : Enclave) (p : Pid) (page : Vpn) (count : ℕ) → command_lines G (commands.Alloc e p page count) ≡ at_living G e (alloc_lines (view_of G e) p page count)
 alloc_answered any G sound e p page count =
-    where_born G sound e _ _ _ (λ living born. where_runs G e p _ _ _ (λ process is.
-    let free : unused_frames G e.0 ≡ unused_in (view_of G e) = unused_seen G e.0 living (sound.plain e.0) (sound.lent e.0 born) in
+    where_lives G e _ _ _ (λ living. where_runs G e p _ _ _ (λ process is.
+    let free : unused_frames G e.0 ≡ unused_in (view_of G e) = unused_seen G e.0 living (sound.plain e.0) (sound.lent e.0 (living_born G e.0 sound.tree living)) in
     let taken : is_taken G e.0 p.0 page.0 count ≡ any_between process.pages page.0 (page.0 + count) = taken_is any G e.0 p.0 page.0 count ∙ ap (λ pages. any_between pages page.0 (page.0 + count)) (pages_are G e.0 p.0 process is) in
     either_way (ltb 16777216 (page.0 + count)) causes.BadRange _ _ _ (λ within.
     rw taken (either_way (any_between process.pages page.0 (page.0 + count)) causes.Taken _ _ _ (λ clear.
@@ -162,11 +160,11 @@ answer_found : (e : Enclave) (p : Pid) (answer : ProcessView → Result (Vpn × 
 answer_found e p answer None = refl
 answer_found e p answer (Some process) = refl
 
-touch_answered : (G : Facts) → IsSound G → (e : Enclave) (p : Pid) (addr : ℕ) (want : Want) → command_lines G (commands.Touch e p addr want) ≡ at_born G.born e (answer_lines e p (touch_answer (view_of G e) p addr want))
+touch_answered : (G : Facts) → IsSound G → (e : Enclave) (p : Pid) (addr : ℕ) (want : Want) → command_lines G (commands.Touch e p addr want) ≡ at_living G e (answer_lines e p (touch_answer (view_of G e) p addr want))
 touch_answered G sound e p addr want =
     let page : Vpn = record { 0 = addr / 4096 } in
     let answer : ProcessView → Result (Vpn × Frame) Cause = λ process. page_answer want page (at process.pages (addr / 4096)) in
-    rw (answer_found e p answer (process_at (view_of G e) p)) (where_born G sound e _ _ _ (λ living born. where_runs G e p _ _ (λ process. answer_lines e p (answer process)) (λ process is.
+    rw (answer_found e p answer (process_at (view_of G e) p)) (where_lives G e _ _ _ (λ living. where_runs G e p _ _ (λ process. answer_lines e p (answer process)) (λ process is.
     rw (pages_are G e.0 p.0 process is) (page_answered (fact_of (G.enclave e.0)) (sound.plain e.0) e p page want (at process.pages (addr / 4096))))))
 
 -- ---- the host
@@ -183,20 +181,20 @@ host_answered pool blocks ns = either_way (ltb pool blocks) causes.NoBlocks None
 -- ---- calls and what is shown
 
 call_answered : AnyMapped → (G : Facts) → IsSound G → (command : Command) (k : ProcessCall) → call_of command ≡ Some k
-    → command_lines G command ≡ at_born G.born k.enclave (call_lines (view_of G k.enclave) k.pid k.call)
+    → command_lines G command ≡ at_living G k.enclave (call_lines (view_of G k.enclave) k.pid k.call)
 call_answered any G sound (commands.Alloc e p page count) k is =
     let same : record { enclave = e; pid = p; call = calls.Alloc page count } ≡ k = cc in
-    subst (λ (k : ProcessCall). command_lines G (commands.Alloc e p page count) ≡ at_born G.born k.enclave (call_lines (view_of G k.enclave) k.pid k.call)) same (alloc_answered any G sound e p page count)
+    subst (λ (k : ProcessCall). command_lines G (commands.Alloc e p page count) ≡ at_living G k.enclave (call_lines (view_of G k.enclave) k.pid k.call)) same (alloc_answered any G sound e p page count)
 call_answered any G sound _ k is = cc
 
 show_answered : (G : Facts) → IsSound G → (command : Command) (s : NodeShow) → show_of command ≡ Some s
-    → command_lines G command ≡ at_born G.born s.enclave (show_lines (view_of G s.enclave) s.show)
+    → command_lines G command ≡ at_living G s.enclave (show_lines (view_of G s.enclave) s.show)
 show_answered G sound (commands.ShowRoutes e) s is =
     let same : record { enclave = e; show = shows.Routes } ≡ s = cc in
-    subst (λ (s : NodeShow). command_lines G (commands.ShowRoutes e) ≡ at_born G.born s.enclave (show_lines (view_of G s.enclave) s.show)) same (routes_answered G sound e)
+    subst (λ (s : NodeShow). command_lines G (commands.ShowRoutes e) ≡ at_living G s.enclave (show_lines (view_of G s.enclave) s.show)) same (routes_answered G sound e)
 show_answered G sound commands.ShowPool s is =
     let same : record { enclave = host; show = shows.Pool } ≡ s = cc in
-    subst (λ (s : NodeShow). command_lines G commands.ShowPool ≡ at_born G.born s.enclave (show_lines (view_of G s.enclave) s.show)) same (pool_answered G sound)
+    subst (λ (s : NodeShow). command_lines G commands.ShowPool ≡ at_living G s.enclave (show_lines (view_of G s.enclave) s.show)) same (pool_answered G sound)
 show_answered G sound _ s is = cc
 
 pub answered : AnyMapped → (G : Facts) → IsSound G → IsAnswered G

@@ -33,6 +33,8 @@ carried_line past (lines.Got x y) sound apt =
     let next = next_arrives channel apt.rec apt.later (sound.flows x.0 y.0) apt.arrives in
     (next.sent, next.whole)
 carried_line past (lines.Sent x y r) sound apt = (apt.between.living, apt.between.near, apt.valid)
+carried_line past (lines.Killed x cut) sound apt = absurd apt
+carried_line past (lines.End x y torn) sound apt = absurd apt
 carried_line past _ sound apt = tt
 
 carried_lines : (ls past : List Line) → IsSound (facts_at past) → AreApt (facts_at past) ls → Follows CarriedAt past ls

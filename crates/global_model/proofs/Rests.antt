@@ -25,6 +25,7 @@ use Rattle.global_model.specs.Refusals.{refusal_of}
 use Rattle.global_model.specs.Rest.{IsAtRest, IsRested, IsSettling, RestAt, lines_since}
 use Rattle.global_model.specs.Space.{Mapping, space_of}
 use Rattle.global_model.specs.Views.{view_of}
+use Rattle.global_model.proofs.Tree.{tree_lives}
 use Rattle.global_model.proofs.Sound.{IsSound, sound_line}
 use Rattle.global_model.proofs.Commands.{IsReady, IsRun, ready_start, run_step}
 use Rattle.global_model.proofs.Tells.{MayTell, tells_bytes, tells_routes, tells_states}
@@ -114,7 +115,7 @@ rests_settle past most sound none =
     start = lines.Do (commands.Settle most) ∷ past
 
     settled : IsSettled most 0 G
-    settled = settled_by most 0 G
+    settled = settled_by most 0 G (tree_lives G sound.tree)
 
     H : Facts
     H = after_lines G settled.before

@@ -22,7 +22,7 @@ use Rattle.global_model.specs.Journals.{is_delivery, deliveries_in}
 use Rattle.global_model.specs.Flow.{IsTree, IsFlowing}
 use Rattle.global_model.specs.Rest.{IsAtRest, EndsSettle}
 use Rattle.global_model.proofs.Pasts.{after_lines-append, facts_by-more}
-use Rattle.global_model.proofs.Tree.{near-turned, near_born}
+use Rattle.global_model.proofs.Tree.{AllLive, live_lines, near-turned, near_born, tree_lives}
 use Rattle.global_model.proofs.Rows.{AllRows}
 use Rattle.global_model.proofs.Writes.{EachIs, each-append, each_either, writes_record}
 use Rattle.global_model.proofs.Plain.{each-weaker}
@@ -111,22 +111,22 @@ settled_here left made G is all =
     let same : made ≡ made + 0 = omega arith in
     record { before = []; is = is ∙ ap (λ n. settle_end G n ∷ []) same; inner = tt; few = omega arith; all = all }
 
-pub settled_by : (left made : ℕ) (G : Facts) → IsSettled left made G
-settled_by zero made G = settled_here zero made G refl (λ some. refl)
-settled_by (suc left) made G = by (first_waiting G) refl (settled_by left (made + 1))
+pub settled_by : (left made : ℕ) (G : Facts) → AllLive G → IsSettled left made G
+settled_by zero made G live = settled_here zero made G refl (λ some. refl)
+settled_by (suc left) made G live = by (first_waiting G) refl (settled_by left (made + 1))
   where
-    by : (o : Option (Enclave × Enclave)) → first_waiting G ≡ o → ((H : Facts) → IsSettled left (made + 1) H) → IsSettled (suc left) made G
+    by : (o : Option (Enclave × Enclave)) → first_waiting G ≡ o → ((H : Facts) → AllLive H → IsSettled left (made + 1) H) → IsSettled (suc left) made G
     by None is later = settled_here (suc left) made G (ap (settle_at left made G) is)
         (λ some. let clash : false ≡ true = sym (ap is_some is) ∙ some in absurd (cc))
     by (Some channel) is later =
         let own = deliver_lines G channel.0 channel.1 (next_rest G channel.0 channel.1) in
         let H = after_lines G own in
-        let more : IsSettled left (made + 1) H = later H in
+        let more : IsSettled left (made + 1) H = later H (live_lines own G live) in
         let before = own ++ more.before in
         let facts : after_lines H more.before ≡ after_lines G before = sym (after_lines-append G own more.before) in
         let count : deliveries_in before ≡ 1 + deliveries_in more.before
         = deliveries-append own more.before ∙ ap (λ n. n + deliveries_in more.before)
-        (one_delivery G channel.0 channel.1 (next_rest G channel.0 channel.1) (first_some G channel.0 channel.1 is)) in
+        (one_delivery G channel.0 channel.1 (next_rest G channel.0 channel.1) (first_some G channel.0 channel.1 live is)) in
         let number : made + 1 + deliveries_in more.before ≡ made + deliveries_in before = omega (arith, count) in
         let end : settle_end (after_lines H more.before) (made + 1 + deliveries_in more.before) ≡ settle_end (after_lines G before)
         (made + deliveries_in before)
@@ -167,9 +167,9 @@ settle_flows G most sound none =
     let up = settle_up_to (is_neighbour G) (lives_in G) most 0 G (begin_turn 0 0 G sound none) in
     sound_flowing (settled_facts most G) up.turn.sound (end_turn (is_neighbour G) (lives_in G) 0 0 (settled_facts most G) up.turn)
 
-ends_settle : (G : Facts) (most : ℕ) → IsFlowing (settled_facts most G) → EndsSettle most (settle_from most 0 G) (settled_facts most G)
-ends_settle G most flowing =
-    let settled : IsSettled most 0 G = settled_by most 0 G in
+ends_settle : (G : Facts) (most : ℕ) → AllLive G → IsFlowing (settled_facts most G) → EndsSettle most (settle_from most 0 G) (settled_facts most G)
+ends_settle G most live flowing =
+    let settled : IsSettled most 0 G = settled_by most 0 G live in
     let H = after_lines G settled.before in
     let made = deliveries_in settled.before in
     let number : 0 + made ≡ made = omega arith in
@@ -207,7 +207,7 @@ journal_of-ends cs most placed =
     let B = after_line G (lines.Do c) in
     let ready = (runs_after cs placed).ready in
     let flowing : IsFlowing (settled_facts most B) = settle_flows B most (sound_line G (lines.Do c) ready.sound tt) ready.got in
-    subst (EndsSettle most (command_lines G c)) (sym (facts_by-more no_facts cs c)) (ends_settle B most flowing)
+    subst (EndsSettle most (command_lines G c)) (sym (facts_by-more no_facts cs c)) (ends_settle B most (tree_lives G ready.sound.tree) flowing)
 
 -- ---- its deliveries
 

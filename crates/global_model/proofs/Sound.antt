@@ -21,11 +21,11 @@ use Rattle.global_model.specs.Facts.{Facts, no_facts, EnclaveFact, ChannelFact, 
 use Rattle.global_model.specs.Channels.{is_neighbour}
 use Rattle.global_model.specs.Flow.{IsTree, IsFlow, IsFlowing}
 use Rattle.global_model.specs.Apt.{IsBirth, IsNear, NothingArrives, IsApt, AreApt}
-use Rattle.global_model.proofs.Flow.{flow_sent, flow_taken, IsNext, next_arrives}
+use Rattle.global_model.proofs.Flow.{waiting_few, flow_sent, flow_taken, IsNext, next_arrives}
 use Rattle.global_model.specs.Space.{is_lent_to}
 use Rattle.global_model.proofs.Owned.{Owns, owns_none, owns_more, owns_start, owns_pages, unused_lent}
 use Rattle.global_model.proofs.Lent.{lent_blocks, IsOfPool, listed_is_free, lent_born, lent_stay, pool_born}
-use Rattle.global_model.proofs.Tree.{near-turned, living_born, tree_born, tree_admitted, near_admitted, near_grows, far_before}
+use Rattle.global_model.proofs.Tree.{same_tree, living_tree, near-turned, living_born, tree_born, tree_admitted, near_admitted, near_grows, far_before}
 use Rattle.global_model.proofs.Ways.{NamesNear, AreNear, ways_near, none_near, near_more, near_asked, near_way, near_back, near_route, at_number_has}
 
 -- The enclaves are a tree, none holds the name server before one is born, and none is a virtual machine. Nobody has heard of a death. Each block is free or lent, and an enclave's
@@ -95,7 +95,7 @@ sound_with : (G : Facts) (ways : ℕ → WaysView) (memory : ℕ → MemoryView)
     → ((x y : ℕ) → IsFlow (channel x y)) → ((x y : ℕ) → is_neighbour G x y ≡ false → channel x y ≡ no_channel)
     → IsSound (record G { ways = ways; memory = memory; starts = starts; channel = channel; hand = hand })
 sound_with G ways memory starts channel hand sound unaware empty owned near flows apart = record {
-  tree = record { most = sound.tree.most; enclaves = sound.tree.enclaves };
+  tree = same_tree G _ refl (λ k. refl) sound.tree;
   unserved = sound.unserved;
   plain = sound.plain;
   heard = sound.heard;
@@ -216,7 +216,7 @@ sound_admitted G e sound =
 -- the pool comes before all enclaves
 sound_pool : (G : Facts) (blocks : ℕ) → IsSound G → G.born ≡ 0 → IsSound (after_line G (lines.Do (commands.Pool blocks)))
 sound_pool G blocks sound none = record {
-  tree = record { most = sound.tree.most; enclaves = sound.tree.enclaves };
+  tree = same_tree G _ refl (λ k. refl) sound.tree;
   unserved = sound.unserved;
   plain = sound.plain;
   heard = sound.heard;
@@ -256,7 +256,7 @@ sound_line G (lines.Alloc e p page frames) sound apt =
 sound_line G (lines.Sent x y r) sound apt =
     sound_channel G x.0 y.0 (with_sent r) G.hand sound apt.between.near (flow_sent r (G.channel x.0 y.0) apt.valid (sound.flows x.0 y.0))
 sound_line G (lines.Took x y count) sound apt =
-    sound_channel G x.0 y.0 (with_taken count) _ sound (turned G x y apt.between) (flow_taken count (G.channel x.0 y.0) apt.wait (sound.flows x.0 y.0))
+    sound_channel G x.0 y.0 (with_taken count) _ sound (turned G x y apt.between) (flow_taken count (G.channel x.0 y.0) (omega (arith, apt.wait, waiting_few G x.0 y.0)) (sound.flows x.0 y.0))
 sound_line G (lines.Got x y) sound apt =
     let next : IsNext (G.channel x.0 y.0) apt.later = next_arrives (G.channel x.0 y.0) apt.rec apt.later (sound.flows x.0 y.0) apt.arrives in
     sound_channel G x.0 y.0 with_got _ sound (turned G x y apt.between) next.flow
@@ -281,10 +281,9 @@ sound_flowing G sound none = record { tree = sound.tree; ways = ways_near G soun
 -- before the first command
 pub sound_start : IsSound no_facts
 sound_start = record {
-  tree = record {
-    most = omega arith;
-    enclaves = λ e. let none : ltb e 0 ≡ false = le-ltb e 0 (omega arith) in record { known = sym none; living = sym none; above = λ p has some. cc };
-  };
+  tree = living_tree no_facts (omega arith)
+      (λ e. let none : ltb e 0 ≡ false = le-ltb e 0 (omega arith) in record { known = sym none; above = λ p has some. cc })
+      (λ e lt. absurd (omega (arith, lt)));
   unserved = λ none. refl;
   plain = λ e. refl;
   heard = λ e. refl;

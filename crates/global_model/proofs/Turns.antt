@@ -76,6 +76,8 @@ IsProper near lives (lines.Proc e p uid gid) = ⊥
 IsProper near lives (lines.Alloc e p page frames) = ⊥
 IsProper near lives (lines.Took x y count) = ⊥
 IsProper near lives (lines.Got x y) = ⊥
+IsProper near lives (lines.Killed x cut) = ⊥
+IsProper near lives (lines.End x y torn) = ⊥
 IsProper near lives (lines.Admitted e) = lives e.0 ≡ true
 IsProper near lives (lines.Sent x y r) = IsClose near lives x y × (is_valid r ≡ true)
 IsProper near lives (lines.Asked e by) = IsClose near lives e by
@@ -129,6 +131,8 @@ module _ (near : ℕ → ℕ → Bool) (lives : ℕ → Bool) (x y : ℕ) (rs : 
   proper_line (lines.Alloc e p page frames) G proper turn = absurd proper
   proper_line (lines.Took a b count) G proper turn = absurd proper
   proper_line (lines.Got a b) G proper turn = absurd proper
+  proper_line (lines.Killed a cut) G proper turn = absurd proper
+  proper_line (lines.End a b torn) G proper turn = absurd proper
   proper_line (lines.Admitted e) G proper turn =
       let living = turn.alive e.0 ∙ proper in
       record {

@@ -27,15 +27,17 @@ pub record EnclaveFact : Type 0 where
   pub living : Bool
   pub admitted : Bool
 
--- what went over a channel: the records that were sent, oldest first, how many bytes were taken, and how many of the
--- records were got
+-- What went over a channel: the records that were sent, oldest first; how many of their bytes were taken, and how many of the
+-- records were got; how many bytes were cut off at the end, and whether the end mark was taken. Nothing is cut off so far.
 pub record ChannelFact : Type 0 where
   pub sent : List Record
   pub taken : ℕ
   pub got : ℕ
+  pub cut : ℕ
+  pub end_taken : Bool
 
 abbrev pub no_channel : ChannelFact
-no_channel = record { sent = []; taken = 0; got = 0 }
+no_channel = record { sent = []; taken = 0; got = 0; cut = 0; end_taken = false }
 
 -- All facts. What is asked by a number is a function of it; a block beyond the pool has no state that counts. `born` counts the
 -- enclaves, `starts` the processes that were started. `server` says that an enclave was born with the name server. A channel is
@@ -168,13 +170,17 @@ abbrev pub is_living_enclave : Option EnclaveFact → Bool
 is_living_enclave None = false
 is_living_enclave (Some fact) = fact.living
 
+-- the enclave lives
+abbrev pub lives_at : Facts → ℕ → Bool
+lives_at G e = is_living_enclave (G.enclave e)
+
 -- the process lives
 abbrev pub runs : Facts → ℕ → ℕ → Bool
 runs G e p = is_some (at (G.memory e).processes p)
 
 -- the process lives in a living enclave
 abbrev pub lives : Facts → ℕ → ℕ → Bool
-lives G e p = is_living_enclave (G.enclave e) && runs G e p
+lives G e p = lives_at G e && runs G e p
 
 -- the enclave holds the name server
 abbrev pub is_holder : Option EnclaveFact → Bool
