@@ -8,7 +8,7 @@ use Rattle.xm_num.specs.declared.Frame.{Frame}
 use Rattle.xm_num.specs.Rows.{put}
 use Rattle.xemem_language.specs.declared.line.Line.{Line}
 use Rattle.xemem_language.specs.declared.line.Line.TheVariants as lines
-use Rattle.enclave_rules.specs.Pages.{frames_of}
+use Rattle.enclave_rules.specs.Pages.{Ascend, frames_of}
 
 -- Its kind, parent and blocks; whether it holds the name server, and is admitted; the deaths it knows of, ascending; and its
 -- children and their kinds, by their numbers.
@@ -27,6 +27,10 @@ host = record { 0 = 0 }
 
 abbrev pub unborn_core : CoreView
 unborn_core = record { kind = kinds.Host; parent = host; blocks = []; holder = false; admitted = false; heard = []; children = [] }
+
+-- the deaths ascend
+abbrev pub AreDeaths : List Enclave → Type 0
+AreDeaths heard = Ascend (map (λ d. d.0) heard)
 
 -- with a death more, in its place
 abbrev pub with_death : Enclave → List Enclave → List Enclave
