@@ -49,7 +49,7 @@ take_up m x y i ready hop =
     subst (λ c. CanTake (pair_at m.pairs i).up (node_at m.nodes y.0) (enclave c)) (sym k.child_is)
     (subst (λ e. CanTake (pair_at m.pairs i).up (node_at m.nodes e) (enclave (i + 1))) parent (h.up (ap (has_node m.nodes) parent ∙ both.0)))
 
-pub take_down : (m : MachineView) (x y : Enclave) (i : ℕ) → IsReady m → hop_in m x y ≡ hops.Down i → CanTake (pair_at m.pairs i).down (node_at m.nodes y.0) x × ((node_at m.nodes y.0).view.parent ≡ x)
+pub take_down : (m : MachineView) (x y : Enclave) (i : ℕ) → IsReady m → hop_in m x y ≡ hops.Down i → CanTake (pair_at m.pairs i).down (node_at m.nodes y.0) x × ((node_at m.nodes y.0).view.core.parent ≡ x)
 take_down m x y i ready hop =
     let known = are_known m.nodes x y in
     let both = and_parts _ _ (is_known m.pairs known x y (λ none. let no : hops.Down i ≡ hops.NoEnclave = sym hop ∙ none in cc)) in
@@ -59,5 +59,5 @@ take_down m x y i ready hop =
     let child = sym k.child_is in
     let lives : has_node m.nodes (i + 1) ≡ true = ap (has_node m.nodes) child ∙ both.0 in (
       subst (λ c. CanTake (pair_at m.pairs i).down (node_at m.nodes c) x) child (subst (CanTake (pair_at m.pairs i).down (node_at m.nodes (i + 1))) parent (h.down lives)),
-      ap (λ c. (node_at m.nodes c).view.parent) (sym child) ∙ h.parent lives ∙ parent,
+      ap (λ c. (node_at m.nodes c).view.core.parent) (sym child) ∙ h.parent lives ∙ parent,
     )

@@ -25,7 +25,7 @@ pub record CanTake (link : Channel) (node : NodeView) (x : Enclave) : Type 0 whe
 -- child c lies below its parent, and each of the two that lives may take what the other sent
 pub record IsPairReady (m : MachineView) (c : ℕ) (pair : Pair) : Type 0 where
   pub above : pair.parent.0 < c
-  pub parent : has_node m.nodes c ≡ true → (node_at m.nodes c).view.parent ≡ pair.parent
+  pub parent : has_node m.nodes c ≡ true → (node_at m.nodes c).view.core.parent ≡ pair.parent
   pub up : has_node m.nodes pair.parent.0 ≡ true → CanTake pair.up (node_at m.nodes pair.parent.0) (enclave c)
   pub down : has_node m.nodes c ≡ true → CanTake pair.down (node_at m.nodes c) pair.parent
 
@@ -42,7 +42,7 @@ pub record IsReady (m : MachineView) : Type 0 where
   pub open_ends : AreOpen m.pairs
   pub recorded : 1 ≤ length m.nodes → length (node_at m.nodes 0).view.host.parents ≡ length m.nodes
   pub strangers : (e c : ℕ) → length m.nodes ≤ c → at (node_at m.nodes e).feeds c ≡ None
-  pub unborn : (e c : ℕ) → length m.nodes ≤ c → at (node_at m.nodes e).view.children c ≡ None
+  pub unborn : (e c : ℕ) → length m.nodes ≤ c → at (node_at m.nodes e).view.core.children c ≡ None
 
 -- a settle is no step of the machine
 abbrev pub IsNoSettle : Command → Type 0
