@@ -1,6 +1,6 @@
 -- The lines of a command that may stand are apt, so what is kept of the facts holds after each command.
-use Rattle.std.proofs.Common.{◌≡◌, ◌+◌, ◌/◌, ◌<◌, ◌≤◌, ℕ, zero, suc, List, [], ◌∷◌, ◌++◌, length, take, map, Bool, true, false, cond, not, ◌&&◌, eqb, leb, Option, None, Some, refl, sym, ap, ◌∙◌, subst, arith}
-use Rattle.std.specs.Prelude.{min, filter, is_some, slice_get}
+use Rattle.std.proofs.Common.{◌≡◌, ◌+◌, ◌/◌, ◌<◌, ◌≤◌, ℕ, zero, suc, List, [], ◌∷◌, ◌++◌, length, take, map, Bool, true, false, cond, not, ◌&&◌, eqb, leb, Option, None, Some, refl, sym, ◌∙◌, subst, arith}
+use Rattle.std.specs.Prelude.{min, is_some}
 use Rattle.std.specs.List.{range_with_len}
 use Rattle.std.specs.Option.{option_map_or}
 use Rattle.std.proofs.lemmas.Bool.{and_parts, eqb-true, leb-true, leb-false, not-false}
@@ -24,8 +24,9 @@ use Rattle.enclave_rules.specs.View.{View, host, IsOf, AreOf}
 use Rattle.global_model.specs.Views.{view_of}
 use Rattle.enclave_rules.specs.Steps.{query_of, child_lines, birth_lines, knows_way, adopt_lines, lines_of_records, route_lines, state_lines, bytes_lines}
 use Rattle.global_model.specs.Place.{may_stand}
-use Rattle.global_model.specs.Due.{next_enclave, touched_lines, got_lines, took_lines, deliver_lines, next_rest, waits, first_waiting, settle_end, settle_from, acts_of, command_lines, step_lines}
+use Rattle.global_model.specs.Due.{next_enclave, touched_lines, got_lines, took_lines, deliver_lines, next_rest, first_waiting, settle_end, settle_from, acts_of, command_lines, step_lines}
 use Rattle.global_model.proofs.Tree.{living_born}
+use Rattle.global_model.proofs.Waiting.{first_waits}
 use Rattle.global_model.proofs.Kept.{IsKnown, IsBirth, IsApt, AreApt, apt_append, known_lines}
 use Rattle.global_model.proofs.Views.{of_records, got_lines-records}
 
@@ -96,16 +97,6 @@ apt_delivery G x y count known living =
     let born : y.0 < G.born = living_born G y.0 known.tree living in
     apt_either G (eqb waiting 0) (lines.Idle x y ∷ []) (took_lines G x y n) (tt, tt) (tt, apt_got H x y (arriving (H.channel x.0 y.0)) living born)
 
--- the first of those that pass passes
-front_passes : {X : Type 0} (p : X → Bool) (xs : List X) (x : X) → slice_get (filter p xs) 0 ≡ Some x → p x ≡ true
-front_passes p [] x is = cc
-front_passes p (y ∷ ys) x is = by (front_passes p ys x) (p y) refl is
-  where
-    by : (slice_get (filter p ys) 0 ≡ Some x → p x ≡ true) → (b : Bool) → p y ≡ b
-        → slice_get (cond b (y ∷ filter p ys) (filter p ys)) 0 ≡ Some x → p x ≡ true
-    by more true passes e = let same : y ≡ x = cc in ap p (sym same) ∙ passes
-    by more false passes e = more e
-
 apt_end : (G : Facts) (made : ℕ) → AreApt G (settle_end G made ∷ [])
 apt_end G made = by (is_some (first_waiting G))
   where
@@ -127,7 +118,7 @@ apt_settle (suc left) made G known = by (λ H. apt_settle left (made + 1) H) (fi
     by more None is = apt_end G made
     by more (Some channel) is =
         let own = delivery_over G channel in
-        let living : is_living_enclave (G.enclave channel.1.0) ≡ true = (and_parts _ _ (front_passes (waits G) _ channel is)).0 in
+        let living : is_living_enclave (G.enclave channel.1.0) ≡ true = (first_waits G channel.0 channel.1 known.tree is).living in
         let apt : AreApt G own = apt_delivery G channel.0 channel.1 (next_rest G channel.0 channel.1) known living in
         apt_append G own (settle_from left (made + 1) (after_lines G own)) apt (more (after_lines G own) (known_lines G own known apt))
 

@@ -88,13 +88,15 @@ not_near near x y a b is far is_x is_y =
     let clash : true ≡ false = sym is ∙ ap (λ n. near n y) (sym is_x) ∙ ap (near a) (sym is_y) ∙ far in
     cc
 
--- ---- lines that bear no enclave, take nothing, and name neighbours alone
+-- ---- lines that bear no enclave, take and end nothing, and name neighbours alone
 
 abbrev pub IsProper : (ℕ → ℕ → Bool) → Line → Type 0
 IsProper near (lines.Do command) = ⊥
 IsProper near (lines.Born e kind parent ns blocks) = ⊥
 IsProper near (lines.Took x y count) = ⊥
 IsProper near (lines.Got x y) = ⊥
+IsProper near (lines.Killed x cut) = ⊥
+IsProper near (lines.End x y torn) = ⊥
 IsProper near (lines.Sent x y r) = (near x.0 y.0 ≡ true) × (is_valid r ≡ true)
 IsProper near (lines.Asked e by) = near e.0 by.0 ≡ true
 IsProper near (lines.Way e over) = near e.0 over.0 ≡ true
@@ -230,6 +232,8 @@ proper_line near x y rs (lines.Do command) past proper old = absurd proper
 proper_line near x y rs (lines.Born e kind parent ns blocks) past proper old = absurd proper
 proper_line near x y rs (lines.Took a b count) past proper old = absurd proper
 proper_line near x y rs (lines.Got a b) past proper old = absurd proper
+proper_line near x y rs (lines.Killed a cut) past proper old = absurd proper
+proper_line near x y rs (lines.End a b torn) past proper old = absurd proper
 proper_line near x y rs (lines.Sent a b r) past proper old =
     let G = facts_at past in
     let neighbours : is_neighbour G a.0 b.0 ≡ true = old.same a.0 b.0 ∙ proper.0 in

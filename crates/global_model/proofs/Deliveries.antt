@@ -12,7 +12,7 @@ use Rattle.global_model.specs.Due.{took_lines, deliver_lines, next_rest, first_w
 use Rattle.global_model.specs.Journals.{onto}
 use Rattle.global_model.specs.Flow.{IsFlow}
 use Rattle.global_model.proofs.Pasts.{facts_at-onto}
-use Rattle.global_model.proofs.Flow.{flow_taken}
+use Rattle.global_model.proofs.Flow.{waiting_few, flow_taken}
 use Rattle.global_model.proofs.Tree.{same_tree, near-turned}
 use Rattle.global_model.proofs.Arriving.{at_pair_has, at_pair_same, at_channel, IsArriving, not_near, IsProper, AreProper, proper_tells, IsUpTo, up_to-append, proper_lines, got_steps}
 use Rattle.global_model.proofs.Tells.{tells_end}
@@ -47,7 +47,7 @@ took_up_to near x y n past one within there back old =
       same = old.same;
       known = record { way = old.known.way; askers = old.known.askers; backs = old.known.backs; routes = old.known.routes };
       flows = λ a b. at_pair_has IsFlow x.0 y.0 (with_taken n) G.channel a b
-          (at_channel G x.0 y.0 (λ c. IsFlow (with_taken n c)) a b (flow_taken n (G.channel x.0 y.0) within (old.flows x.0 y.0)))
+          (at_channel G x.0 y.0 (λ c. IsFlow (with_taken n c)) a b (flow_taken n (G.channel x.0 y.0) (omega (arith, within, waiting_few G x.0 y.0)) (old.flows x.0 y.0)))
           (old.flows a b);
       arrives = λ a b. by G (arriving (H.channel x.0 y.0)) a b (eqb a x.0 && eqb b y.0) refl
           (at_channel G x.0 y.0 (λ c. arriving (with_taken n c) ≡ arriving (H.channel x.0 y.0)) a b whole) (old.arrives a b);

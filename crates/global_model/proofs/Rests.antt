@@ -27,6 +27,7 @@ use Rattle.global_model.proofs.Arriving.{IsSound}
 use Rattle.global_model.proofs.Carried.{journal_of-sound}
 use Rattle.global_model.proofs.Pasts.{Follows-append, after_lines-append, facts_at-onto, journal_from-more, onto-append}
 use Rattle.global_model.proofs.Settles.{IsInner, IsSettled, deliveries-append, inner_deliver, placed_after, settle_flows, settled_before, settled_by}
+use Rattle.global_model.proofs.Tree.{tree_lives}
 use Rattle.global_model.proofs.Waiting.{none_rests, rests_none}
 use Rattle.global_model.proofs.Writes.{EachIs, each-append, each_either}
 
@@ -123,7 +124,7 @@ rests_settle past most sound =
     start = lines.Do (commands.Settle most) ∷ past
 
     settled : IsSettled most 0 G
-    settled = settled_by most 0 G
+    settled = settled_by most 0 G (tree_lives G sound.flowing.tree)
 
     H : Facts
     H = after_lines G settled.before

@@ -22,7 +22,7 @@ use Rattle.global_model.specs.Journals.{is_delivery, deliveries_in, onto}
 use Rattle.global_model.specs.Flow.{IsTree, IsFlowing}
 use Rattle.global_model.specs.Rest.{IsAtRest, EndsSettle}
 use Rattle.global_model.proofs.Pasts.{after_lines-append, facts_at-onto, facts_by-more}
-use Rattle.global_model.proofs.Tree.{near-turned, near_born}
+use Rattle.global_model.proofs.Tree.{AllLive, live_lines, near-turned, near_born, tree_lives}
 use Rattle.global_model.proofs.Ways.{AllName}
 use Rattle.global_model.proofs.Writes.{EachIs, each-append, each_either, writes_record}
 use Rattle.global_model.proofs.Plain.{each-weaker}
@@ -109,22 +109,22 @@ settled_here left made G is all =
     let same : made ≡ made + 0 = omega arith in
     record { before = []; is = is ∙ ap (λ n. settle_end G n ∷ []) same; inner = tt; few = omega arith; all = all }
 
-pub settled_by : (left made : ℕ) (G : Facts) → IsSettled left made G
-settled_by zero made G = settled_here zero made G refl (λ some. refl)
-settled_by (suc left) made G = by (first_waiting G) refl (settled_by left (made + 1))
+pub settled_by : (left made : ℕ) (G : Facts) → AllLive G → IsSettled left made G
+settled_by zero made G all = settled_here zero made G refl (λ some. refl)
+settled_by (suc left) made G live = by (first_waiting G) refl (settled_by left (made + 1))
   where
-    by : (o : Option (Enclave × Enclave)) → first_waiting G ≡ o → ((H : Facts) → IsSettled left (made + 1) H) → IsSettled (suc left) made G
+    by : (o : Option (Enclave × Enclave)) → first_waiting G ≡ o → ((H : Facts) → AllLive H → IsSettled left (made + 1) H) → IsSettled (suc left) made G
     by None is later = settled_here (suc left) made G (ap (settle_at left made G) is)
         (λ some. let clash : false ≡ true = sym (ap is_some is) ∙ some in absurd (cc))
     by (Some channel) is later =
         let own = deliver_lines G channel.0 channel.1 (next_rest G channel.0 channel.1) in
         let H = after_lines G own in
-        let more : IsSettled left (made + 1) H = later H in
+        let more : IsSettled left (made + 1) H = later H (live_lines own G live) in
         let before = own ++ more.before in
         let facts : after_lines H more.before ≡ after_lines G before = sym (after_lines-append G own more.before) in
         let count : deliveries_in before ≡ 1 + deliveries_in more.before
         = deliveries-append own more.before ∙ ap (λ n. n + deliveries_in more.before)
-        (one_delivery G channel.0 channel.1 (next_rest G channel.0 channel.1) (first_some G channel.0 channel.1 is)) in
+        (one_delivery G channel.0 channel.1 (next_rest G channel.0 channel.1) (first_some G channel.0 channel.1 live is)) in
         let number : made + 1 + deliveries_in more.before ≡ made + deliveries_in before = omega (arith, count) in
         let end : settle_end (after_lines H more.before) (made + 1 + deliveries_in more.before) ≡ settle_end (after_lines G before)
         (made + deliveries_in before)
@@ -167,10 +167,10 @@ settle_flows past most sound =
     subst IsFlowing (facts_at-onto (settle_from most 0 G) past)
     (arriving_sound (is_neighbour G) 0 0 (facts_at (onto (settle_from most 0 G) past)) up.arrives).flowing
 
-ends_settle : (G : Facts) (most : ℕ) → IsFlowing (settled_facts most G)
+ends_settle : (G : Facts) (most : ℕ) → AllLive G → IsFlowing (settled_facts most G)
     → EndsSettle most (command_lines G (commands.Settle most)) (settled_facts most G)
-ends_settle G most flowing =
-    let settled : IsSettled most 0 G = settled_by most 0 G in
+ends_settle G most live flowing =
+    let settled : IsSettled most 0 G = settled_by most 0 G live in
     let H = after_lines G settled.before in
     let made = deliveries_in settled.before in
     let number : 0 + made ≡ made = omega arith in
@@ -209,7 +209,7 @@ journal_of-ends cs most placed =
     let flowing : IsFlowing (settled_facts most G)
     = subst (λ K. IsFlowing (settled_facts most K)) same (settle_flows past most (subst IsSound (sym same) (journal_of-sound cs placed))) in
     subst (EndsSettle most (command_lines G (commands.Settle most))) (sym (facts_by-more no_facts cs (commands.Settle most)))
-    (ends_settle G most flowing)
+    (ends_settle G most (tree_lives G (journal_of-sound cs placed).flowing.tree) flowing)
 
 -- ---- its deliveries
 

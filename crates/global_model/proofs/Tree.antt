@@ -1,12 +1,14 @@
 -- The tree of enclaves: who are neighbours, and what a birth and an admission leave.
-use Rattle.std.proofs.Common.{◌≡◌, ◌≢◌, ◌+◌, ◌<◌, ◌≤◌, ℕ, List, Bool, true, false, cond, not, ◌&&◌, ◌||◌, eqb, ltb, is_some, Option, None, Some, inl, inr, refl, sym, ap, ◌∙◌, subst, arith}
+use Rattle.std.proofs.Common.{◌≡◌, ◌≢◌, ◌+◌, ◌<◌, ◌≤◌, ℕ, List, [], ◌∷◌, Bool, true, false, cond, not, ◌&&◌, ◌||◌, eqb, ltb, is_some, Option, None, Some, inl, inr, refl, sym, ap, ◌∙◌, subst, arith}
 use Rattle.std.proofs.lemmas.Bool.{eqb-true, eqb-false, eq-eqb, ne_eqb, lt-ltb, le-ltb, ltb-true, ltb-false, and_parts, and_from, or_cases, or_left, or_right, not-true, not_from_false, false_from_ne_true, both_ways}
 use Rattle.xm_num.specs.declared.Enclave.{Enclave}
 use Rattle.xm_num.specs.declared.Block.{Block}
 use Rattle.xm_num.specs.declared.Kind.{Kind}
+use Rattle.xemem_language.specs.declared.command.Command.TheVariants as commands
+use Rattle.xemem_language.specs.declared.line.Line.{Line}
 use Rattle.xemem_language.specs.declared.line.Line.TheVariants as lines
-use Rattle.global_model.specs.Facts.{Facts, EnclaveFact, after_line, as_admitted, has_parent, is_living_enclave, lives_at}
-use Rattle.global_model.specs.Channels.{is_child_of, is_neighbour}
+use Rattle.global_model.specs.Facts.{Facts, EnclaveFact, after_line, after_lines, as_admitted, has_parent, is_living_enclave, lives_at}
+use Rattle.global_model.specs.Channels.{end_waits, is_child_of, is_neighbour}
 use Rattle.global_model.specs.Flow.{IsBornBelow, IsTree}
 
 -- ---- children and neighbours
@@ -207,3 +209,48 @@ near_newborn G e kind parent ns blocks some =
     let mine : eqb parent.0 parent.0 ≡ true = eq-eqb parent.0 parent.0 refl in
     let H = after_line G (lines.Born e kind parent ns blocks) in
     child_near H e.0 parent.0 (is_child H e.0 parent.0 some (rw here (rw mine refl)))
+
+-- ---- who lives
+
+-- Whoever was born lives so far: no line ends an enclave. This goes with `all_live`.
+abbrev pub AllLive : Facts → Type 0
+AllLive G = (e : ℕ) → is_some (G.enclave e) ≡ true → lives_at G e ≡ true
+
+pub tree_lives : (G : Facts) → IsTree G → AllLive G
+tree_lives G tree e some = tree.all_live e (ltb-true e G.born (sym (tree.enclaves e).known ∙ some))
+
+live_line : (line : Line) (G : Facts) → AllLive G → AllLive (after_line G line)
+live_line (lines.Born e kind parent ns blocks) G all j some = by (eqb j e.0) some
+  where
+    by : (b : Bool) → is_some (cond b (Some (record { kind = kind; parent = parent; blocks = blocks; ns = ns; living = true; admitted = false })) (G.enclave j)) ≡ true
+        → is_living_enclave (cond b (Some (record { kind = kind; parent = parent; blocks = blocks; ns = ns; living = true; admitted = false })) (G.enclave j)) ≡ true
+    by true some = refl
+    by false some = all j some
+live_line (lines.Admitted e) G all j some = by (eqb j e.0) some
+  where
+    same : (fact : Option EnclaveFact) → (is_some fact ≡ true → is_living_enclave fact ≡ true) → is_some (as_admitted fact) ≡ true → is_living_enclave (as_admitted fact) ≡ true
+    same None lives some = cc
+    same (Some fact) lives some = lives refl
+
+    by : (b : Bool) → is_some (cond b (as_admitted (G.enclave e.0)) (G.enclave j)) ≡ true → is_living_enclave (cond b (as_admitted (G.enclave e.0)) (G.enclave j)) ≡ true
+    by true some = same (G.enclave e.0) (all e.0) some
+    by false some = all j some
+live_line (lines.Do (commands.Pool blocks)) G all j some = all j some
+live_line _ G all j some = all j some
+
+pub live_lines : (ls : List Line) (G : Facts) → AllLive G → AllLive (after_lines G ls)
+live_lines [] G all = all
+live_lines (line ∷ ls) G all = live_lines ls (after_line G line) (live_line line G all)
+
+-- so no end mark waits
+pub no_end : (G : Facts) (x y : ℕ) → AllLive G → end_waits G x y ≡ false
+no_end G x y all = by (lives_at G y) (is_child_of G x y) (lives_at G x) refl refl
+  where
+    dead : is_child_of G x y ≡ true → lives_at G x ≡ false → ⊥
+    dead is gone = both_ways (lives_at G x) gone (all x (has_some y (G.enclave x) (and_parts (not (eqb x 0)) (has_parent y (G.enclave x)) is).1))
+
+    by : (a b c : Bool) → is_child_of G x y ≡ b → lives_at G x ≡ c → (a && (b && (not c && not (G.channel x y).end_taken))) ≡ false
+    by false b c is lives = refl
+    by true false c is lives = refl
+    by true true true is lives = refl
+    by true true false is lives = absurd (dead is lives)

@@ -1,5 +1,5 @@
 -- The lines that commands are to have, and the line that is due.
-use Rattle.std.specs.Prelude.{◌+◌, ◌-◌, ◌/◌, ℕ, zero, suc, min, List, [], ◌∷◌, ◌++◌, length, map, filter, Bool, ◌&&◌, ◌==◌, nat_le, nat_lt, if◌then◌else◌, Option, None, is_some, take, slice_get}
+use Rattle.std.specs.Prelude.{◌+◌, ◌-◌, ◌/◌, ℕ, zero, suc, min, List, [], ◌∷◌, ◌++◌, length, map, filter, Bool, ◌||◌, ◌==◌, nat_le, nat_lt, if◌then◌else◌, Option, None, is_some, take, slice_get}
 use Rattle.std.specs.List.{range_with_len, flat_map}
 use Rattle.std.specs.Option.{option_map_or}
 use Rattle.xm_num.specs.declared.Enclave.{Enclave}
@@ -11,8 +11,8 @@ use Rattle.xemem_language.specs.declared.line.Line.{Line}
 use Rattle.xemem_language.specs.declared.line.Line.TheVariants as lines
 use Rattle.xemem_language.specs.declared.record.Record.{Record}
 use Rattle.enclave_rules.specs.Steps.{adopt_lines, birth_lines, bytes_lines, host_lines, record_lines, route_lines, state_lines}
-use Rattle.global_model.specs.Channels.{arriving, size_of, waiting_bytes}
-use Rattle.global_model.specs.Facts.{Facts, after_line, after_lines, fact_of, facts_at, is_living_enclave, no_facts}
+use Rattle.global_model.specs.Channels.{arriving, end_waits, size_of, waiting_bytes}
+use Rattle.global_model.specs.Facts.{Facts, after_line, after_lines, fact_of, facts_at, no_facts}
 use Rattle.global_model.specs.Refusals.{refusal_of}
 use Rattle.global_model.specs.Space.{Mapping, free_blocks, space_of, unused_frames}
 use Rattle.global_model.specs.Views.{view_of}
@@ -55,17 +55,17 @@ abbrev pub rest_of_record : ℕ → List Record → ℕ
 rest_of_record taken [] = 0
 rest_of_record taken (r ∷ rs) = if nat_le (size_of r) taken then rest_of_record (taken - size_of r) rs else size_of r - taken
 
--- how many bytes a delivery of a settle takes
+-- how many bytes a delivery of a settle takes: that many, or all that wait where that record was cut
 abbrev pub next_rest : Facts → Enclave → Enclave → ℕ
-next_rest G x y = rest_of_record (G.channel x.0 y.0).taken (G.channel x.0 y.0).sent
+next_rest G x y = min (rest_of_record (G.channel x.0 y.0).taken (G.channel x.0 y.0).sent) (length (waiting_bytes G x.0 y.0))
 
 -- a child's channel up to its parent, and the one down from it
 abbrev pub channels_of : Facts → ℕ → List (Enclave × Enclave)
 channels_of G c = let parent = (fact_of (G.enclave c)).parent in (record { 0 = c }, parent) ∷ (parent, record { 0 = c }) ∷ []
 
--- something waits in the channel, and its receiver lives
+-- bytes wait in the channel, or an end mark does
 abbrev pub waits : Facts → Enclave × Enclave → Bool
-waits G channel = is_living_enclave (G.enclave channel.1.0) && nat_lt 0 (length (waiting_bytes G channel.0.0 channel.1.0))
+waits G channel = nat_lt 0 (length (waiting_bytes G channel.0.0 channel.1.0)) || end_waits G channel.0.0 channel.1.0
 
 -- the channels in which something waits, by child, up before down
 abbrev pub waiting_channels : Facts → List (Enclave × Enclave)

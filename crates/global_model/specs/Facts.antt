@@ -34,15 +34,17 @@ pub record OwnPage : Type 0 where
   pub page : ℕ
   pub frame : Frame
 
--- what went over a channel: the records that were sent, oldest first, how many bytes were taken, and how many of the
--- records were got
+-- What went over a channel: the records that were sent, oldest first; how many of their bytes were taken, and how many of the
+-- records were got; how many bytes were cut off at the end, and whether the end mark was taken. Nothing is cut off so far.
 pub record ChannelFact : Type 0 where
   pub sent : List Record
   pub taken : ℕ
   pub got : ℕ
+  pub cut : ℕ
+  pub end_taken : Bool
 
 abbrev pub no_channel : ChannelFact
-no_channel = record { sent = []; taken = 0; got = 0 }
+no_channel = record { sent = []; taken = 0; got = 0; cut = 0; end_taken = false }
 
 -- All facts. What is asked by a number is a function of it; `born` counts the enclaves, `started` the processes of an
 -- enclave, `starts` those of all. `server` says that an enclave was born with the name server. A channel is named by its

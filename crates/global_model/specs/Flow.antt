@@ -1,5 +1,5 @@
 -- What holds of the enclaves and of their channels wherever a command has ended.
-use Rattle.std.specs.Prelude.{◌≡◌, ◌<◌, ◌≤◌, ℕ, [], length, nat_lt, Option, Some, is_some, true, false}
+use Rattle.std.specs.Prelude.{◌≡◌, ◌+◌, ◌<◌, ◌≤◌, ℕ, [], length, nat_lt, Option, Some, is_some, true, false}
 use Rattle.xm_num.specs.declared.Enclave.{Enclave}
 use Rattle.xm_num.specs.Rows.{at}
 use Rattle.xemem_wire.specs.Spelling.{AreValid, spellings_of}
@@ -21,10 +21,10 @@ pub record IsTree (G : Facts) : Type 0 where
   -- Whoever was born lives so far. It holds until enclaves die, and then goes with all that is drawn from it.
   pub all_live : (e : ℕ) → e < G.born → lives_at G e ≡ true
 
--- every record that was sent is valid, no more bytes are taken than were sent, and the records that were got are whole
+-- every record that was sent is valid, no more bytes are taken and cut off than were sent, and the records that were got are whole
 pub record IsFlow (channel : ChannelFact) : Type 0 where
   pub valid : AreValid channel.sent
-  pub taken : channel.taken ≤ length (spellings_of channel.sent)
+  pub taken : channel.taken + channel.cut ≤ length (spellings_of channel.sent)
   pub got : channel.got ≤ length (whole_records channel.taken channel.sent)
 
 -- what an enclave knows of ways names its neighbours alone
