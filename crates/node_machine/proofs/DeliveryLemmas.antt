@@ -22,9 +22,11 @@ pub never_bad : Laws → (link : Channel) (d : Decoding) → IsFlowing link d �
 unfolding after_piece
 never_bad laws link d f n bad is =
     let waiting = waiting_bytes link in
-    let whole : (d.rest ++ take n waiting) ++ drop n waiting ≡ spellings_of f.coming =
-    append_assoc d.rest (take n waiting) (drop n waiting) ∙ ap (λ xs. d.rest ++ xs) (take-append-drop n waiting) ∙ f.bytes in
-    let fine : first_bad (d.rest ++ take n waiting) ≡ None = laws.fine f.coming (d.rest ++ take n waiting) (drop n waiting) f.valid whole in
+    let taken : (d.rest ++ take n waiting) ++ drop n waiting ≡ d.rest ++ waiting =
+    append_assoc d.rest (take n waiting) (drop n waiting) ∙ ap (λ xs. d.rest ++ xs) (take-append-drop n waiting) in
+    let whole : (d.rest ++ take n waiting) ++ (drop n waiting ++ f.off) ≡ spellings_of f.coming =
+    sym (append_assoc (d.rest ++ take n waiting) (drop n waiting) f.off) ∙ ap (λ xs. xs ++ f.off) taken ∙ f.bytes in
+    let fine : first_bad (d.rest ++ take n waiting) ≡ None = laws.fine f.coming (d.rest ++ take n waiting) (drop n waiting ++ f.off) f.valid whole in
     let made : (after_piece d (take n waiting)).bad ≡ None = rw (f.fine, fine) refl in
     let clash : None ≡ Some bad = sym made ∙ is in
     cc

@@ -123,9 +123,9 @@ with_link pairs hops.NoLink link = pairs
 with_link pairs (hops.Up i) link = slice_set pairs i (record (pair_at pairs i) { up = link })
 with_link pairs (hops.Down i) link = slice_set pairs i (record (pair_at pairs i) { down = link })
 
--- a record goes over a channel
+-- a record goes over a channel, where that hasn't ended
 abbrev pub carried_over : List Pair → Hop → Record → List Pair
-carried_over pairs hop r = with_link pairs hop (sent (link_of pairs hop) (spelling_of r))
+carried_over pairs hop r = if (link_of pairs hop).ended then pairs else with_link pairs hop (sent (link_of pairs hop) (spelling_of r))
 
 -- what the lines send goes over the channels; what is sent to an enclave that doesn't live is lost
 abbrev pub carried : List NodeView → List Pair → List Line → List Pair

@@ -1,5 +1,5 @@
 -- What the machine keeps between commands, and what a step asks of its command, so that each call of a node may be made.
-use Rattle.std.specs.Prelude.{◌≡◌, ◌+◌, ◌-◌, ◌≤◌, ◌<◌, ℕ, List, length, true, false, None, IsSome}
+use Rattle.std.specs.Prelude.{◌≡◌, ◌+◌, ◌-◌, ◌≤◌, ◌<◌, ℕ, length, true, false, None, IsSome}
 use Rattle.xm_num.specs.declared.Kind.TheVariants as kinds
 use Rattle.xm_num.specs.declared.Enclave.{Enclave}
 use Rattle.xm_num.specs.Rows.{at}
@@ -29,17 +29,12 @@ pub record IsPairReady (m : MachineView) (c : ℕ) (pair : Pair) : Type 0 where
   pub up : has_node m.nodes pair.parent.0 ≡ true → CanTake pair.up (node_at m.nodes pair.parent.0) (enclave c)
   pub down : has_node m.nodes c ≡ true → CanTake pair.down (node_at m.nodes c) pair.parent
 
--- no channel has ended
-abbrev pub AreOpen : List Pair → Type 0
-AreOpen pairs = (i : ℕ) → i < length pairs → ((pair_at pairs i).up.ended ≡ false) × ((pair_at pairs i).down.ended ≡ false)
-
 pub record IsReady (m : MachineView) : Type 0 where
   pub most : length m.nodes ≤ 256
   pub pairs : length m.pairs ≡ length m.nodes - 1
   pub root : 0 < length m.nodes → has_node m.nodes 0 ≡ true
   pub nodes : (e : ℕ) → has_node m.nodes e ≡ true → IsNodeReady e (node_at m.nodes e)
   pub links : (i : ℕ) → i < length m.pairs → IsPairReady m (i + 1) (pair_at m.pairs i)
-  pub open_ends : AreOpen m.pairs
   pub recorded : 1 ≤ length m.nodes → length (node_at m.nodes 0).view.host.parents ≡ length m.nodes
   pub strangers : (e c : ℕ) → length m.nodes ≤ c → at (node_at m.nodes e).feeds c ≡ None
   pub unborn : (e c : ℕ) → length m.nodes ≤ c → at (node_at m.nodes e).view.core.children c ≡ None

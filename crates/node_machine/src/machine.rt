@@ -9,7 +9,7 @@ ghost use Rattle.enclave_rules.specs.Pages.{AreBlocks};
 ghost use Rattle.enclave_node.specs.Nodes.{feed_at, number_of};
 ghost use Rattle.node_machine.specs.Links.{IsFlowing, sent_in};
 ghost use Rattle.node_machine.specs.Machine as spec;
-ghost use Rattle.node_machine.specs.Ready.{IsReady, CanStep, AreOpen};
+ghost use Rattle.node_machine.specs.Ready.{IsReady, CanStep};
 
 use crate::channels::Channels;
 use crate::delivery::{refuse, show};
@@ -118,7 +118,6 @@ impl Machine {
         requires can { CanStep self.old command.now }
         ensures lines { OnOk result (out.new ≡ out.old ++ spec.lines_by self.old command.now) }
         ensures after { OnOk result (self.new ≡ spec.acted self.old command.now) }
-        ensures open_ends { OnOk result (AreOpen self.new.pairs) }
     {
         if let Some(asked) = call_of(command) {
             return self.call(&asked, out);
@@ -408,7 +407,6 @@ impl Machine {
     // Gives the records that the lines send to their channels, in order.
     fn carry(&mut self, lines: &[Line]) -> Result<(), AllocError>
         requires valid { AreValid (sent_in lines.now) }
-        requires open_ends { AreOpen self.old.pairs }
         ensures { OnOk result (self.new ≡ spec.with_carried self.old lines.now) }
     {
         for line in lines {
@@ -421,9 +419,7 @@ impl Machine {
 
     fn send(&mut self, from: Enclave, to: Enclave, rec: &Record) -> Result<(), AllocError>
         requires valid { IsTrue (is_valid rec.now) }
-        requires open_ends { AreOpen self.old.pairs }
         ensures sent { OnOk result (self.new ≡ record self.old { pairs = spec.carried_over self.old.pairs (spec.hop_in self.old from to) rec.now }) }
-        ensures open_ends { AreOpen self.new.pairs }
     {
         let hop = self.hop(from, to);
         self.channels.send(hop, rec, &mut self.bytes)
