@@ -9,8 +9,10 @@ use Rattle.xemem_language.specs.declared.command.Command.TheVariants as commands
 use Rattle.xemem_language.specs.declared.line.Line.{Line}
 use Rattle.xemem_language.specs.declared.line.Line.TheVariants as lines
 use Rattle.global_model.specs.Facts.{Facts, after_line, after_lines, lives_at}
-use Rattle.global_model.specs.Views.{view_of}
-use Rattle.enclave_rules.specs.View.{own_lines, seen_lines, host, unborn_view}
+use Rattle.global_model.specs.Views.{view_of, seen_lines}
+use Rattle.enclave_rules.specs.Core.{host}
+use Rattle.enclave_rules.specs.Hand.{Nothing}
+use Rattle.enclave_rules.specs.View.{own_lines, unborn_view}
 use Rattle.enclave_rules.specs.Steps.{refusal, host_lines, first_blocks}
 use Rattle.global_model.specs.Due.{command_lines}
 use Rattle.enclave_node.specs.Nodes.{new_host}
@@ -53,12 +55,12 @@ plain_rest true = (tt, tt)
 plain_rest false = tt
 
 -- the host sees all lines of its birth
-host_seen : (pool blocks : ℕ) (ns : Bool) → seen_lines (unborn_view pool host) (host_lines (first_blocks blocks) ns) ≡ own_lines (unborn_view pool host) (host_lines (first_blocks blocks) ns)
-host_seen pool blocks true = refl
-host_seen pool blocks false = refl
+host_seen : (G : Facts) (pool blocks : ℕ) (ns : Bool) → seen_lines G (unborn_view pool host) (host_lines (first_blocks blocks) ns) ≡ own_lines Nothing (unborn_view pool host) (host_lines (first_blocks blocks) ns)
+host_seen G pool blocks true = refl
+host_seen G pool blocks false = refl
 
 host_acted : (G H : Facts) (m : MachineView) (blocks : ℕ) (ns : Bool) → IsStep G H (commands.Host blocks ns) → IsShown G m → G.born ≡ 0 → G.server ≡ false → command_lines G (commands.Host blocks ns) ≡ host_lines (first_blocks blocks) ns → lives_at H 0 ≡ true
-    → IsActed (after_line G (lines.Born host kinds.Host host ns (first_blocks blocks))) H (record m { server = ns; nodes = new_host m.pool blocks ns ∷ [] })
+    → IsActed (after_line (after_line G (lines.Do (commands.Host blocks ns))) (lines.Born host kinds.Host host ns (first_blocks blocks))) H (record m { server = ns; nodes = new_host m.pool blocks ns ∷ [] })
 host_acted G H m blocks ns step h none first is lives =
     let pairs = h.pairs in
     record {
@@ -75,12 +77,15 @@ host_acted G H m blocks ns step h none first is lives =
       strangers = λ e c far. stranger e c;
     }
   where
-    view : view_of H host ≡ own_lines (unborn_view m.pool host) (host_lines (first_blocks blocks) ns)
-    view =
-        step.views 0 lives ∙ ap (seen_lines (view_of G host)) is ∙ ap (λ v. seen_lines v (host_lines (first_blocks blocks) ns)) (step.unborn host (omega (arith, none)) ∙ ap (λ n. unborn_view n host) (sym h.pool))
-        ∙ host_seen m.pool blocks ns
+    B : Facts
+    B = after_line G (lines.Do (commands.Host blocks ns))
 
-    living : (e : ℕ) → has_node (new_host m.pool blocks ns ∷ []) e ≡ lives_at (after_line G (lines.Born host kinds.Host host ns (first_blocks blocks))) e
+    view : view_of H host ≡ own_lines Nothing (unborn_view m.pool host) (host_lines (first_blocks blocks) ns)
+    view =
+        step.views 0 lives ∙ ap (seen_lines B (view_of G host)) is ∙ ap (λ v. seen_lines B v (host_lines (first_blocks blocks) ns)) (step.unborn host (omega (arith, none)) ∙ ap (λ n. unborn_view n host) (sym h.pool))
+        ∙ host_seen B m.pool blocks ns
+
+    living : (e : ℕ) → has_node (new_host m.pool blocks ns ∷ []) e ≡ lives_at (after_line B (lines.Born host kinds.Host host ns (first_blocks blocks))) e
     living zero = refl
     living (suc e) = let other = ne_eqb (suc e) 0 (λ same. omega (arith, same)) in rw other (by (lives_at G (suc e)) refl)
       where
@@ -116,14 +121,15 @@ tied_host G H m blocks ns step h none first rule = by (ltb G.pool blocks) refl
     by true is =
         let refused : command_lines G c ≡ refusal causes.NoBlocks = rule ∙ rw is refl in
         let short = few true is in
-        tied_still G H c m step h refl (rw short refl) ls (subst AreStill (sym refused) (tt, tt))
+        tied_still G H c m step h tt (rw short refl) ls (subst AreStill (sym refused) (tt, tt))
     by false is =
         let made : command_lines G c ≡ host_lines (first_blocks blocks) ns = rule ∙ rw is refl in
         let enough = few false is in
         let w : MachineView = record m { server = ns; nodes = new_host m.pool blocks ns ∷ [] } in
         let machine : acted m c ≡ w = rw enough refl in
-        let K = after_line G (lines.Born host kinds.Host host ns (first_blocks blocks)) in
-        let facts : H ≡ after_lines K (host_rest ns) = step.after ∙ ap (after_lines G) made in
+        let B = after_line G (lines.Do c) in
+        let K = after_line B (lines.Born host kinds.Host host ns (first_blocks blocks)) in
+        let facts : H ≡ after_lines K (host_rest ns) = step.after ∙ ap (after_lines B) made in
         let lives : lives_at H 0 ≡ true = ap (λ F. lives_at F 0) facts ∙ (counted_lines (host_rest ns) K (plain_rest ns)).living 0 in
         let shown = shown_by step.laws K H (host_rest ns) w facts (plain_rest ns) step.flowing (host_acted G H m blocks ns step h none first made lives) in
         let after : after_command m c ≡ with_carried w (host_rest ns) = ap (λ n. with_carried n (lines_by m c)) machine ∙ ap (with_carried w) (ls ∙ made) in

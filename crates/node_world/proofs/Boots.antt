@@ -20,9 +20,14 @@ use Rattle.xemem_language.specs.declared.line.Line.TheVariants as lines
 use Rattle.global_model.specs.Facts.{Facts, EnclaveFact, no_channel, has_parent, after_line, after_lines, fact_of, lives_at}
 use Rattle.global_model.specs.Channels.{is_child_of}
 use Rattle.global_model.specs.Flow.{IsFlowing}
-use Rattle.enclave_rules.specs.View.{View, own_line, own_lines, is_at, seen_lines, with_child, with_record, as_born, host, unborn_view}
-use Rattle.global_model.specs.Views.{view_of}
-use Rattle.enclave_rules.specs.Steps.{refusal, query_of, told_lines, child_lines, birth_lines, knows_way, adopt_lines, free_from}
+use Rattle.frame_pool.specs.Blocks.{free_blocks}
+use Rattle.enclave_rules.specs.Core.{host, is_guest, with_child, as_born}
+use Rattle.enclave_rules.specs.Hand.{Nothing}
+use Rattle.enclave_rules.specs.Host.{with_birth}
+use Rattle.enclave_rules.specs.Sending.{knows_way}
+use Rattle.enclave_rules.specs.View.{View, own_line, own_lines, unborn_view, AreAbout}
+use Rattle.global_model.specs.Views.{view_of, seen_line, seen_lines}
+use Rattle.enclave_rules.specs.Steps.{refusal, query_of, told_lines, child_lines, birth_lines, adopt_lines}
 use Rattle.global_model.specs.Due.{command_lines}
 use Rattle.enclave_node.specs.Nodes.{NodeView, unborn_node, wrote, new_node, lent, adopted}
 use Rattle.node_machine.specs.declared.pair.Pair.{Pair}
@@ -35,20 +40,19 @@ use Rattle.node_world.proofs.Flows.{fresh_link}
 use Rattle.node_world.proofs.Carriage.{IsLinked, AreLinked, ArePlain, plain_append, feed_by, counted_lines}
 use Rattle.node_world.proofs.Acted.{IsActed, HasFeed, IsFedPair, shown_by, linked_of, within_of, fed_of}
 use Rattle.node_world.proofs.Stills.{IsStep, IsTied, AreStill, tied_still, at_is}
-use Rattle.node_world.proofs.Owns.{AreAbout, seen_own, seen_other}
 use Rattle.node_world.proofs.Births.{at_nil}
 
 -- ---- the lines of a birth after the first
 
-about_append : (e : ℕ) (ls ms : List Line) → AreAbout e ls → AreAbout e ms → AreAbout e (ls ++ ms)
+about_append : (e : Enclave) (ls ms : List Line) → AreAbout e ls → AreAbout e ms → AreAbout e (ls ++ ms)
 about_append e [] ms first more = more
 about_append e (line ∷ ls) ms first more = (first.0, about_append e ls ms first.1 more)
 
-about_told : (child : Enclave) (heard : List Enclave) → AreAbout child.0 (told_lines child heard)
+about_told : (child : Enclave) (heard : List Enclave) → AreAbout child (told_lines child heard)
 about_told child [] = tt
 about_told child (dead ∷ heard) = (refl, about_told child heard)
 
-about_child : (child parent : Enclave) (ns : Bool) → AreAbout child.0 (child_lines child parent ns)
+about_child : (child parent : Enclave) (ns : Bool) → AreAbout child (child_lines child parent ns)
 about_child child parent true = (refl, tt)
 about_child child parent false = (tt, tt)
 
@@ -60,26 +64,41 @@ plain_child : (child parent : Enclave) (ns : Bool) → ArePlain (child_lines chi
 plain_child child parent true = (tt, tt)
 plain_child child parent false = (tt, tt)
 
-own_append : (v : View) (ls ms : List Line) → own_lines v (ls ++ ms) ≡ own_lines (own_lines v ls) ms
+own_append : (v : View) (ls ms : List Line) → own_lines Nothing v (ls ++ ms) ≡ own_lines Nothing (own_lines Nothing v ls) ms
 own_append v [] ms = refl
-own_append v (line ∷ ls) ms = own_append (own_line v line) ls ms
+own_append v (line ∷ ls) ms = own_append (own_line Nothing v line) ls ms
 
 -- a query changes no view
-own_adopt : (v w : View) (child : Enclave) → own_lines w (adopt_lines v child) ≡ w
+own_adopt : (v w : View) (child : Enclave) → own_lines Nothing w (adopt_lines v child) ≡ w
 own_adopt v w child = by (knows_way v)
   where
-    by : (b : Bool) → own_lines w (cond b [] (lines.Sent v.me child (query_of v.me) ∷ [])) ≡ w
+    by : (b : Bool) → own_lines Nothing w (cond b [] (lines.Sent v.me child (query_of v.me) ∷ [])) ≡ w
     by true = refl
     by false = refl
 
--- what a child that isn't the host has of its birth
-self_born : (child : Enclave) (kind : Kind) (parent : Enclave) (blocks : List Block) (ns : Bool) → child.0 ≢ 0 → own_line (unborn_view 0 child) (lines.Born child kind parent ns blocks) ≡ as_born kind parent ns blocks (unborn_view 0 child)
-self_born child kind parent blocks ns far = let mine = eq-eqb child.0 child.0 refl in let apart = ne_eqb child.0 0 far in rw (mine, apart) refl
+-- the view of a child that isn't the host, as it is born
+abbrev as_child : Kind → Enclave → Bool → List Block → View → View
+as_child kind parent ns blocks v = record v { core = as_born kind parent ns blocks v.core }
+
+-- the enclave has a child more; the host lent blocks, and recorded the parent
+abbrev with_kin : Enclave → Kind → View → View
+with_kin child kind v = record v { core = with_child child kind v.core }
+
+abbrev with_record : Enclave → Enclave → List Block → View → View
+with_record child parent blocks v = record v { host = with_birth child parent blocks v.host }
+
+self_born : (G : Facts) (child : Enclave) (kind : Kind) (parent : Enclave) (blocks : List Block) (ns : Bool) → child.0 ≢ 0
+    → seen_line G (unborn_view 0 child) (lines.Born child kind parent ns blocks) ≡ as_child kind parent ns blocks (unborn_view 0 child)
+self_born G child kind parent blocks ns far = let mine = eq-eqb child.0 child.0 refl in let apart = ne_eqb child.0 0 far in rw (mine, apart) refl
+
+own_born : (child : Enclave) (kind : Kind) (parent : Enclave) (blocks : List Block) (ns : Bool) → child.0 ≢ 0
+    → own_line Nothing (unborn_view 0 child) (lines.Born child kind parent ns blocks) ≡ as_child kind parent ns blocks (unborn_view 0 child)
+own_born child kind parent blocks ns far = let mine = eq-eqb child.0 child.0 refl in let apart = ne_eqb child.0 0 far in rw (mine, apart) refl
 
 -- what another enclave has of it: the parent a child, the host a record
 abbrev after_birth : Enclave → Kind → Enclave → List Block → Bool → Bool → View → View
 after_birth child kind parent blocks mine first v =
-    let one = if mine then with_child child kind v else v in
+    let one = if mine then with_kin child kind v else v in
     if first then with_record child parent blocks one else one
 
 birth_me : (child : Enclave) (kind : Kind) (parent : Enclave) (blocks : List Block) (mine first : Bool) (v : View) → (after_birth child kind parent blocks mine first v).me ≡ v.me
@@ -88,12 +107,12 @@ birth_me child kind parent blocks true false v = refl
 birth_me child kind parent blocks false true v = refl
 birth_me child kind parent blocks false false v = refl
 
-other_born : (child : Enclave) (kind : Kind) (parent : Enclave) (blocks : List Block) (ns : Bool) (v : View) → v.me.0 ≢ child.0
-    → cond (is_at v.me (lines.Born child kind parent ns blocks)) (own_line v (lines.Born child kind parent ns blocks)) v ≡ after_birth child kind parent blocks (eqb parent.0 v.me.0) (eqb v.me.0 0) v
-other_born child kind parent blocks ns v far = let apart = ne_eqb child.0 v.me.0 (λ same. far (sym same)) in rw apart (by (eqb parent.0 v.me.0) (eqb v.me.0 0))
+other_born : (G : Facts) (child : Enclave) (kind : Kind) (parent : Enclave) (blocks : List Block) (ns : Bool) (v : View) → v.me.0 ≢ child.0
+    → seen_line G v (lines.Born child kind parent ns blocks) ≡ after_birth child kind parent blocks (eqb parent.0 v.me.0) (eqb v.me.0 0) v
+other_born G child kind parent blocks ns v far = let apart = ne_eqb child.0 v.me.0 (λ same. far (sym same)) in rw apart (by (eqb parent.0 v.me.0) (eqb v.me.0 0))
   where
     by : (mine first : Bool)
-        → cond (mine || first) (cond first (with_record child parent blocks (cond mine (with_child child kind v) v)) (cond mine (with_child child kind v) v)) v
+        → cond (mine || first) (record v { core = cond mine (with_child child kind v.core) v.core; host = cond first (with_birth child parent blocks v.host) v.host }) v
         ≡ after_birth child kind parent blocks mine first v
     by true true = refl
     by true false = refl
@@ -144,7 +163,7 @@ module _ (G : Facts) (flowing : IsFlowing G) (e p : ℕ) (later : G.born ≤ e) 
 
 -- ---- a birth
 
-module _ (G H : Facts) (m : MachineView) (kind : Kind) (parent : Enclave) (blocks : ℕ) (ns : Bool) (step : IsStep G H (commands.Boot kind parent blocks ns)) (h : IsShown G m) (alive : lives_at G parent.0 ≡ true) (lives : parent.0 < G.born) where
+module _ (G H : Facts) (m : MachineView) (kind : Kind) (parent : Enclave) (blocks : ℕ) (ns : Bool) (step : IsStep G H (commands.Boot kind parent blocks ns)) (h : IsShown G m) (plain_kind : is_guest kind ≡ false) (alive : lives_at G parent.0 ≡ true) (lives : parent.0 < G.born) where
   abbrev child : Enclave
   child = next_enclave m
 
@@ -162,20 +181,23 @@ module _ (G H : Facts) (m : MachineView) (kind : Kind) (parent : Enclave) (block
 
   -- the lines after it
   abbrev own : List Line
-  own = told_lines child node.view.heard ++ child_lines child parent ns
+  own = told_lines child node.view.core.heard ++ child_lines child parent ns
 
   abbrev ls : List Line
   ls = own ++ adopt_lines node.view child
 
-  abbrev K : Facts
-  K = after_line G birth
+  abbrev B : Facts
+  B = after_line G (lines.Do (commands.Boot kind parent blocks ns))
 
-  about : AreAbout child.0 ls
-  about = about_append child.0 own (adopt_lines node.view child) (about_append child.0 (told_lines child node.view.heard) (child_lines child parent ns) (about_told child node.view.heard) (about_child child parent ns))
-      (cond_case (knows_way node.view) [] (lines.Sent node.view.me child (query_of node.view.me) ∷ []) (AreAbout child.0) tt (tt, tt))
+  abbrev K : Facts
+  K = after_line B birth
+
+  about : AreAbout child ls
+  about = about_append child own (adopt_lines node.view child) (about_append child (told_lines child node.view.core.heard) (child_lines child parent ns) (about_told child node.view.core.heard) (about_child child parent ns))
+      (cond_case (knows_way node.view) [] (lines.Sent node.view.me child (query_of node.view.me) ∷ []) (AreAbout child) tt (tt, tt))
 
   plain : ArePlain ls
-  plain = plain_append own (adopt_lines node.view child) (plain_append (told_lines child node.view.heard) (child_lines child parent ns) (plain_told child node.view.heard) (plain_child child parent ns))
+  plain = plain_append own (adopt_lines node.view child) (plain_append (told_lines child node.view.core.heard) (child_lines child parent ns) (plain_told child node.view.core.heard) (plain_child child parent ns))
       (cond_case (knows_way node.view) [] (lines.Sent node.view.me child (query_of node.view.me) ∷ []) ArePlain tt (tt, tt))
 
   -- the host, the parent and the child then
@@ -186,13 +208,13 @@ module _ (G H : Facts) (m : MachineView) (kind : Kind) (parent : Enclave) (block
   lent_nodes = slice_set m.nodes 0 host_node
 
   abbrev taking : NodeView → NodeView
-  taking base = wrote (adopted base child kind) (adopt_lines node.view child)
+  taking base = wrote Nothing (adopted base child kind) (adopt_lines node.view child)
 
   abbrev base : NodeView
   base = node_at lent_nodes parent.0
 
   abbrev child_node : NodeView
-  child_node = new_node child kind parent lending ns node.view.heard
+  child_node = new_node child kind parent lending ns node.view.core.heard
 
   abbrev nodes : List NodeView
   nodes = booted_nodes m kind parent blocks ns
@@ -252,8 +274,8 @@ module _ (G H : Facts) (m : MachineView) (kind : Kind) (parent : Enclave) (block
           has-before old child_node e (λ last. other (last ∙ long)) ∙ has-set lent_nodes parent.0 e (taking base) ∙ has-set m.nodes 0 e host_node ∙ h.living e ∙ sym (before e other)
 
   module _ (is : command_lines G (commands.Boot kind parent blocks ns) ≡ booted_lines m kind parent blocks ns) (living : (e : ℕ) → lives_at H e ≡ lives_at K e) where
-    seen : (e : ℕ) → lives_at K e ≡ true → view_of H (enclave e) ≡ seen_lines (view_of G (enclave e)) (birth ∷ ls)
-    seen e there = step.views e (living e ∙ there) ∙ ap (seen_lines (view_of G (enclave e))) is
+    seen : (e : ℕ) → lives_at K e ≡ true → view_of H (enclave e) ≡ seen_lines B (view_of G (enclave e)) (birth ∷ ls)
+    seen e there = step.views e (living e ∙ there) ∙ ap (seen_lines B (view_of G (enclave e))) is
 
     -- what an enclave sees that was born before
     seen_then : (e : ℕ) → e < length m.nodes → lives_at G e ≡ true → view_of H (enclave e) ≡ after_birth child kind parent lending (eqb parent.0 e) (eqb e 0) (view_of G (enclave e))
@@ -262,8 +284,8 @@ module _ (G H : Facts) (m : MachineView) (kind : Kind) (parent : Enclave) (block
         let v = view_of G (enclave e) in
         let u = after_birth child kind parent lending (eqb parent.0 e) (eqb e 0) v in
         let me : u.me.0 ≡ e = ap (λ (e : Enclave). e.0) (birth_me child kind parent lending (eqb parent.0 e) (eqb e 0) v) in
-        seen e (before e (λ same. omega (arith, same, within)) ∙ there) ∙ ap (λ v. seen_lines v ls) (other_born child kind parent lending ns v (λ same. omega (arith, same, within)))
-        ∙ seen_other ls u child.0 (λ same. omega (arith, same, me, within)) about
+        seen e (before e (λ same. omega (arith, same, within)) ∙ there) ∙ ap (λ v. seen_lines K v ls) (other_born B child kind parent lending ns v (λ same. omega (arith, same, within)))
+        ∙ step.laws.views.others K child u ls about (λ same. omega (arith, same, me, within))
 
     parent_then : IsNodeOf H parent.0 (taking base)
     parent_then =
@@ -272,16 +294,16 @@ module _ (G H : Facts) (m : MachineView) (kind : Kind) (parent : Enclave) (block
         set_case m.nodes 0 parent.0 host_node (unborn_node 0 host []) (λ base. IsNodeOf H parent.0 (taking base)) some
         (λ is_first.
         let test = eq-eqb parent.0 0 is_first in
-        let view : view_of H parent ≡ with_record child parent lending (with_child child kind (view_of G parent)) = seen_then parent.0 inside alive ∙ rw (mine, test) refl in
+        let view : view_of H parent ≡ with_record child parent lending (with_kin child kind (view_of G parent)) = seen_then parent.0 inside alive ∙ rw (mine, test) refl in
         let same : first.view ≡ view_of G parent = ap (λ e. (node_at m.nodes e).view) (sym is_first) ∙ old.view in
         record {
-          view = own_adopt node.view (with_child child kind (with_record child parent lending first.view)) child ∙ ap (λ v. with_record child parent lending (with_child child kind v)) same ∙ sym view;
+          view = own_adopt node.view (with_kin child kind (with_record child parent lending first.view)) child ∙ ap (λ v. with_record child parent lending (with_kin child kind v)) same ∙ sym view;
           going = ap (λ e. (node_at m.nodes e).failed) (sym is_first) ∙ old.going;
         })
         (λ far.
         let test = ne_eqb parent.0 0 far in
-        let view : view_of H parent ≡ with_child child kind (view_of G parent) = seen_then parent.0 inside alive ∙ rw (mine, test) refl in
-        record { view = own_adopt node.view (with_child child kind node.view) child ∙ ap (with_child child kind) old.view ∙ sym view; going = old.going })
+        let view : view_of H parent ≡ with_kin child kind (view_of G parent) = seen_then parent.0 inside alive ∙ rw (mine, test) refl in
+        record { view = own_adopt node.view (with_kin child kind node.view) child ∙ ap (with_kin child kind) old.view ∙ sym view; going = old.going })
 
     host_then : 0 ≢ parent.0 → IsNodeOf H 0 host_node
     host_then far =
@@ -306,14 +328,13 @@ module _ (G H : Facts) (m : MachineView) (kind : Kind) (parent : Enclave) (block
         let e = length m.nodes in
         let apart : eqb e 0 ≡ false = ne_eqb e 0 (λ same. omega (arith, same, within)) in
         let mine : eqb e e ≡ true = eq-eqb e e refl in
-        let u = as_born kind parent ns lending (unborn_view 0 child) in
+        let far : e ≢ 0 = λ same. omega (arith, same, within) in
+        let u = as_child kind parent ns lending (unborn_view 0 child) in
         let unborn : view_of G child ≡ unborn_view 0 child = step.unborn child (omega (arith, count)) ∙ rw apart refl in
-        let start : own_line (unborn_view 0 child) birth ≡ u = self_born child kind parent lending ns (λ same. omega (arith, same, within)) in
-        let here : is_at child birth ≡ true = rw mine refl in
-        let one : cond (is_at child birth) (own_line (unborn_view 0 child) birth) (unborn_view 0 child) ≡ u = ap (λ b. cond b (own_line (unborn_view 0 child) birth) (unborn_view 0 child)) here ∙ start in
-        let view : view_of H child ≡ own_lines u own =
-        seen e born_lives ∙ ap (λ v. seen_lines v (birth ∷ ls)) unborn ∙ ap (λ v. seen_lines v ls) one ∙ seen_own ls u about ∙ own_append u own (adopt_lines node.view child) ∙ own_adopt node.view (own_lines u own) child in
-        record { view = ap (λ v. own_lines v own) start ∙ sym view; going = refl }
+        let view : view_of H child ≡ own_lines Nothing u own =
+        seen e born_lives ∙ ap (λ v. seen_lines B v (birth ∷ ls)) unborn ∙ ap (λ v. seen_lines K v ls) (self_born B child kind parent lending ns far)
+        ∙ step.laws.views.own K u ls plain_kind about ∙ own_append u own (adopt_lines node.view child) ∙ own_adopt node.view (own_lines Nothing u own) child in
+        record { view = ap (λ v. own_lines Nothing v own) (own_born child kind parent lending ns far) ∙ sym view; going = refl }
 
     node_then : (e : ℕ) → lives_at K e ≡ true → IsNodeOf H e (node_at nodes e)
     node_then e there =
@@ -437,7 +458,7 @@ module _ (G H : Facts) (m : MachineView) (kind : Kind) (parent : Enclave) (block
       → acted m (commands.Boot kind parent blocks ns) ≡ w → IsTied G H (commands.Boot kind parent blocks ns) m
   tied_born tells made machine =
       let is : command_lines G (commands.Boot kind parent blocks ns) ≡ birth ∷ ls = sym tells ∙ made in
-      let facts : H ≡ after_lines K ls = step.after ∙ ap (after_lines G) is in
+      let facts : H ≡ after_lines K ls = step.after ∙ ap (after_lines B) is in
       let living : (e : ℕ) → lives_at H e ≡ lives_at K e = λ e. ap (λ F. lives_at F e) facts ∙ (counted_lines ls K plain).living e in
       let shown = shown_by step.laws K H ls w facts plain step.flowing (booted_acted is living) in
       let end : after_command m (commands.Boot kind parent blocks ns) ≡ with_carried w ls = ap (λ n. with_carried n (lines_by m (commands.Boot kind parent blocks ns))) machine ∙ ap (with_carried w) made in
@@ -445,8 +466,8 @@ module _ (G H : Facts) (m : MachineView) (kind : Kind) (parent : Enclave) (block
 
 -- ---- any boot
 
-pub tied_boot : (G H : Facts) (m : MachineView) (kind : Kind) (parent : Enclave) (blocks : ℕ) (ns : Bool) → IsStep G H (commands.Boot kind parent blocks ns) → IsShown G m → IsTied G H (commands.Boot kind parent blocks ns) m
-tied_boot G H m kind parent blocks ns step h = by (lives_at G parent.0) (leb 256 (length m.nodes)) (ns && m.server) (is_short m blocks) refl refl refl refl
+pub tied_boot : (G H : Facts) (m : MachineView) (kind : Kind) (parent : Enclave) (blocks : ℕ) (ns : Bool) → is_guest kind ≡ false → IsStep G H (commands.Boot kind parent blocks ns) → IsShown G m → IsTied G H (commands.Boot kind parent blocks ns) m
+tied_boot G H m kind parent blocks ns plain step h = by (lives_at G parent.0) (leb 256 (length m.nodes)) (ns && m.server) (is_short m blocks) refl refl refl refl
   where
     c : Command
     c = commands.Boot kind parent blocks ns
@@ -456,8 +477,8 @@ tied_boot G H m kind parent blocks ns step h = by (lives_at G parent.0) (leb 256
     written n server first v =
         if leb 256 n then refusal causes.TooMany
         else (if ns && server then refusal causes.NameServerTaken
-        else (if ltb (length (free_from 0 first.host.states)) blocks then refusal causes.NoBlocks
-        else birth_lines (enclave n) kind parent (take blocks (free_from 0 first.host.states)) ns v.heard ++ adopt_lines v (enclave n)))
+        else (if ltb (length (free_blocks first.host.states)) blocks then refusal causes.NoBlocks
+        else birth_lines (enclave n) kind parent (take blocks (free_blocks first.host.states)) ns v.core.heard ++ adopt_lines v (enclave n)))
 
     -- a parent that lives was born
     below : lives_at G parent.0 ≡ true → parent.0 < G.born
@@ -474,7 +495,7 @@ tied_boot G H m kind parent blocks ns step h = by (lives_at G parent.0) (leb 256
         ∙ at_is G m h parent (written G.born G.server (node_at m.nodes 0).view) ∙ by_host (lives_at G parent.0) refl ∙ sym (step.answered.boot kind parent blocks ns)
 
     still : (cause : Cause) → lines_by m c ≡ refusal cause → acted m c ≡ m → IsTied G H c m
-    still cause is same = tied_still G H c m step h refl same ls (subst AreStill (sym (sym ls ∙ is)) (tt, tt))
+    still cause is same = tied_still G H c m step h tt same ls (subst AreStill (sym (sym ls ∙ is)) (tt, tt))
 
     known : (b : Bool) → lives_at G parent.0 ≡ b → has_node m.nodes parent.0 ≡ b
     known b is = h.living parent.0 ∙ is
@@ -486,4 +507,4 @@ tied_boot G H m kind parent blocks ns step h = by (lives_at G parent.0) (leb 256
     by true false false true one two three four = let lives = known true one in still causes.NoBlocks (rw (lives, two, three, four) refl) (rw (lives, two, three, four) refl)
     by true false false false one two three four =
         let lives = known true one in
-        tied_born G H m kind parent blocks ns step h one (below one) ls (rw (lives, two, three, four) refl) (rw (lives, two, three, four) refl)
+        tied_born G H m kind parent blocks ns step h plain one (below one) ls (rw (lives, two, three, four) refl) (rw (lives, two, three, four) refl)

@@ -22,7 +22,9 @@ use Rattle.xemem_language.specs.declared.line.Line.{Line}
 use Rattle.xemem_language.specs.declared.line.Line.TheVariants as lines
 use Rattle.xemem_language.specs.Spelling.{line_words, words_in}
 use Rattle.global_model.specs.Journals.{onto, command_at}
-use Rattle.enclave_rules.specs.View.{View, host}
+use Rattle.enclave_rules.specs.Core.{host}
+use Rattle.enclave_rules.specs.Hand.{Nothing, Calls}
+use Rattle.enclave_rules.specs.View.{View}
 use Rattle.enclave_rules.specs.Steps.{refusal, host_lines, first_blocks, start_lines, touch_answer, birth_lines, adopt_lines}
 use Rattle.enclave_node.specs.Nodes.{NodeView, unborn_node, raised, wrote, new_host, new_node, lent, adopted, fed, fed_lines, after_feed}
 use Rattle.node_machine.specs.declared.pair.Hop.{Hop}
@@ -149,25 +151,25 @@ module _ (m : MachineView) (kind : Kind) (parent : Enclave) (blocks : ℕ) (ns :
   child = next_enclave m
 
   abbrev birth : List Line
-  birth = birth_lines child kind parent (take blocks (free_of m)) ns (node_at m.nodes parent.0).view.heard
+  birth = birth_lines child kind parent (take blocks (free_of m)) ns (node_at m.nodes parent.0).view.core.heard
 
   abbrev asked : List Line
   asked = adopt_lines (node_at m.nodes parent.0).view child
 
   booted_raises : parent.0 < length m.nodes → Raises m.nodes (booted_nodes m kind parent blocks ns) (λ e. share (only child) birth e + share (only parent) asked e)
-  booted_raises within = raises_more m.nodes taking (share (only parent) asked) child (new_node child kind parent (take blocks (free_of m)) ns (node_at m.nodes parent.0).view.heard) (words_in birth) taken (size_then ∙ size) refl silent refl
+  booted_raises within = raises_more m.nodes taking (share (only parent) asked) child (new_node child kind parent (take blocks (free_of m)) ns (node_at m.nodes parent.0).view.core.heard) (words_in birth) taken (size_then ∙ size) refl silent refl
     where
       lending : List NodeView
       lending = slice_set m.nodes 0 (lent (node_at m.nodes 0) child parent (take blocks (free_of m)))
 
       taking : List NodeView
-      taking = slice_set lending parent.0 (wrote (adopted (node_at lending parent.0) child kind) asked)
+      taking = slice_set lending parent.0 (wrote Nothing (adopted (node_at lending parent.0) child kind) asked)
 
       size : length lending ≡ length m.nodes
       size = length-set m.nodes 0 (lent (node_at m.nodes 0) child parent (take blocks (free_of m)))
 
       size_then : length taking ≡ length lending
-      size_then = length-set lending parent.0 (wrote (adopted (node_at lending parent.0) child kind) asked)
+      size_then = length-set lending parent.0 (wrote Nothing (adopted (node_at lending parent.0) child kind) asked)
 
       -- lending writes nothing
       same : (e : ℕ) → count_at lending e ≡ count_at m.nodes e
@@ -175,7 +177,7 @@ module _ (m : MachineView) (kind : Kind) (parent : Enclave) (blocks : ℕ) (ns :
 
       taken : Raises m.nodes taking (share (only parent) asked)
       taken e few =
-          let raised = raises_one lending parent (wrote (adopted (node_at lending parent.0) child kind) asked) (words_in asked) (omega (arith, size, within)) refl e (omega (arith, same e, few)) in
+          let raised = raises_one lending parent (wrote Nothing (adopted (node_at lending parent.0) child kind) asked) (words_in asked) (omega (arith, size, within)) refl e (omega (arith, same e, few)) in
           omega (arith, raised, same e)
 
       silent : (e : ℕ) → length m.nodes ≤ e → share (only parent) asked e ≡ 0
@@ -185,7 +187,7 @@ module _ (m : MachineView) (kind : Kind) (parent : Enclave) (blocks : ℕ) (ns :
   booted has = record {
     gain = λ e. share (only child) birth e + share (only parent) asked e;
     adds = adds_append boot birth asked (share (only child) birth) (share (only parent) asked)
-        (adds_by boot (only child) birth (by_birth boot child kind parent (take blocks (free_of m)) ns (node_at m.nodes parent.0).view.heard))
+        (adds_by boot (only child) birth (by_birth boot child kind parent (take blocks (free_of m)) ns (node_at m.nodes parent.0).view.core.heard))
         (adds_by boot (only parent) asked (subst (λ e. AreBy boot (only e) asked) (me has) (by_adopt boot (node_at m.nodes parent.0).view child)));
     raises = booted_raises (node_within m.nodes parent.0 has);
   }
@@ -217,14 +219,14 @@ counts_start m e uid gid me = by (has_node m.nodes e.0) (leb 1024 m.starts) refl
     ls = start_lines (node_at m.nodes e.0).view uid gid
 
     w : MachineView
-    w = record m { nodes = slice_set m.nodes e.0 (wrote (node_at m.nodes e.0) ls); starts = m.starts + 1 }
+    w = record m { nodes = slice_set m.nodes e.0 (wrote Nothing (node_at m.nodes e.0) ls); starts = m.starts + 1 }
 
     by : (a b : Bool) → has_node m.nodes e.0 ≡ a → Counts c (cond a (cond b (refusal causes.TooMany) ls) (refusal causes.NoEnclave)) m.nodes (cond (not a) m (cond b m w)).nodes
     by false b is = counts_none c (refusal causes.NoEnclave) m.nodes (λ e. refl, tt)
     by true true is = counts_none c (refusal causes.TooMany) m.nodes (λ e. refl, tt)
     by true false is =
         let lt = node_within m.nodes e.0 is in
-        counts_one c m.nodes e (wrote (node_at m.nodes e.0) ls) ls lt refl (λ k. ap (λ a. only a k) (me is), tt)
+        counts_one c m.nodes e (wrote Nothing (node_at m.nodes e.0) ls) ls lt refl (λ k. ap (λ a. only a k) (me is), tt)
 
 counts_call : Laws → (m : MachineView) (c : Command) (k : ProcessCall) → call_of c ≡ Some k → (has_node m.nodes k.enclave.0 ≡ true → (node_at m.nodes k.enclave.0).view.me ≡ k.enclave)
     → Counts c (lines_by m c) m.nodes (acted m c).nodes
@@ -242,12 +244,12 @@ counts_call laws m c k is me = rw is (by (has_node m.nodes k.enclave.0) refl)
     refused : (j : ℕ) → refuses j (Some c) causes.NoEnclave ≡ false
     refused j = rw is refl
 
-    by : (a : Bool) → has_node m.nodes e.0 ≡ a → Counts c (cond a ls (refusal causes.NoEnclave)) m.nodes (cond a (with_node m e.0 (wrote (node_at m.nodes e.0) ls)) m).nodes
+    by : (a : Bool) → has_node m.nodes e.0 ≡ a → Counts c (cond a ls (refusal causes.NoEnclave)) m.nodes (cond a (with_node m e.0 (wrote (Calls k) (node_at m.nodes e.0) ls)) m).nodes
     by false gone = counts_none c (refusal causes.NoEnclave) m.nodes (refused, tt)
     by true here =
         let lt = node_within m.nodes e.0 here in
         let own : AreCallLines e ls = subst (λ (a : Enclave). AreCallLines a ls) (me here) (laws.views.calls v k.pid k.call) in
-        counts_one c m.nodes e (wrote (node_at m.nodes e.0) ls) ls lt refl (by_call c k is ls own)
+        counts_one c m.nodes e (wrote (Calls k) (node_at m.nodes e.0) ls) ls lt refl (by_call c k is ls own)
 
 -- ---- deliveries
 

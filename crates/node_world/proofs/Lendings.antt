@@ -11,7 +11,7 @@ use Rattle.global_model.specs.Channels.{is_child_of, is_neighbour, waiting_bytes
 use Rattle.global_model.specs.Flow.{IsFlowing}
 use Rattle.global_model.specs.Refusals.{link_conditions, first_cause}
 use Rattle.enclave_node.specs.Nodes.{NodeView, unborn_node}
-use Rattle.enclave_rules.specs.View.{host}
+use Rattle.enclave_rules.specs.Core.{host}
 use Rattle.node_machine.specs.declared.pair.Hop.{Hop}
 use Rattle.node_machine.specs.declared.pair.Hop.TheVariants as hops
 use Rattle.node_world.specs.Appended.{words_by}

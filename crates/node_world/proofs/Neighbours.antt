@@ -143,7 +143,7 @@ tied_show_link G H m x y step h = by (hop_in m x y) refl
     refused hop is = refused_is G m step.before h x y ∙ ap cause_of is
 
     still : (ls : List Line) → command_lines G (commands.ShowLink x y) ≡ ls → AreStill ls → lines_by m (commands.ShowLink x y) ≡ ls → IsTied G H (commands.ShowLink x y) m
-    still ls is fixed made = tied_still G H (commands.ShowLink x y) m step h refl refl (made ∙ sym is) (subst AreStill (sym is) fixed)
+    still ls is fixed made = tied_still G H (commands.ShowLink x y) m step h tt refl (made ∙ sym is) (subst AreStill (sym is) fixed)
 
     bytes : (hop : Hop) → List Line
     bytes hop = bytes_lines x y (length (waiting_bytes (link_of m.pairs hop))) 0 (waiting_bytes (link_of m.pairs hop))

@@ -49,7 +49,7 @@ module _ (G : Facts) (m : MachineView) (flowing : IsFlowing G) (h : IsShown G m)
       let p = pair_at m.pairs i in
       record {
         above = k.above;
-        parent = λ has. ap (λ (v : View). v.parent) (h.nodes (i + 1) (sym (h.living (i + 1)) ∙ has)).view ∙ sym k.parent;
+        parent = λ has. ap (λ (v : View). v.core.parent) (h.nodes (i + 1) (sym (h.living (i + 1)) ∙ has)).view ∙ sym k.parent;
         up = λ has. let up = k.up (sym (h.living p.parent.0) ∙ has) in
             can_take p.up (node_at m.nodes p.parent.0) (enclave (i + 1)) _ up.feed (flowing_of _ (G.channel (i + 1) p.parent.0) p.up (flowing.flows (i + 1) p.parent.0) up.bytes);
         down = λ has. let down = k.down (sym (h.living (i + 1)) ∙ has) in
@@ -57,15 +57,15 @@ module _ (G : Facts) (m : MachineView) (flowing : IsFlowing G) (h : IsShown G m)
       }
 
   -- no node has a child that isn't born
-  no_child : (e c : ℕ) → length m.nodes ≤ c → at (node_at m.nodes e).view.children c ≡ None
+  no_child : (e c : ℕ) → length m.nodes ≤ c → at (node_at m.nodes e).view.core.children c ≡ None
   no_child e c far = by (has_node m.nodes e) refl
     where
       born : length m.nodes ≡ G.born
       born = h.born
 
-      by : (b : Bool) → has_node m.nodes e ≡ b → at (node_at m.nodes e).view.children c ≡ None
-      by true has = ap (λ (v : View). at v.children c) (h.nodes e (sym (h.living e) ∙ has)).view ∙ below G (λ c. is_child_of G c e) c G.born 0 (omega (arith, born, far))
-      by false gone = ap (λ (n : NodeView). at n.view.children c) (node_gone m.nodes e gone) ∙ at_nil c
+      by : (b : Bool) → has_node m.nodes e ≡ b → at (node_at m.nodes e).view.core.children c ≡ None
+      by true has = ap (λ (v : View). at v.core.children c) (h.nodes e (sym (h.living e) ∙ has)).view ∙ below G (λ c. is_child_of G c e) c G.born 0 (omega (arith, born, far))
+      by false gone = ap (λ (n : NodeView). at n.view.core.children c) (node_gone m.nodes e gone) ∙ at_nil c
 
   pub ready_of : IsReady m
   ready_of =
