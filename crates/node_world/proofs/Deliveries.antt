@@ -1,11 +1,11 @@
 -- What is delivered by the facts is what the machine delivers.
-use Rattle.std.proofs.Common.{min, ◌≡◌, ◌≢◌, ◌+◌, ◌-◌, ◌<◌, ◌≤◌, ℕ, List, [], ◌∷◌, ◌++◌, length, take, drop, Bool, true, false, cond, not, ◌&&◌, ◌||◌, eqb, Option, None, Some, refl, sym, ap, ◌∙◌, subst, arith}
+use Rattle.std.proofs.Common.{min, ◌≡◌, ◌+◌, ◌-◌, ◌<◌, ◌≤◌, ℕ, List, [], ◌∷◌, length, take, drop, Bool, true, false, cond, not, ◌&&◌, ◌||◌, eqb, Option, None, Some, refl, sym, ap, ◌∙◌, subst, arith}
 use Rattle.std.specs.Option.{option_map_or}
 use Rattle.std.proofs.lemmas.Bool.{eqb-true, eqb-false, ne_eqb}
 use Rattle.std.proofs.lemmas.List.{length-set}
 use Rattle.xm_num.specs.declared.Enclave.{Enclave}
 use Rattle.xm_num.specs.declared.Cause.TheVariants as causes
-use Rattle.xm_num.specs.Rows.{at, less}
+use Rattle.xm_num.specs.Rows.{at}
 use Rattle.byte_link.specs.Channel.{Channel, taken, waiting_bytes}
 use Rattle.xemem_wire.specs.Spelling.{spellings_of}
 use Rattle.xemem_wire.specs.Decoding.{Decoding, nothing_taken, after_piece}
@@ -30,7 +30,7 @@ use Rattle.node_machine.specs.Machine.{MachineView, node_at, pair_at, with_node,
 use Rattle.node_machine.specs.Machine.{enclave}
 use Rattle.node_world.specs.Shown.{IsNodeOf, IsShown}
 use Rattle.node_world.specs.Laws.{WireLaws, ViewLaws}
-use Rattle.node_world.proofs.Lists.{cond_case, has-set, node_within, same_either, set_case}
+use Rattle.node_world.proofs.Lists.{has-set, node_within, same_either, set_case}
 use Rattle.node_world.proofs.Flows.{waiting-length, link_taken, uncut_waiting, got_is, IsFed, feed_from, feed_fed}
 use Rattle.node_world.proofs.Carriage.{AreWithin, ArePlain, feed_by, pair_here, pair_other, pair_case, over, with_link-parent, with_link-length, counted_lines}
 use Rattle.node_world.proofs.Acted.{IsActed, HasFeed, IsFedPair, shown_by, linked_of, fed_of}

@@ -1,7 +1,6 @@
 -- Commands whose lines are all at one enclave: a process starts, and pages become own ones.
-use Rattle.std.proofs.Common.{◌≡◌, ◌+◌, ◌<◌, ℕ, List, [], ◌∷◌, length, Bool, true, false, cond, eqb, leb, Option, Some, refl, sym, ap, ◌∙◌, subst}
+use Rattle.std.proofs.Common.{◌≡◌, ◌+◌, ◌<◌, ℕ, List, [], ◌∷◌, length, Bool, true, false, cond, leb, Some, refl, sym, ap, ◌∙◌, subst}
 use Rattle.std.specs.Prelude.{slice_set}
-use Rattle.std.proofs.lemmas.Bool.{eq-eqb, ne_eqb}
 use Rattle.std.proofs.lemmas.List.{length-set}
 use Rattle.xm_num.specs.declared.Enclave.{Enclave}
 use Rattle.xm_num.specs.declared.Cause.TheVariants as causes
@@ -27,7 +26,7 @@ use Rattle.enclave_node.specs.Nodes.{NodeView, unborn_node, wrote}
 use Rattle.node_machine.specs.Machine.{MachineView, has_node, node_at, pair_at, at_node, lines_by, acted, with_carried, after_command, call_by, after_call}
 use Rattle.node_machine.specs.Machine.{enclave}
 use Rattle.node_world.specs.Shown.{IsNodeOf, IsShown}
-use Rattle.node_world.proofs.Lists.{has-set, node_within, same_either, set_case}
+use Rattle.node_world.proofs.Lists.{has-set, node_within, set_case}
 use Rattle.node_world.proofs.Carriage.{ArePlain, counted_lines}
 use Rattle.node_world.proofs.Acted.{IsActed, shown_by, linked_of, within_of, fed_of}
 use Rattle.node_world.proofs.Stills.{IsStep, IsTied, IsNoPool, AreStill, tied_still, at_is}

@@ -106,7 +106,7 @@ stepped_other laws before (commands.ShowLink x y) no_call no_show m step placed 
 stepped_other laws before (commands.Alloc e p page count) no_call no_show m step placed h = cc
 stepped_other laws before (commands.ShowRoutes e) no_call no_show m step placed h = cc
 stepped_other laws before commands.ShowPool no_call no_show m step placed h = cc
-stepped_other laws before c no_call no_show m step placed h = let no : false ≡ true = (and_parts _ _ (last_stands 0 before c placed).0).1 in absurd no
+stepped_other laws before c no_call no_show m step placed h = let no : false ≡ true = (and_parts _ _ (last_stands 0 before c placed).0).1 in cc
 
 -- and for any command
 pub stepped : Laws → (commands : List Command) (c : Command) (m : MachineView) → IsNoSettle c → IsPlaced (commands ++ c ∷ []) → IsShown (facts_after (journal_of commands)) m
