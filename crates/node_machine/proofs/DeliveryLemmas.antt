@@ -56,7 +56,7 @@ take_up m x y i ready hop =
       open_end = subst (λ c. IsSome (at (node_at m.nodes y.0).feeds c)) (sym k.child_is) (subst (λ e. IsSome (at (node_at m.nodes e).feeds (i + 1))) parent h.up_open);
     }
 
-pub take_down : (m : MachineView) (x y : Enclave) (i : ℕ) → IsReady m → hop_in m x y ≡ hops.Down i → CanTake (pair_at m.pairs i).down (node_at m.nodes y.0) x × ((node_at m.nodes y.0).view.parent ≡ x)
+pub take_down : (m : MachineView) (x y : Enclave) (i : ℕ) → IsReady m → hop_in m x y ≡ hops.Down i → CanTake (pair_at m.pairs i).down (node_at m.nodes y.0) x × ((node_at m.nodes y.0).view.core.parent ≡ x)
 take_down m x y i ready hop =
     let k = down_is m.pairs (length m.nodes) x y i hop in
     let h = ready.links i k.within in
@@ -66,5 +66,5 @@ take_down m x y i ready hop =
         flows = subst (λ c. IsFlowing (pair_at m.pairs i).down (feed_at (node_at m.nodes c).feeds x)) child (subst (λ e. IsFlowing (pair_at m.pairs i).down (feed_at (node_at m.nodes (i + 1)).feeds e)) parent h.down);
         open_end = subst (λ c. IsSome (at (node_at m.nodes c).feeds x.0)) child (subst (λ (e : Enclave). IsSome (at (node_at m.nodes (i + 1)).feeds e.0)) parent h.down_open);
       },
-      ap (λ c. (node_at m.nodes c).view.parent) (sym child) ∙ h.parent ∙ parent,
+      ap (λ c. (node_at m.nodes c).view.core.parent) (sym child) ∙ h.parent ∙ parent,
     )

@@ -19,7 +19,7 @@ pub record IsNodeReady (e : ℕ) (node : NodeView) : Type 0 where
 -- the channels of child c flow, and both ends are open
 pub record IsPairReady (m : MachineView) (c : ℕ) (pair : Pair) : Type 0 where
   pub above : pair.parent.0 < c
-  pub parent : (node_at m.nodes c).view.parent ≡ pair.parent
+  pub parent : (node_at m.nodes c).view.core.parent ≡ pair.parent
   pub up : IsFlowing pair.up (feed_at (node_at m.nodes pair.parent.0).feeds (enclave c))
   pub up_open : IsSome (at (node_at m.nodes pair.parent.0).feeds c)
   pub down : IsFlowing pair.down (feed_at (node_at m.nodes c).feeds pair.parent)
@@ -32,7 +32,7 @@ pub record IsReady (m : MachineView) : Type 0 where
   pub links : (i : ℕ) → i < length m.pairs → IsPairReady m (i + 1) (pair_at m.pairs i)
   pub recorded : 1 ≤ length m.nodes → length (node_at m.nodes 0).view.host.parents ≡ length m.nodes
   pub strangers : (e c : ℕ) → length m.nodes ≤ c → at (node_at m.nodes e).feeds c ≡ None
-  pub unborn : (e c : ℕ) → length m.nodes ≤ c → at (node_at m.nodes e).view.children c ≡ None
+  pub unborn : (e c : ℕ) → length m.nodes ≤ c → at (node_at m.nodes e).view.core.children c ≡ None
 
 -- no channel has ended
 abbrev pub AreOpen : List Pair → Type 0

@@ -5,6 +5,7 @@ ghost use Rattle.xemem_wire.specs.Spelling.{AreValid, is_valid};
 ghost use Rattle.xemem_language.specs.declared.line.Line.TheVariants as lines;
 ghost use Rattle.xemem_language.specs.Calls.{IsCallInRange, IsShowable};
 ghost use Rattle.xm_num.specs.Rows.{at};
+ghost use Rattle.enclave_rules.specs.Pages.{AreBlocks};
 ghost use Rattle.enclave_node.specs.Nodes.{feed_at, number_of};
 ghost use Rattle.node_machine.specs.Links.{IsFlowing, sent_in};
 ghost use Rattle.node_machine.specs.Machine as spec;
@@ -228,6 +229,7 @@ impl Machine {
         requires born { parent.0 < length self.old.nodes }
         requires kind { kind ≡ kinds.Cokernel }
         requires some { 1 ≤ length blocks.now }
+        requires blocks { AreBlocks blocks.now }
         requires me { (spec.node_at self.old.nodes parent.0).view.me.0 ≡ parent.0 }
         requires going { (spec.node_at self.old.nodes parent.0).failed ≡ false }
         requires stranger { spec.IsStranger (spec.node_at self.old.nodes parent.0) child }
@@ -277,6 +279,7 @@ impl Machine {
 
     // A call of a process, which its node carries out.
     fn call(&mut self, asked: &ProcessCall, out: &mut Lines) -> Result<(), AllocError>
+        requires ready { IsReady self.old }
         requires range { IsCallInRange asked.now.call }
         ensures lines { OnOk result (out.new ≡ out.old ++ spec.at_node self.old asked.now.enclave (spec.call_by self.old asked.now)) }
         ensures after { OnOk result (self.new ≡ spec.after_call self.old asked.now) }
