@@ -26,6 +26,7 @@ use Rattle.enclave_node.proofs.NumberLemmas.{at_numbered, put_numbered, push_num
 
 -- ---- the frames of own pages
 
+-- tests in another order, and in another grouping
 past : (a b c : Bool) → (a || (b || c)) ≡ (b || (a || c))
 past true true c = refl
 past true false c = refl
