@@ -39,6 +39,7 @@ took_lines G x y count =
     let H = after_line G (lines.Took x y count) in
     lines.Took x y count ∷ got_lines H x y (arriving (H.channel x.0 y.0))
 
+-- what waits of the bytes is taken; no delivery takes an end mark yet, as no enclave dies
 abbrev pub deliver_lines : Facts → Enclave → Enclave → ℕ → List Line
 deliver_lines G x y count =
     let waiting = length (waiting_bytes G x.0 y.0) in

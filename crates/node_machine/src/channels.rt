@@ -205,8 +205,8 @@ impl Channels {
         }
     }
 
-    /// Sends a record over a channel, or over none where that has ended. It is spelled in `room` first, whose bytes are lost. For
-    /// want of memory the channels are as before.
+    /// Sends a record over a channel. Nothing goes over one that has ended. The record is spelled in `room` first, whose bytes
+    /// are lost. For want of memory the channels are as before.
     pub fn send(&mut self, hop: Hop, rec: &Record, room: &mut Vec<u8>) -> Result<(), AllocError>
         requires within { spec.IsIn self.old hop }
         requires valid { IsTrue (is_valid rec.now) }
