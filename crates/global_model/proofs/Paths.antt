@@ -1,6 +1,7 @@
 -- The path between two numbers of a tree.
 use Rattle.std.proofs.Common.{suc, zero, ◌≡◌, ◌≢◌, ◌⊎◌, ◌+◌, ◌-◌, ◌<◌, ◌≤◌, ℕ, List, [], ◌∷◌, ◌++◌, length, Option, None, Some, All, not, Bool, true, false, cond, ltb, eqb, refl, sym, ap, ◌∙◌, subst, inl, inr, arith, eqb-true, eq-eqb, ne_eqb, ltb-true, ltb-false, lt-ltb, le-ltb, length-append}
 use Rattle.std.proofs.lemmas.Bool.{and_parts, or_cases, not-true, cases_Bool, cases_eq, cases_lt, cases_order, eqb-false}
+use Rattle.std.specs.List.{AllByRecursion}
 use Rattle.global_model.specs.Facts.{Facts, EnclaveFact, fact_of, has_parent}
 use Rattle.global_model.specs.Channels.{is_child_of, is_neighbour}
 use Rattle.global_model.specs.Flow.{IsTree}
@@ -301,10 +302,19 @@ pub far_stays : (parent parent' : ℕ → ℕ) (born x d : ℕ) → IsRooted par
 far_stays parent parent' born x d tree same from to = ap (λ ws. length ws - 1) (same_path parent parent' born tree same (x + d) x d from to)
 
 -- a path goes over those alone that live, where each of these but the host has a living parent
-pub path_lives : (parent : ℕ → ℕ) (Lives : ℕ → Type 0) → IsRooted parent → ((e : ℕ) → 0 < e → Lives e → Lives (parent e))
-    → (n a b : ℕ) → Lives a → Lives b → All Lives (path_within n parent a b)
-path_lives parent Lives tree up zero a b here there = ?
-path_lives parent Lives tree up (suc n) a b here there = ?
+pub path_lives : (parent : ℕ → ℕ) (lives : ℕ → Bool) → ((e : ℕ) → 0 < e → lives e ≡ true → lives (parent e) ≡ true)
+    → (n a b : ℕ) → lives a ≡ true → lives b ≡ true → AllByRecursion (λ e. lives e ≡ true) (path_within n parent a b)
+path_lives parent lives up zero a b here there = (here, tt)
+path_lives parent lives up (suc n) a b here there = elim (cases_order a b) [
+  | inl is ↦ rw (eq-eqb a b is) (here, tt)
+  | inr (inl under) ↦
+      rw (ne_eqb a b (λ is. omega (arith, is, under)), le-ltb b a (omega (arith, under)))
+      (each-append (λ e. lives e ≡ true) (path_within n parent a (parent b)) (b ∷ [])
+      (path_lives parent lives up n a (parent b) here (up b (omega (arith, under)) there)) (there, tt))
+  | inr (inr over) ↦
+      rw (ne_eqb a b (λ is. omega (arith, is, over)), lt-ltb b a over)
+      (here, path_lives parent lives up n (parent a) b (up a (omega (arith, over)) here) there)
+]
 
 -- ---- by the facts
 
