@@ -20,3 +20,4 @@ pub mod Due
 pub mod Known
 pub mod Place
 pub mod Rest
+pub mod Pauses
