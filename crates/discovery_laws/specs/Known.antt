@@ -1,0 +1,38 @@
+-- What enclaves know of ways, read off the facts.
+use Rattle.std.specs.Prelude.{ℕ, List, drop, Bool, ◌||◌, Option, is_some}
+use Rattle.xm_num.specs.declared.Enclave.{Enclave}
+use Rattle.xm_num.specs.Rows.{at}
+use Rattle.xemem_language.specs.declared.record.Record.{Record}
+use Rattle.global_model.specs.Facts.{Facts, fact_of, is_admitted, is_holder}
+
+-- the neighbour over which the enclave's way to the name server goes
+abbrev pub way_of : Facts → ℕ → Option Enclave
+way_of G e = G.way e
+
+-- the neighbour that asked the enclave for the way and stands at that place, and wasn't answered
+abbrev pub asker_of : Facts → ℕ → ℕ → Option Enclave
+asker_of G e place = at (G.askers e) place
+
+-- the neighbours over which the enclave answers another one, and over which that one lies
+abbrev pub back_of : Facts → ℕ → ℕ → Option Enclave
+back_of G e d = at (G.backs e) d
+
+abbrev pub route_of : Facts → ℕ → ℕ → Option Enclave
+route_of G e d = at (G.routes e) d
+
+abbrev pub holds : Facts → ℕ → Bool
+holds G e = is_holder (G.enclave e)
+
+-- it holds the name server, or knows the way to it
+abbrev pub knows : Facts → ℕ → Bool
+knows G e = holds G e || is_some (way_of G e)
+
+abbrev pub is_admitted_at : Facts → ℕ → Bool
+is_admitted_at G e = is_admitted (G.enclave e)
+
+abbrev pub parent_of : Facts → ℕ → ℕ
+parent_of G e = (fact_of (G.enclave e)).parent.0
+
+-- the records that were sent from one to another and weren't got
+abbrev pub in_flight : Facts → ℕ → ℕ → List Record
+in_flight G x y = drop (G.channel x y).got (G.channel x y).sent

@@ -1,0 +1,6 @@
+//! What discovery does: every enclave learns the way to the name server, is admitted there, and answers over the tree.
+//!
+//! Each law is the contract of a function that does nothing, which a crate above calls to have it.
+#![tactic(auto)]
+
+mod laws;
