@@ -108,7 +108,6 @@ AreProper near journal = EachIs (IsProper near) journal
 -- what is told beside records is proper
 pub proper_tells : (near : ℕ → ℕ → Bool) → MayTell (IsProper near)
 proper_tells near = record {
-  told = λ e d. tt;
   bytes = λ x y at bytes some most. tt;
   settled = λ made. tt;
   waiting = λ made. tt;
@@ -350,13 +349,12 @@ one_got near x y r rs past is old =
     by a b true is here there = let both = and_parts (eqb a x.0) (eqb b y.0) is in here (eqb-true a x.0 both.0) (eqb-true b y.0 both.1)
     by a b false is here there = there
 
-pub got_steps : (near : ℕ → ℕ → Bool) (x y : Enclave) (rs : List Record) (past : List Line) → near y.0 x.0 ≡ true → near x.0 y.0 ≡ true
-    → IsArriving near x.0 y.0 rs (facts_at past)
-    → IsUpTo near x.0 y.0 [] past (got_lines (facts_at past) x y rs)
-got_steps near x y [] past back there old = record { carried = tt; arrives = old }
-got_steps near x y (r ∷ rs) past back there old =
+-- the next record is got and answered
+pub got_record : (near : ℕ → ℕ → Bool) (x y : Enclave) (r : Record) (rs : List Record) (past : List Line) → near y.0 x.0 ≡ true
+    → near x.0 y.0 ≡ true → IsArriving near x.0 y.0 (r ∷ rs) (facts_at past)
+    → IsUpTo near x.0 y.0 rs past (lines.Got x y ∷ record_lines (view_of (facts_at past) y) x r)
+got_record near x y r rs past back there old =
     let G = facts_at past in
-    let own = lines.Got x y ∷ record_lines (view_of G y) x r in
     let valid : AreValid (r ∷ rs)
     = subst AreValid (old.arrives x.0 y.0 ∙ at_pair_same x.0 y.0 (λ none. r ∷ rs) (λ x y. []))
     (valid_arriving (G.channel x.0 y.0) (old.flows x.0 y.0)) in
@@ -365,7 +363,16 @@ got_steps near x y (r ∷ rs) past back there old =
     let answer : IsUpTo near x.0 y.0 rs (lines.Got x y ∷ past) (record_lines (view_of G y) x r)
     = proper_lines near x.0 y.0 rs (record_lines (view_of G y) x r) (lines.Got x y ∷ past)
     (proper_record near G y x r old.known back me valid.0) first.arrives in
-    let one : IsUpTo near x.0 y.0 rs past own = record { carried = (first.carried.0, answer.carried); arrives = answer.arrives } in
+    record { carried = (first.carried.0, answer.carried); arrives = answer.arrives }
+
+pub got_steps : (near : ℕ → ℕ → Bool) (x y : Enclave) (rs : List Record) (past : List Line) → near y.0 x.0 ≡ true → near x.0 y.0 ≡ true
+    → IsArriving near x.0 y.0 rs (facts_at past)
+    → IsUpTo near x.0 y.0 [] past (got_lines (facts_at past) x y rs)
+got_steps near x y [] past back there old = record { carried = tt; arrives = old }
+got_steps near x y (r ∷ rs) past back there old =
+    let G = facts_at past in
+    let own = lines.Got x y ∷ record_lines (view_of G y) x r in
+    let one : IsUpTo near x.0 y.0 rs past own = got_record near x y r rs past back there old in
     let more : IsUpTo near x.0 y.0 [] (onto own past) (got_lines (facts_at (onto own past)) x y rs)
     = got_steps near x y rs (onto own past) back there one.arrives in
     up_to-append near x.0 y.0 rs [] past own (got_lines (after_lines G own) x y rs) one

@@ -50,10 +50,10 @@ counted_late before born some = λ few. absurd (omega (arith, few, some))
 
 -- ---- one command
 
-record IsRun (before : ℕ) (past journal : List Line) : Type 0 where
-  carried : Follows CarriedAt past journal
-  sound : IsSound (facts_at (onto journal past))
-  counted : IsCounted (before + 1) (facts_at (onto journal past)).born
+pub record IsRun (before : ℕ) (past journal : List Line) : Type 0 where
+  pub carried : Follows CarriedAt past journal
+  pub sound : IsSound (facts_at (onto journal past))
+  pub counted : IsCounted (before + 1) (facts_at (onto journal past)).born
 
 -- a command, where one or more stand before it, whose acts are carried where it isn't refused
 with_refusal : (before : ℕ) (c : Command) (past : List Line) → 1 ≤ before → IsSound (facts_at (lines.Do c ∷ past))
@@ -172,7 +172,7 @@ proper_birth near child parent ns heard v me up down known_child known_parent =
     = each_either P ns (lines.Admitted child ∷ []) (lines.Sent child parent (query_of child) ∷ []) (tt, tt)
     ((up, valid_query child known_child), tt) in
     each-append P (told_lines child heard ++ child_lines child parent ns) (adopt_lines v child)
-    (each-append P (told_lines child heard) (child_lines child parent ns) (tells_told P (proper_tells near) child heard) own) asks
+    (each-append P (told_lines child heard) (child_lines child parent ns) (tells_told P child heard (λ d. tt)) own) asks
 
 run_boot : (before : ℕ) (kind : Kind) (parent : Enclave) (blocks : ℕ) (ns : Bool) (past : List Line) → 1 ≤ before → IsSound (facts_at past)
     → IsRun before past (step_lines (facts_at past) (commands.Boot kind parent blocks ns))
@@ -197,7 +197,7 @@ run_boot before kind parent blocks ns past some sound =
 -- ---- deliveries
 
 -- a delivery that isn't refused goes between neighbours
-linked_by : (G : Facts) (x y : Enclave) (count : ℕ) → refusal_of G (commands.Deliver x y count) ≡ None → is_neighbour G x.0 y.0 ≡ true
+pub linked_by : (G : Facts) (x y : Enclave) (count : ℕ) → refusal_of G (commands.Deliver x y count) ≡ None → is_neighbour G x.0 y.0 ≡ true
 linked_by G x y count none =
     let known = is_living_enclave (G.enclave y.0) && was_born G x.0 in
     let apart = not (is_neighbour G x.0 y.0) in
@@ -251,14 +251,14 @@ run_pool before blocks past sound counted first =
       counted = λ few. counted (omega (arith, first));
     }
 
-some_before : (before : ℕ) (built : Bool) → (leb 2 before && built) ≡ true → 1 ≤ before
+pub some_before : (before : ℕ) (built : Bool) → (leb 2 before && built) ≡ true → 1 ≤ before
 some_before before built is = let two : 2 ≤ before = leb-true 2 before (and_parts _ _ is).0 in omega (arith, two)
 
-not_built : (b : Bool) → (b && false) ≡ true → ⊥
+pub not_built : (b : Bool) → (b && false) ≡ true → ⊥
 not_built true is = cc
 not_built false is = cc
 
-run_step : (before : ℕ) (c : Command) (past : List Line) → IsSound (facts_at past) → IsCounted before (facts_at past).born
+pub run_step : (before : ℕ) (c : Command) (past : List Line) → IsSound (facts_at past) → IsCounted before (facts_at past).born
     → may_stand before c ≡ true → IsInRange c → IsRun before past (step_lines (facts_at past) c)
 run_step before (commands.Pool blocks) past sound counted may range = run_pool before blocks past sound counted
     (eqb-true before 0 (and_parts _ _ may).0)
@@ -318,7 +318,7 @@ carried_journal (c ∷ cs) before past sound counted placed =
     }
 
 -- nothing flows before the first command
-no_sound : IsSound no_facts
+pub no_sound : IsSound no_facts
 no_sound =
     let known : AreNear (is_neighbour no_facts) no_facts
     = record { way = λ e x is. cc; askers = λ e. All-nil _; backs = λ e. All-nil _; routes = λ e. All-nil _ } in

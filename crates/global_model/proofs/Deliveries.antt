@@ -19,7 +19,7 @@ use Rattle.global_model.proofs.Tells.{tells_end}
 use Rattle.global_model.proofs.Waiting.{IsWaiting, first_waits, rest_waits}
 
 -- where nothing is to be got, it makes no difference of which channel
-nothing_arrives : (near : ℕ → ℕ → Bool) (x y z w : ℕ) (G : Facts) → IsArriving near x y [] G → IsArriving near z w [] G
+pub nothing_arrives : (near : ℕ → ℕ → Bool) (x y z w : ℕ) (G : Facts) → IsArriving near x y [] G → IsArriving near z w [] G
 nothing_arrives near x y z w G old =
     let none : (a b : ℕ) → arriving (G.channel a b) ≡ []
     = λ a b. old.arrives a b ∙ at_pair_has (λ rs. rs ≡ []) x y (λ none. []) (λ x y. []) a b (λ is_x is_y. refl) refl in
@@ -34,15 +34,15 @@ nothing_arrives near x y z w G old =
     }
 
 -- bytes are taken, and the records that are whole now arrive
-took_up_to : (near : ℕ → ℕ → Bool) (x y : Enclave) (n : ℕ) (past : List Line) → 1 ≤ n → n ≤ length (waiting_bytes (facts_at past) x.0 y.0)
-    → near x.0 y.0 ≡ true → near y.0 x.0 ≡ true
-    → IsArriving near x.0 y.0 [] (facts_at past) → IsUpTo near x.0 y.0 [] past (took_lines (facts_at past) x y n)
-took_up_to near x y n past one within there back old =
+pub took_arriving : (near : ℕ → ℕ → Bool) (x y : Enclave) (n : ℕ) (past : List Line) → n ≤ length (waiting_bytes (facts_at past) x.0 y.0)
+    → near x.0 y.0 ≡ true → IsArriving near x.0 y.0 [] (facts_at past)
+    → IsArriving near x.0 y.0 (arriving ((facts_at (lines.Took x y n ∷ past)).channel x.0 y.0)) (facts_at (lines.Took x y n ∷ past))
+took_arriving near x y n past within there old =
     let G = facts_at past in
     let H = facts_at (lines.Took x y n ∷ past) in
     let whole : arriving (with_taken n (G.channel x.0 y.0)) ≡ arriving (H.channel x.0 y.0)
     = ap arriving (sym (at_pair_same x.0 y.0 (with_taken n) G.channel)) in
-    let start : IsArriving near x.0 y.0 (arriving (H.channel x.0 y.0)) H = record {
+    record {
       tree = record { most = old.tree.most; enclaves = old.tree.enclaves };
       same = old.same;
       known = record { way = old.known.way; askers = old.known.askers; backs = old.known.backs; routes = old.known.routes };
@@ -53,15 +53,22 @@ took_up_to near x y n past one within there back old =
           (at_channel G x.0 y.0 (λ c. arriving (with_taken n c) ≡ arriving (H.channel x.0 y.0)) a b whole) (old.arrives a b);
       apart = λ a b far. at_pair_has (λ channel. channel ≡ no_channel) x.0 y.0 (with_taken n) G.channel a b
           (λ is_x is_y. absurd (not_near near x.0 y.0 a b there far is_x is_y)) (old.apart a b far);
-    } in
-    let rest = got_steps near x y (arriving (H.channel x.0 y.0)) (lines.Took x y n ∷ past) back there start in
-    record { carried = ((one, within), rest.carried); arrives = rest.arrives }
+    }
   where
     by : (G : Facts) (rs : List Record) (a b : ℕ) (t : Bool) → (eqb a x.0 && eqb b y.0) ≡ t
         → (a ≡ x.0 → b ≡ y.0 → arriving (with_taken n (G.channel a b)) ≡ rs) → arriving (G.channel a b) ≡ cond t [] []
         → arriving (cond t (with_taken n (G.channel a b)) (G.channel a b)) ≡ cond t rs []
     by G rs a b true is here there = let both = and_parts (eqb a x.0) (eqb b y.0) is in here (eqb-true a x.0 both.0) (eqb-true b y.0 both.1)
     by G rs a b false is here there = there
+
+took_up_to : (near : ℕ → ℕ → Bool) (x y : Enclave) (n : ℕ) (past : List Line) → 1 ≤ n → n ≤ length (waiting_bytes (facts_at past) x.0 y.0)
+    → near x.0 y.0 ≡ true → near y.0 x.0 ≡ true
+    → IsArriving near x.0 y.0 [] (facts_at past) → IsUpTo near x.0 y.0 [] past (took_lines (facts_at past) x y n)
+took_up_to near x y n past one within there back old =
+    let H = facts_at (lines.Took x y n ∷ past) in
+    let rest = got_steps near x y (arriving (H.channel x.0 y.0)) (lines.Took x y n ∷ past) back there
+    (took_arriving near x y n past within there old) in
+    record { carried = ((one, within), rest.carried); arrives = rest.arrives }
 
 pub deliver_up_to : (near : ℕ → ℕ → Bool) (x y : Enclave) (count : ℕ) (past : List Line) → 1 ≤ count
     → is_neighbour (facts_at past) x.0 y.0 ≡ true → IsArriving near 0 0 [] (facts_at past)

@@ -12,6 +12,7 @@ pub mod Arriving
 pub mod Waiting
 pub mod Deliveries
 pub mod Carried
+pub mod Pauses
 pub mod Settles
 pub mod Rests
 pub mod Runs

@@ -36,7 +36,6 @@ each-weaker P Q h (l ∷ ls) all = (h l all.0, each-weaker P Q h ls all.1)
 -- what is told beside records is plain
 plain_tells : MayTell IsPlain
 plain_tells = record {
-  told = λ e d. tt;
   bytes = λ x y at bytes some most. (some, most);
   settled = λ made. tt;
   waiting = λ made. tt;
@@ -109,7 +108,7 @@ pub plain_birth : (child parent : Enclave) (ns : Bool) (heard : List Enclave) (v
     → ArePlain ((told_lines child heard ++ child_lines child parent ns) ++ adopt_lines v child)
 plain_birth child parent ns heard v =
     plain-append (told_lines child heard ++ child_lines child parent ns) (adopt_lines v child)
-    (plain-append (told_lines child heard) (child_lines child parent ns) (tells_told IsPlain plain_tells child heard)
+    (plain-append (told_lines child heard) (child_lines child parent ns) (tells_told IsPlain child heard (λ d. tt))
     (plain_child child parent ns))
     (plain_adopt v child)
 

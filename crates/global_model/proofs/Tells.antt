@@ -13,9 +13,8 @@ use Rattle.enclave_rules.specs.Steps.{told_lines, route_lines, state_line, state
 use Rattle.global_model.specs.Due.{first_waiting, settle_end}
 use Rattle.global_model.proofs.Writes.{EachIs, each-append}
 
--- the lines that tell of deaths, waiting bytes, ways, blocks and the end of a settle have the property
+-- the lines that tell of waiting bytes, ways, blocks and the end of a settle have the property
 pub record MayTell (P : Line → Type 0) : Type 0 where
-  pub told : (e d : Enclave) → P (lines.Told e d)
   pub bytes : (x y : Enclave) (at : ℕ) (bytes : List ℕ) → 1 ≤ length bytes → length bytes ≤ 32 → P (lines.Bytes x y at bytes)
   pub settled : (made : ℕ) → P (lines.Settled made)
   pub waiting : (made : ℕ) → P (lines.Waiting made)
@@ -27,11 +26,12 @@ pub record MayTell (P : Line → Type 0) : Type 0 where
   pub lent : (b : Block) (e : Enclave) → P (lines.BlockLent b e)
   pub held : (b : Block) (e : Enclave) → P (lines.BlockHeld b e)
 
-module _ (P : Line → Type 0) (may : MayTell P) where
-  pub tells_told : (child : Enclave) (heard : List Enclave) → EachIs P (told_lines child heard)
-  tells_told child [] = tt
-  tells_told child (d ∷ heard) = (may.told child d, tells_told child heard)
+pub tells_told : (P : Line → Type 0) (child : Enclave) (heard : List Enclave) → ((d : Enclave) → P (lines.Told child d))
+    → EachIs P (told_lines child heard)
+tells_told P child [] told = tt
+tells_told P child (d ∷ heard) told = (told d, tells_told P child heard told)
 
+module _ (P : Line → Type 0) (may : MayTell P) where
   pub tells_bytes : (x y : Enclave) (most at : ℕ) (bytes : List ℕ) → EachIs P (bytes_lines x y most at bytes)
   tells_bytes x y zero at bytes = tt
   tells_bytes x y (suc most) at [] = tt

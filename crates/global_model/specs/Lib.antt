@@ -21,3 +21,4 @@ pub mod Due
 pub mod Known
 pub mod Place
 pub mod Rest
+pub mod Pauses

@@ -11,7 +11,7 @@ ghost use Rattle.xemem_wire.specs.Spelling.{spellings_of};
 ghost use Rattle.enclave_rules.specs.View.{View, own_lines, seen_lines, unborn_view, AreOf};
 ghost use Rattle.enclave_rules.specs.Steps.{refusal, host_lines, first_blocks, lines_of_records};
 ghost use Rattle.global_model.specs.Place.{IsPlaced};
-ghost use Rattle.global_model.specs.Facts.{Facts, after_lines, facts_at, facts_after, is_living_enclave};
+ghost use Rattle.global_model.specs.Facts.{Facts, after_lines, facts_at, facts_after, is_living_enclave, no_facts};
 ghost use Rattle.global_model.specs.Channels.{whole_records};
 ghost use Rattle.global_model.specs.Views.{view_of};
 ghost use Rattle.global_model.specs.Known.{IsAnswered};
@@ -22,6 +22,7 @@ ghost use Rattle.global_model.specs.Flow.{IsFlowing};
 ghost use Rattle.global_model.specs.Journals.{do_commands, onto};
 ghost use Rattle.global_model.specs.Carriage.{IsCarried};
 ghost use Rattle.global_model.specs.Rest.{EndsSettle, IsRested};
+ghost use Rattle.global_model.specs.Pauses.{IsInSteps};
 
 use xm_num::Page;
 use xm_num::laws::rows;
@@ -63,6 +64,13 @@ pub fn refusals_come_first()
 pub fn journals_are_carried()
     ensures carried { (commands : List Commands) → IsPlaced commands → IsCarried (journal_of commands) }
     ensures flowing { (commands : List Commands) → IsPlaced commands → IsFlowing (facts_after (journal_of commands)) }
+{}
+
+/// The journal of commands, each of which may stand after those before it, is one in steps: each step may come at the pause before
+/// it, where the enclaves are a tree, their ways name neighbours, and each channel flows. So what holds before the first command
+/// and is kept by each step that may come holds at every pause.
+pub fn journals_are_in_steps()
+    ensures { (commands : List Commands) → IsPlaced commands → IsInSteps no_facts (journal_of commands) }
 {}
 
 /// The records that are whole among the first bytes stay so when more are sent. Once so many of them were got, those

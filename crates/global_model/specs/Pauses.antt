@@ -1,0 +1,120 @@
+-- A journal as steps, between which there are pauses: a line by itself, a birth with all that follows it, the bytes that are taken,
+-- and a record that is got with what its receiver makes of it. So a law that holds at the first pause, and is kept by each step,
+-- holds at every pause, whatever the commands were.
+use Rattle.std.specs.Prelude.{◌≡◌, ◌+◌, ◌<◌, ◌≤◌, ℕ, List, [], ◌∷◌, ◌++◌, length, take, Bool, true, false}
+use Rattle.xm_num.specs.declared.Enclave.{Enclave}
+use Rattle.xm_num.specs.declared.Kind.{Kind}
+use Rattle.xm_num.specs.declared.Block.{Block}
+use Rattle.xemem_language.specs.declared.command.Command.TheVariants as commands
+use Rattle.xemem_language.specs.declared.line.Line.{Line}
+use Rattle.xemem_language.specs.declared.line.Line.TheVariants as lines
+use Rattle.xemem_language.specs.declared.record.Record.{Record}
+use Rattle.enclave_rules.specs.Steps.{adopt_lines, birth_lines, host_lines, record_lines}
+use Rattle.global_model.specs.Channels.{arriving, is_neighbour, waiting_bytes}
+use Rattle.global_model.specs.Facts.{Facts, after_lines, is_living_enclave, no_channel}
+use Rattle.global_model.specs.Flow.{AreWays, IsFlow, IsTree}
+use Rattle.global_model.specs.Space.{free_blocks, unused_frames}
+use Rattle.global_model.specs.Views.{view_of}
+
+pub data Step : Type 0 where
+  Written : (line : Line) → Step
+  Hosts : (ns : Bool) (blocks : List Block) → Step
+  Bears : (child : Enclave) (kind : Kind) (parent : Enclave) (ns : Bool) (blocks : List Block) → Step
+  Takes : (x y : Enclave) (count : ℕ) → Step
+  Handles : (x y : Enclave) (r : Record) → Step
+
+-- the lines of a step, by the facts at the pause before it
+abbrev pub written_by : Facts → Step → List Line
+written_by G (Written line) = line ∷ []
+written_by G (Hosts ns blocks) = host_lines blocks ns
+written_by G (Bears child kind parent ns blocks) =
+    birth_lines child kind parent blocks ns (G.heard parent.0) ++ adopt_lines (view_of G parent) child
+written_by G (Takes x y count) = lines.Took x y count ∷ []
+written_by G (Handles x y r) = lines.Got x y ∷ record_lines (view_of G y) x r
+
+-- the lines of steps, each by the facts after those before it
+abbrev pub written_in : Facts → List Step → List Line
+written_in G [] = []
+written_in G (step ∷ steps) = written_by G step ++ written_in (after_lines G (written_by G step)) steps
+
+-- ---- which steps may come
+
+-- some first ones of them
+pub record AreFirst {A : Type 0} (taken those : List A) : Type 0 where
+  pub count : ℕ
+  pub is : taken ≡ take count those
+
+-- A line may stand by itself where it changes neither the tree nor what goes over channels nor what is known of ways; a pool is
+-- told of before anything is born, and frames that are allocated are the lowest unused ones.
+abbrev pub MayStandAlone : Facts → Line → Type 0
+MayStandAlone G (lines.Do (commands.Pool blocks)) = G.born ≡ 0
+MayStandAlone G (lines.Born e kind parent ns blocks) = ⊥
+MayStandAlone G (lines.Told e of) = ⊥
+MayStandAlone G (lines.Admitted e) = ⊥
+MayStandAlone G (lines.Proc e p uid gid) = (is_living_enclave (G.enclave e.0) ≡ true) × (p.0 ≡ G.started e.0 + 1)
+MayStandAlone G (lines.Alloc e p at frames) = AreFirst frames (unused_frames G e.0)
+MayStandAlone G (lines.Sent x y r) = ⊥
+MayStandAlone G (lines.Took x y count) = ⊥
+MayStandAlone G (lines.Got x y) = ⊥
+MayStandAlone G (lines.Asked e by) = ⊥
+MayStandAlone G (lines.Way e over) = ⊥
+MayStandAlone G (lines.Back e of over) = ⊥
+MayStandAlone G (lines.Route e of over) = ⊥
+MayStandAlone G line = Unit {0}
+
+-- every whole record was got
+abbrev pub AllArrived : Facts → Type 0
+AllArrived G = (x y : ℕ) → arriving (G.channel x y) ≡ []
+
+-- the host is the first to be born
+pub record MayHost (G : Facts) (blocks : List Block) : Type 0 where
+  pub first : G.born ≡ 0
+  pub lent : AreFirst blocks (free_blocks G)
+
+-- a child has the next number and a parent that lives, and the name server where no enclave has it yet
+pub record MayBear (G : Facts) (child parent : Enclave) (ns : Bool) (blocks : List Block) : Type 0 where
+  pub next : child.0 ≡ G.born
+  pub room : G.born < 256
+  pub living : is_living_enclave (G.enclave parent.0) ≡ true
+  pub server : ns ≡ true → G.server ≡ false
+  pub lent : AreFirst blocks (free_blocks G)
+
+-- bytes that wait are taken, of a neighbour's channel
+pub record MayTake (G : Facts) (x y : Enclave) (count : ℕ) : Type 0 where
+  pub near : is_neighbour G x.0 y.0 ≡ true
+  pub some : 1 ≤ count
+  pub within : count ≤ length (waiting_bytes G x.0 y.0)
+
+-- the record is the next that is whole and wasn't got
+pub record MayHandle (G : Facts) (x y : Enclave) (r : Record) : Type 0 where
+  pub near : is_neighbour G x.0 y.0 ≡ true
+  pub others : List Record
+  pub next : arriving (G.channel x.0 y.0) ≡ r ∷ others
+
+abbrev pub MayCome : Facts → Step → Type 0
+MayCome G (Written line) = AllArrived G × MayStandAlone G line
+MayCome G (Hosts ns blocks) = AllArrived G × MayHost G blocks
+MayCome G (Bears child kind parent ns blocks) = AllArrived G × MayBear G child parent ns blocks
+MayCome G (Takes x y count) = AllArrived G × MayTake G x y count
+MayCome G (Handles x y r) = MayHandle G x y r
+
+-- ---- steps
+
+-- at a pause the enclaves are a tree, their ways name neighbours, each channel flows, and nothing was ever sent but between
+-- neighbours
+pub record IsPause (G : Facts) : Type 0 where
+  pub tree : IsTree G
+  pub ways : AreWays G
+  pub flows : (x y : ℕ) → IsFlow (G.channel x y)
+  pub apart : (x y : ℕ) → is_neighbour G x y ≡ false → G.channel x y ≡ no_channel
+
+-- each step may come at the pause before it
+abbrev pub AreSteps : Facts → List Step → Type 0
+AreSteps G [] = Unit {0}
+AreSteps G (step ∷ steps) = IsPause G × MayCome G step × AreSteps (after_lines G (written_by G step)) steps
+
+-- the lines are those of steps, each of which may come
+pub record IsInSteps (G : Facts) (journal : List Line) : Type 0 where
+  pub steps : List Step
+  pub are : AreSteps G steps
+  pub written : journal ≡ written_in G steps
