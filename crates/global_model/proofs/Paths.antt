@@ -1,6 +1,6 @@
 -- The path between two numbers of a tree.
-use Rattle.std.proofs.Common.{suc, zero, ◌≡◌, ◌≢◌, ◌⊎◌, ◌+◌, ◌-◌, ◌<◌, ◌≤◌, ℕ, List, [], ◌∷◌, ◌++◌, length, Option, None, Some, All, not, Bool, true, false, cond, ltb, eqb, refl, sym, ap, ◌∙◌, subst, inl, inr, arith, eqb-true, eq-eqb, ne_eqb, ltb-true, ltb-false, lt-ltb, le-ltb, length-append}
-use Rattle.std.proofs.lemmas.Bool.{and_parts, or_cases, not-true, cases_Bool, cases_eq, cases_lt, cases_order, eqb-false}
+use Rattle.std.proofs.Common.{suc, zero, ◌≡◌, ◌≢◌, ◌⊎◌, ◌+◌, ◌-◌, ◌<◌, ◌≤◌, ℕ, List, [], ◌∷◌, ◌++◌, length, Option, None, Some, not, Bool, true, eqb, refl, sym, ap, ◌∙◌, subst, inl, inr, arith, eqb-true, eq-eqb, ne_eqb, lt-ltb, le-ltb, length-append}
+use Rattle.std.proofs.lemmas.Bool.{and_parts, or_cases, not-true, cases_eq, cases_order, eqb-false}
 use Rattle.std.specs.List.{AllByRecursion}
 use Rattle.global_model.specs.Facts.{Facts, EnclaveFact, fact_of, has_parent}
 use Rattle.global_model.specs.Channels.{is_child_of, is_neighbour}
@@ -194,11 +194,11 @@ near_hop parent zero x d tree le apart =
 near_hop parent (suc n) x d tree le apart = elim (cases_order x d) [
   | inl is ↦ absurd (apart is)
   | inr (inl under) ↦ elim (cases_eq (parent d) x) [
-      | inl is ↦ rw (hop_child parent x d tree under is) (inr (omega (arith, under), is))
-      | inr other ↦
-          let up = tree.lower d (omega (arith, under)) in
-          rw (hop_down parent x d tree under other) (near_hop parent n x (parent d) tree (omega (arith, le, up)) (λ is. other (sym is)))
-    ]
+    | inl is ↦ rw (hop_child parent x d tree under is) (inr (omega (arith, under), is))
+    | inr other ↦
+        let up = tree.lower d (omega (arith, under)) in
+        rw (hop_down parent x d tree under other) (near_hop parent n x (parent d) tree (omega (arith, le, up)) (λ is. other (sym is)))
+  ]
   | inr (inr over) ↦ rw (hop_up parent x d tree over) (inl (omega (arith, over), refl))
 ]
 
@@ -212,11 +212,11 @@ hop_below parent most zero x d tree le from to = elim (cases_order x d) [
 hop_below parent most (suc n) x d tree le from to = elim (cases_order x d) [
   | inl is ↦ let P : ℕ → Type 0 = λ e. hop parent x e < most in subst P is (rw (path_same parent x) from)
   | inr (inl under) ↦ elim (cases_eq (parent d) x) [
-      | inl is ↦ rw (hop_child parent x d tree under is) to
-      | inr other ↦
-          let up = tree.lower d (omega (arith, under)) in
-          rw (hop_down parent x d tree under other) (hop_below parent most n x (parent d) tree (omega (arith, le, up)) from (omega (arith, up, to)))
-    ]
+    | inl is ↦ rw (hop_child parent x d tree under is) to
+    | inr other ↦
+        let up = tree.lower d (omega (arith, under)) in
+        rw (hop_down parent x d tree under other) (hop_below parent most n x (parent d) tree (omega (arith, le, up)) from (omega (arith, up, to)))
+  ]
   | inr (inr over) ↦ rw (hop_up parent x d tree over) (omega (arith, tree.lower x (omega (arith, over)), from))
 ]
 
@@ -228,18 +228,18 @@ path_hops parent zero a b tree le apart =
 path_hops parent (suc n) a b tree le apart = elim (cases_order a b) [
   | inl is ↦ absurd (apart is)
   | inr (inl under) ↦ elim (cases_eq (parent b) a) [
-      | inl is ↦
-          let alone : path parent a (parent b) ≡ a ∷ [] = rw is (path_same parent a) in
-          rw (hop_child parent a b tree under is, path_same parent b, path_down parent a b tree under, alone) refl
-      | inr other ↦
-          let up = tree.lower b (omega (arith, under)) in
-          let below : hop parent a b < b = rw (hop_down parent a b tree under other) (hop_below parent b n a (parent b) tree (omega (arith, le, up)) under up) in
-          let shorter : path parent a (parent b) ≡ a ∷ path parent (hop parent a b) (parent b)
-          = path_hops parent n a (parent b) tree (omega (arith, le, up)) (λ is. other (sym is))
-          ∙ ap (λ c. a ∷ path parent c (parent b)) (sym (hop_down parent a b tree under other)) in
-          path_down parent a b tree under ∙ ap (λ ws. ws ++ b ∷ []) shorter
-          ∙ ap (λ ws. a ∷ ws) (sym (path_down parent (hop parent a b) b tree below))
-    ]
+    | inl is ↦
+        let alone : path parent a (parent b) ≡ a ∷ [] = rw is (path_same parent a) in
+        rw (hop_child parent a b tree under is, path_same parent b, path_down parent a b tree under, alone) refl
+    | inr other ↦
+        let up = tree.lower b (omega (arith, under)) in
+        let below : hop parent a b < b = rw (hop_down parent a b tree under other) (hop_below parent b n a (parent b) tree (omega (arith, le, up)) under up) in
+        let shorter : path parent a (parent b) ≡ a ∷ path parent (hop parent a b) (parent b)
+        = path_hops parent n a (parent b) tree (omega (arith, le, up)) (λ is. other (sym is))
+        ∙ ap (λ c. a ∷ path parent c (parent b)) (sym (hop_down parent a b tree under other)) in
+        path_down parent a b tree under ∙ ap (λ ws. ws ++ b ∷ []) shorter
+        ∙ ap (λ ws. a ∷ ws) (sym (path_down parent (hop parent a b) b tree below))
+  ]
   | inr (inr over) ↦ path_up parent a b tree over ∙ ap (λ c. a ∷ path parent c b) (sym (hop_up parent a b tree over))
 ]
 
@@ -287,9 +287,9 @@ toward_nearer parent born x d y tree toward =
     = path_hops parent d x d tree (omega arith) toward.apart ∙ ap (λ c. x ∷ path parent c d) (sym toward.next) in
     rw longer (omega (arith, some))
 
-pub toward_stays : (parent parent' : ℕ → ℕ) (born born' x d y : ℕ) → IsRooted parent → IsRooted parent' → ((e : ℕ) → 0 < e → e < born → parent' e ≡ parent e)
+pub toward_stays : (parent parent' : ℕ → ℕ) (born born' x d y : ℕ) → IsRooted parent → ((e : ℕ) → 0 < e → e < born → parent' e ≡ parent e)
     → born ≤ born' → IsToward parent born x d y → IsToward parent' born' x d y
-toward_stays parent parent' born born' x d y tree tree' same grows toward = record {
+toward_stays parent parent' born born' x d y tree same grows toward = record {
   from = omega (arith, grows, toward.from);
   to = omega (arith, grows, toward.to);
   over = omega (arith, grows, toward.over);
@@ -301,6 +301,10 @@ pub far_stays : (parent parent' : ℕ → ℕ) (born x d : ℕ) → IsRooted par
     → x < born → d < born → distance parent' x d ≡ distance parent x d
 far_stays parent parent' born x d tree same from to = ap (λ ws. length ws - 1) (same_path parent parent' born tree same (x + d) x d from to)
 
+all-behind : (P : ℕ → Type 0) (ws : List ℕ) (b : ℕ) → AllByRecursion P ws → P b → AllByRecursion P (ws ++ b ∷ [])
+all-behind P [] b all last = (last, tt)
+all-behind P (w ∷ ws) b all last = (all.0, all-behind P ws b all.1 last)
+
 -- a path goes over those alone that live, where each of these but the host has a living parent
 pub path_lives : (parent : ℕ → ℕ) (lives : ℕ → Bool) → ((e : ℕ) → 0 < e → lives e ≡ true → lives (parent e) ≡ true)
     → (n a b : ℕ) → lives a ≡ true → lives b ≡ true → AllByRecursion (λ e. lives e ≡ true) (path_within n parent a b)
@@ -309,8 +313,8 @@ path_lives parent lives up (suc n) a b here there = elim (cases_order a b) [
   | inl is ↦ rw (eq-eqb a b is) (here, tt)
   | inr (inl under) ↦
       rw (ne_eqb a b (λ is. omega (arith, is, under)), le-ltb b a (omega (arith, under)))
-      (each-append (λ e. lives e ≡ true) (path_within n parent a (parent b)) (b ∷ [])
-      (path_lives parent lives up n a (parent b) here (up b (omega (arith, under)) there)) (there, tt))
+      (all-behind (λ e. lives e ≡ true) (path_within n parent a (parent b)) b
+      (path_lives parent lives up n a (parent b) here (up b (omega (arith, under)) there)) there)
   | inr (inr over) ↦
       rw (ne_eqb a b (λ is. omega (arith, is, over)), lt-ltb b a over)
       (here, path_lives parent lives up n (parent a) b (up a (omega (arith, over)) here) there)
@@ -340,3 +344,10 @@ facts_near G x y is = elim (or_cases (is_child_of G x y) (is_child_of G y x) is)
   | inl up ↦ inl (child_facts G x y up)
   | inr down ↦ inr (child_facts G y x down)
 ]
+
+pub path_living : (parent : ℕ → ℕ) (lives : ℕ → Bool) (a b : ℕ) → ((e : ℕ) → 0 < e → lives e ≡ true → lives (parent e) ≡ true)
+    → lives a ≡ true → lives b ≡ true → AllByRecursion (λ e. lives e ≡ true) (path parent a b)
+path_living parent lives a b up here there = path_lives parent lives up (a + b) a b here there
+
+pub path_on : (parent : ℕ → ℕ) (a b : ℕ) → IsRooted parent → a ≢ b → path parent a b ≡ a ∷ path parent (hop parent a b) b
+path_on parent a b tree apart = path_hops parent b a b tree (omega arith) apart
