@@ -1,2 +1,4 @@
 pub mod Stages
 pub mod Unmoved
+pub mod Received
+pub mod Led
