@@ -49,7 +49,7 @@ unmoved-trans G H K d one two = record {
 
 -- ---- its stage stays
 
-answers_stay : (G H : Facts) (d x : ℕ) → ((e : ℕ) → back_of H e d ≡ back_of G e d) → Answers G d x → Answers H d x
+answers_stay : (G H : Facts) (d x : ℕ) → ((e : ℕ) → back_of H e d ≡ back_of G e d) → Answers (back_of G) d x → Answers (back_of H) d x
 answers_stay G H d x same (inl is) = inl is
 answers_stay G H d x same (inr is) = inr (ap is_some (same x) ∙ is)
 

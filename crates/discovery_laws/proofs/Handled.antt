@@ -1,0 +1,132 @@
+-- A register or an admit of d is handled: it comes to the next stage, and is passed on or ends, but isn't dropped.
+use Rattle.std.proofs.Common.{◌≡◌, ◌≢◌, ◌⊎◌, ◌+◌, ◌<◌, ◌≤◌, ℕ, List, [], ◌∷◌, ◌++◌, filter, Bool, true, false, cond, ◌&&◌, ◌||◌, eqb, Option, None, Some, is_some, inl, inr, refl, sym, ap, ◌∙◌, subst, arith}
+use Rattle.std.proofs.lemmas.Bool.{cases_Bool, cases_eq, eqb-true, eq-eqb, ne_eqb, and_parts}
+use Rattle.xm_num.specs.declared.Enclave.{Enclave}
+use Rattle.xm_num.specs.Rows.{at, put}
+use Rattle.xemem_language.specs.declared.record.Record.{Record}
+use Rattle.xemem_language.specs.declared.line.Line.{Line}
+use Rattle.xemem_language.specs.declared.line.Line.TheVariants as lines
+use Rattle.enclave_rules.specs.Steps.{admit_of, drop_lines, passed_lines, record_lines, register_lines, register_of}
+use Rattle.global_model.specs.Facts.{Facts, after_line, after_lines}
+use Rattle.global_model.specs.Tree.{AreNear, IsRooted, IsToward, distance, hop, parent_of}
+use Rattle.global_model.specs.Views.{view_of}
+use Rattle.discovery_laws.specs.Known.{back_of, holds, in_flight, is_admitted_at, knows, route_of, way_of}
+use Rattle.discovery_laws.specs.Laws.{Laws}
+use Rattle.discovery_laws.proofs.Stages.{Stage, Silent, Registering, Admitting, Ready, Answers, MayAnswer, IsBack, IsRoute, IsRegistering, IsAdmitting, IsReady, IsRegistered, IsSilent, IsStaged, about_in, alone_at, is_about, number, under_way}
+use Rattle.discovery_laws.proofs.Unmoved.{IsBounded}
+use Rattle.discovery_laws.proofs.Received.{bounded_got}
+use Rattle.discovery_laws.proofs.Moves.{no_stray, none_left, one_sent, row_cases, row_here, row_more, view_admitted, view_holder, IsThere, is_there}
+use Rattle.discovery_laws.proofs.Led.{IsLed}
+
+-- ---- no turning back
+
+-- of two neighbours y and z, where z isn't next toward d, y is next from z toward it
+pub turned_back : Laws → (parent : ℕ → ℕ) (born y z d x : ℕ) → IsRooted parent → AreNear parent y z → z < born → IsToward parent born y d x → z ≢ x
+    → IsToward parent born z d y
+turned_back laws parent born y z d x rooted near z_born behind apart = elim (laws.tree.sides parent born y z d rooted near behind.from z_born behind.to) [
+  | inl on ↦ absurd (apart (on.next ∙ sym behind.next))
+  | inr back ↦ back
+]
+
+-- and where y is d itself
+pub turned_home : Laws → (parent : ℕ → ℕ) (born d z : ℕ) → IsRooted parent → AreNear parent d z → d < born → z < born → IsToward parent born z d d
+turned_home laws parent born d z rooted near d_born z_born = elim (laws.tree.sides parent born d z d rooted near d_born z_born d_born) [
+  | inl on ↦ absurd (on.apart refl)
+  | inr back ↦ back
+]
+
+-- ---- a register
+
+-- y got the record of d from x, and remembers the way back
+abbrev pub remembered : Facts → Enclave → Enclave → ℕ → Facts
+remembered G x y d = after_line (after_line G (lines.Got x y)) (lines.Back y (number d) x)
+
+-- The register of d came from x to y, and y remembers the way back.
+module _ (laws : Laws) (G : Facts) (x y : Enclave) (d h : ℕ) (rs : List Record) (rooted : IsRooted (parent_of G)) (bounded : IsBounded G)
+    (staged : IsStaged (parent_of G) G.born G d (Registering h x.0 y.0)) (flight : in_flight G x.0 y.0 ≡ register_of (number d) ∷ rs)
+    (last : filter (is_about d) rs ≡ []) where
+  -- none is under way
+  got_register : (a b : ℕ) → about_in (remembered G x y d) d a b ≡ []
+  got_register a b = none_left G x y (register_of (number d)) (register_of (number d)) rs d a b flight last staged.flight
+
+  still_bounded : IsBounded (remembered G x y d)
+  still_bounded = bounded_got G x y (register_of (number d)) rs flight bounded
+
+  still_answers : (e : ℕ) → Answers (back_of G) d e → Answers (back_of (remembered G x y d)) d e
+  still_answers e (inl is) = inl is
+  still_answers e (inr some) = inr (row_more laws.row G.backs y.0 d x e some)
+
+  now_answers : Answers (back_of (remembered G x y d)) d y.0
+  now_answers = inr (ap is_some (row_here laws.row G.backs y.0 d x))
+
+  -- the ways back, at the next stage
+  backs_then : (stage : Stage) → MayAnswer (parent_of G) stage y.0
+      → ((e : ℕ) → distance (parent_of G) y.0 h < distance (parent_of G) e h → MayAnswer (parent_of G) stage e)
+      → (e : ℕ) (z : Enclave) → back_of (remembered G x y d) e d ≡ Some z → IsBack (parent_of G) G.born (back_of (remembered G x y d)) d stage e z.0
+  backs_then stage new old e z is = elim (row_cases laws.row G.backs y.0 d x e z is) [
+    | inl here ↦
+        rw (here.0, ap (λ (w : Enclave). w.0) (sym here.1))
+        (record { toward = staged.at.behind; leads = still_answers x.0 staged.at.answers; may = new })
+    | inr there ↦
+        let was = staged.backs e z there in
+        record { toward = was.toward; leads = still_answers z.0 was.leads; may = old e was.may }
+  ]
+
+  -- nothing is passed back over the enclave from which it came
+  pub ahead_of : (over : Enclave) → IsToward (parent_of G) G.born y.0 h over.0 → over.0 ≢ x.0
+  ahead_of over ahead is =
+      let one = laws.tree.nearer (parent_of G) G.born x.0 h y.0 rooted staged.at.ahead in
+      let two = laws.tree.nearer (parent_of G) G.born y.0 h over.0 rooted ahead in
+      let same : distance (parent_of G) over.0 h ≡ distance (parent_of G) x.0 h = ap (λ e. distance (parent_of G) e h) is in
+      omega (arith, one, two, same)
+
+  -- y passes it on
+  pub passed_on : (over : Enclave) → IsToward (parent_of G) G.born y.0 h over.0 → knows G over.0 ≡ true
+      → IsStaged (parent_of G) G.born (after_line (remembered G x y d) (lines.Sent y over (register_of (number d)))) d (Registering h y.0 over.0)
+  passed_on over ahead knowing =
+      let P = parent_of G in
+      let at = staged.at in
+      let nearer = laws.tree.nearer P G.born y.0 h over.0 rooted ahead in
+      let apart : over.0 ≢ x.0 = ahead_of over ahead in
+      record {
+        flight = λ a b. one_sent (remembered G x y d) y over (register_of (number d)) d a b still_bounded (eq-eqb d d refl) (got_register a b);
+        backs = backs_then (Registering h y.0 over.0) (omega (arith, nearer)) (λ e less. omega (arith, less, nearer));
+        routes = λ e z is. absurd (staged.routes e z is).may;
+        at = record {
+          holder = at.holder;
+          ahead = ahead;
+          behind = turned_back laws P G.born y.0 over.0 d x.0 rooted (laws.tree.beside P G.born y.0 h over.0 rooted ahead) ahead.over at.behind apart;
+          nearer = omega (arith, at.nearer, nearer);
+          answers = now_answers;
+          knowing = knowing;
+          known = at.known;
+          waits = at.waits;
+        };
+      }
+
+  -- y holds the name server, and admits d
+  pub admitted_over : holds G y.0 ≡ true
+      → IsStaged (parent_of G) G.born (after_line (after_line (remembered G x y d) (lines.Route y (number d) x)) (lines.Sent y x (admit_of y (number d)))) d
+      (Admitting y.0 y.0 x.0)
+  admitted_over here =
+      let P = parent_of G in
+      let at = staged.at in
+      let nearer = laws.tree.nearer P G.born y.0 d x.0 rooted at.behind in
+      record {
+        flight = λ a b. one_sent (after_line (remembered G x y d) (lines.Route y (number d) x)) y x (admit_of y (number d)) d a b still_bounded
+            (eq-eqb d d refl) (got_register a b);
+        backs = backs_then (Admitting y.0 y.0 x.0) tt (λ e less. tt);
+        routes = λ e z is. elim (row_cases laws.row G.routes y.0 d x e z is) [
+          | inl there ↦
+              rw (there.0, ap (λ (w : Enclave). w.0) (sym there.1)) (record { toward = at.behind; may = omega (arith, nearer) })
+          | inr there ↦ absurd (staged.routes e z there).may
+        ];
+        at = record {
+          holder = here;
+          ahead = at.behind;
+          nearer = omega (arith, nearer);
+          answers = still_answers x.0 at.answers;
+          known = at.known;
+          waits = at.waits;
+        };
+      }
