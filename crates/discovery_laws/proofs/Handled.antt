@@ -6,7 +6,8 @@ use Rattle.xm_num.specs.Rows.{at, put}
 use Rattle.xemem_language.specs.declared.record.Record.{Record}
 use Rattle.xemem_language.specs.declared.line.Line.{Line}
 use Rattle.xemem_language.specs.declared.line.Line.TheVariants as lines
-use Rattle.enclave_rules.specs.Steps.{admit_of, drop_lines, passed_lines, record_lines, register_lines, register_of}
+use Rattle.enclave_rules.specs.View.{View}
+use Rattle.enclave_rules.specs.Steps.{admit_of, admit_over, admit_to, body_lines, is_stray, drop_lines, passed_lines, record_lines, register_lines, register_of}
 use Rattle.global_model.specs.Facts.{Facts, after_line, after_lines}
 use Rattle.global_model.specs.Tree.{AreNear, IsRooted, IsToward, distance, hop, parent_of}
 use Rattle.global_model.specs.Views.{view_of}
@@ -130,3 +131,50 @@ module _ (laws : Laws) (G : Facts) (x y : Enclave) (d h : ℕ) (rs : List Record
           waits = at.waits;
         };
       }
+
+-- ---- what is made of it
+
+pub record_is : (v : View) (from : Enclave) (r : Record) → is_stray v r ≡ false → record_lines v from r ≡ body_lines v from r r.body
+record_is v from r is = rw is refl
+
+register_here : (v : View) (from : Enclave) (r : Record) → v.holder ≡ true
+    → register_lines v from r ≡ lines.Back v.me r.origin from ∷ lines.Route v.me r.origin from ∷ lines.Sent v.me from (admit_of v.me r.origin) ∷ []
+register_here v from r is = rw is refl
+
+register_on : (v : View) (from over : Enclave) (r : Record) → v.holder ≡ false → v.way ≡ Some over → over.0 ≢ from.0
+    → register_lines v from r ≡ lines.Back v.me r.origin from ∷ lines.Sent v.me over r ∷ []
+register_on v from over r is way apart = rw (is, way, ne_eqb over.0 from.0 apart) refl
+
+-- what is known by an enclave that doesn't hold the name server is its way
+pub way_known : (G : Facts) (e : ℕ) → knows G e ≡ true → holds G e ≡ false → IsThere (way_of G e)
+way_known G e known none = is_there (way_of G e) (sym (rw none refl) ∙ known)
+
+pub register_handled : Laws → (G : Facts) (x y : Enclave) (d h : ℕ) (rs : List Record) → IsLed G → IsRooted (parent_of G) → IsBounded G
+    → IsStaged (parent_of G) G.born G d (Registering h x.0 y.0) → in_flight G x.0 y.0 ≡ register_of (number d) ∷ rs
+    → filter (is_about d) rs ≡ []
+    → IsRegistered (parent_of G) G.born (after_lines G (lines.Got x y ∷ record_lines (view_of G y) x (register_of (number d)))) d
+register_handled laws G x y d h rs led rooted bounded staged flight last =
+    subst P (sym (record_is (view_of G y) x (register_of (number d)) fresh)) (by (holds G y.0) refl)
+  where
+    P : List Line → Type 0
+    P ls = IsRegistered (parent_of G) G.born (after_lines G (lines.Got x y ∷ ls)) d
+
+    fresh : is_stray (view_of G y) (register_of (number d)) ≡ false
+    fresh = no_stray G y (register_of (number d)) (led.quiet y.0) (λ is.
+        let same : distance (parent_of G) d h ≡ distance (parent_of G) y.0 h = ap (λ e. distance (parent_of G) e h) is in
+        let nearer = staged.at.nearer in
+        omega (arith, same, nearer))
+
+    by : (t : Bool) → holds G y.0 ≡ t → P (register_lines (view_of G y) x (register_of (number d)))
+    by true is = subst P (sym (register_here (view_of G y) x (register_of (number d)) (view_holder (G.enclave y.0) ∙ is)))
+        (record { stage = Admitting y.0 y.0 x.0; is = admitted_over laws G x y d h rs rooted bounded staged flight last is })
+    by false is =
+        let found = way_known G y.0 staged.at.knowing is in
+        let over = found.value in
+        let ahead : IsToward (parent_of G) G.born y.0 h over.0 = led.way h y.0 over staged.at.holder found.is in
+        let apart : over.0 ≢ x.0 = ahead_of laws G x y d h rs rooted bounded staged flight last over ahead in
+        subst P (sym (register_on (view_of G y) x over (register_of (number d)) (view_holder (G.enclave y.0) ∙ is) found.is apart))
+        (record {
+          stage = Registering h y.0 over.0;
+          is = passed_on laws G x y d h rs rooted bounded staged flight last over ahead (led.known y.0 over found.is);
+        })

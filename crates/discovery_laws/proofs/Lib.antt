@@ -4,3 +4,5 @@ pub mod Received
 pub mod Led
 pub mod Moves
 pub mod Handled
+pub mod Admitted
+pub mod Begun

@@ -116,7 +116,7 @@ aside_passed v from (Some over) r d other = by (eqb over.0 from.0)
     by true = (tt, tt)
     by false = (other, tt)
 
-aside_told : (v : View) (askers : List (ℕ × Enclave)) (d : ℕ) (more : List Line) → AreAside d more → AreAside d (told_askers v askers ++ more)
+pub aside_told : (v : View) (askers : List (ℕ × Enclave)) (d : ℕ) (more : List Line) → AreAside d more → AreAside d (told_askers v askers ++ more)
 aside_told v [] d more aside = aside
 aside_told v (row ∷ askers) d more aside = (refl, aside_told v askers d more aside)
 
