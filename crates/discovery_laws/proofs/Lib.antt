@@ -6,3 +6,4 @@ pub mod Moves
 pub mod Handled
 pub mod Admitted
 pub mod Begun
+pub mod Trees

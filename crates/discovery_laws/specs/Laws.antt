@@ -4,6 +4,9 @@ use Rattle.xm_num.specs.declared.Enclave.{Enclave}
 use Rattle.xm_num.specs.Rows.{at, put}
 use Rattle.xemem_language.specs.declared.command.Command.{Command}
 use Rattle.xemem_language.specs.declared.line.Line.{Line}
+use Rattle.xemem_language.specs.declared.record.Record.{Record}
+use Rattle.enclave_rules.specs.View.{AreOf, View}
+use Rattle.enclave_rules.specs.Steps.{lines_of_records}
 use Rattle.global_model.specs.Facts.{Facts, facts_after, after_lines, facts_at}
 use Rattle.global_model.specs.Journals.{do_commands, onto}
 use Rattle.global_model.specs.Carriage.{IsCarried}
@@ -25,6 +28,10 @@ pub record JournalLaws : Type 0 where
   pub carried : (commands : List Command) → IsPlaced commands → IsCarried (journal_of commands)
   pub flowing : (commands : List Command) → IsPlaced commands → IsFlowing (facts_after (journal_of commands))
 
+-- what is written for records is at the enclave that got them
+pub record StepLaws : Type 0 where
+  pub own : (v : View) (x : Enclave) (rs : List Record) → AreOf v.me (lines_of_records v x rs)
+
 -- what a table has at a number after a change
 pub record RowLaws : Type 0 where
   pub ways : (table : List (ℕ × Enclave)) (k q : ℕ) (v : Enclave) → at (put table k v) q ≡ (if k == q then Some v else at table q)
@@ -42,5 +49,6 @@ pub record TreeLaws : Type 0 where
 pub record Laws : Type 0 where
   pub past : PastLaws
   pub journal : JournalLaws
+  pub step : StepLaws
   pub row : RowLaws
   pub tree : TreeLaws

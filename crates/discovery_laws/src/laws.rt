@@ -1,7 +1,7 @@
 // Laws of discovery: each is the contract of a function that does nothing, which a crate above calls to have it.
 ghost use Rattle.discovery_laws.specs.Laws.{Laws};
 
-use global_model::{journals_are_carried, journals_grow, pasts_grow, trees_have_paths};
+use global_model::{journals_are_carried, journals_grow, pasts_grow, trees_have_paths, view_step};
 use xm_num::Enclave;
 use xm_num::laws::rows;
 
@@ -13,5 +13,6 @@ fn laws()
     journals_grow();
     journals_are_carried();
     trees_have_paths();
+    view_step();
     rows::<Enclave>();
 }
