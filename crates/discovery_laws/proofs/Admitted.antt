@@ -62,7 +62,7 @@ module _ (laws : Laws) (G : Facts) (x y : Enclave) (d h : ℕ) (rs : List Record
               record { toward = was.toward; may = omega (arith, may, nearer) }
         ];
         at = record {
-          holder = at.holder;
+          from = at.from;
           ahead = toward;
           nearer = omega (arith, nearer, at.nearer);
           answers = back.leads;

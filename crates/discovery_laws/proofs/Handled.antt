@@ -106,10 +106,9 @@ module _ (laws : Laws) (G : Facts) (x y : Enclave) (d h : ℕ) (rs : List Record
       }
 
   -- y holds the name server, and admits d
-  pub admitted_over : holds G y.0 ≡ true
-      → IsStaged (parent_of G) G.born (after_line (after_line (remembered G x y d) (lines.Route y (number d) x)) (lines.Sent y x (admit_of y (number d)))) d
+  pub admitted_over : IsStaged (parent_of G) G.born (after_line (after_line (remembered G x y d) (lines.Route y (number d) x)) (lines.Sent y x (admit_of y (number d)))) d
       (Admitting y.0 y.0 x.0)
-  admitted_over here =
+  admitted_over =
       let P = parent_of G in
       let at = staged.at in
       let nearer = laws.tree.nearer P G.born y.0 d x.0 rooted at.behind in
@@ -123,7 +122,7 @@ module _ (laws : Laws) (G : Facts) (x y : Enclave) (d h : ℕ) (rs : List Record
           | inr there ↦ absurd (staged.routes e z there).may
         ];
         at = record {
-          holder = here;
+          from = at.ahead.over;
           ahead = at.behind;
           nearer = omega (arith, nearer);
           answers = still_answers x.0 at.answers;
@@ -167,7 +166,7 @@ register_handled laws G x y d h rs led rooted bounded staged flight last =
 
     by : (t : Bool) → holds G y.0 ≡ t → P (register_lines (view_of G y) x (register_of (number d)))
     by true is = subst P (sym (register_here (view_of G y) x (register_of (number d)) (view_holder (G.enclave y.0) ∙ is)))
-        (record { stage = Admitting y.0 y.0 x.0; is = admitted_over laws G x y d h rs rooted bounded staged flight last is })
+        (record { stage = Admitting y.0 y.0 x.0; is = admitted_over laws G x y d h rs rooted bounded staged flight last })
     by false is =
         let found = way_known G y.0 staged.at.knowing is in
         let over = found.value in

@@ -7,3 +7,4 @@ pub mod Handled
 pub mod Admitted
 pub mod Begun
 pub mod Trees
+pub mod Registrations

@@ -86,7 +86,7 @@ pub record IsRegistering (parent : ℕ → ℕ) (born : ℕ) (G : Facts) (d h x 
 
 -- the admit goes from x to y, toward d
 pub record IsAdmitting (parent : ℕ → ℕ) (born : ℕ) (G : Facts) (d h x y : ℕ) : Type 0 where
-  pub holder : holds G h ≡ true
+  pub from : h < born
   pub ahead : IsToward parent born x d y
   pub nearer : distance parent y d < distance parent h d
   pub answers : Answers (back_of G) d y

@@ -66,7 +66,7 @@ at_stays parent born G H d (Registering h x y) same at = record {
   waits = same.admitted ∙ at.waits;
 }
 at_stays parent born G H d (Admitting h x y) same at = record {
-  holder = same.holders h at.holder;
+  from = at.from;
   ahead = at.ahead;
   nearer = at.nearer;
   answers = answers_stay G H d y same.backs at.answers;
