@@ -8,3 +8,4 @@ pub mod Admitted
 pub mod Begun
 pub mod Trees
 pub mod Registrations
+pub mod Pausing
