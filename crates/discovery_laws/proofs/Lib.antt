@@ -3,7 +3,7 @@ pub mod Unmoved
 pub mod Received
 pub mod Led
 pub mod Moves
-pub mod Handled
+pub mod Registers
 pub mod Admitted
 pub mod Begun
 pub mod Trees
