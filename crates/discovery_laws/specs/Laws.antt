@@ -2,12 +2,14 @@
 use Rattle.std.specs.Prelude.{◌≡◌, ℕ, List, [], ◌∷◌, ◌++◌, ◌==◌, Some, if◌then◌else◌}
 use Rattle.xm_num.specs.declared.Enclave.{Enclave}
 use Rattle.xm_num.specs.Rows.{at, put}
+use Rattle.xm_num.specs.RowLaws.{RowLaws as TableLaws}
 use Rattle.xemem_language.specs.declared.command.Command.{Command}
 use Rattle.xemem_language.specs.declared.line.Line.{Line}
-use Rattle.global_model.specs.Facts.{Facts, facts_after, after_lines, facts_at}
+use Rattle.global_model.specs.Facts.{Facts, facts_after, after_lines, facts_at, no_facts}
 use Rattle.global_model.specs.Journals.{do_commands, onto}
 use Rattle.global_model.specs.Carriage.{IsCarried}
 use Rattle.global_model.specs.Flow.{IsFlowing}
+use Rattle.global_model.specs.Pauses.{IsInSteps}
 use Rattle.global_model.specs.Place.{IsPlaced}
 use Rattle.global_model.specs.Due.{step_lines, journal_of}
 
@@ -22,6 +24,7 @@ pub record JournalLaws : Type 0 where
   pub more : (commands : List Command) (command : Command) → journal_of (commands ++ command ∷ []) ≡ journal_of commands ++ step_lines (facts_after (journal_of commands)) command
   pub carried : (commands : List Command) → IsPlaced commands → IsCarried (journal_of commands)
   pub flowing : (commands : List Command) → IsPlaced commands → IsFlowing (facts_after (journal_of commands))
+  pub steps : (commands : List Command) → IsPlaced commands → IsInSteps no_facts (journal_of commands)
 
 -- what a table has at a number after a change
 pub record RowLaws : Type 0 where
@@ -31,3 +34,4 @@ pub record Laws : Type 0 where
   pub past : PastLaws
   pub journal : JournalLaws
   pub row : RowLaws
+  pub table : TableLaws Enclave

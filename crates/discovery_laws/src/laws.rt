@@ -1,9 +1,9 @@
 // Laws of discovery: each is the contract of a function that does nothing, which a crate above calls to have it.
 ghost use Rattle.discovery_laws.specs.Laws.{Laws};
 
-use global_model::{journals_are_carried, journals_grow, pasts_grow};
+use global_model::{journals_are_carried, journals_are_in_steps, journals_grow, pasts_grow};
 use xm_num::Enclave;
-use xm_num::laws::rows;
+use xm_num::laws::{row_laws, rows};
 
 // The laws of the crates below, all at once.
 fn laws()
@@ -12,5 +12,7 @@ fn laws()
     pasts_grow();
     journals_grow();
     journals_are_carried();
+    journals_are_in_steps();
     rows::<Enclave>();
+    row_laws::<Enclave>();
 }
