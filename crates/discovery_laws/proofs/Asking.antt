@@ -13,7 +13,8 @@ use Rattle.xemem_language.specs.declared.record.Body.TheVariants as bodies
 use Rattle.xemem_language.specs.declared.line.Line.TheVariants as lines
 use Rattle.global_model.specs.Facts.{Facts, after_line, at_number, with_sent}
 use Rattle.global_model.specs.Channels.{is_neighbour}
-use Rattle.discovery_laws.specs.Known.{holds, in_flight, knows, parent_of, way_of}
+use Rattle.global_model.specs.Tree.{parent_of}
+use Rattle.discovery_laws.specs.Known.{holds, in_flight, knows, way_of}
 use Rattle.discovery_laws.proofs.Flights.{one_if, count, count-append, add, add-turned, pair_has, sent_more, flies_more, sent_within, got_sent, got_within, flies_less}
 
 abbrev pub is_query_body : Body → Bool

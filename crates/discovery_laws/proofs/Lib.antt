@@ -1,2 +1,6 @@
 pub mod Flights
 pub mod Asking
+pub mod Knowing
+pub mod Newborn
+pub mod Stages
+pub mod Unmoved

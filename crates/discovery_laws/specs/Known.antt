@@ -3,7 +3,7 @@ use Rattle.std.specs.Prelude.{ℕ, List, drop, Bool, ◌||◌, Option, is_some}
 use Rattle.xm_num.specs.declared.Enclave.{Enclave}
 use Rattle.xm_num.specs.Rows.{at}
 use Rattle.xemem_language.specs.declared.record.Record.{Record}
-use Rattle.global_model.specs.Facts.{Facts, fact_of, is_admitted, is_holder}
+use Rattle.global_model.specs.Facts.{Facts, is_admitted, is_holder}
 
 -- the neighbour over which the enclave's way to the name server goes
 abbrev pub way_of : Facts → ℕ → Option Enclave
@@ -29,9 +29,6 @@ knows G e = holds G e || is_some (way_of G e)
 
 abbrev pub is_admitted_at : Facts → ℕ → Bool
 is_admitted_at G e = is_admitted (G.enclave e)
-
-abbrev pub parent_of : Facts → ℕ → ℕ
-parent_of G e = (fact_of (G.enclave e)).parent.0
 
 -- the records that were sent from one to another and weren't got
 abbrev pub in_flight : Facts → ℕ → ℕ → List Record

@@ -1,5 +1,5 @@
 -- The laws on which those of discovery rest, as the functions of the crates below ensure them.
-use Rattle.std.specs.Prelude.{◌≡◌, ℕ, List, [], ◌∷◌, ◌++◌, ◌==◌, Some, if◌then◌else◌}
+use Rattle.std.specs.Prelude.{◌≡◌, ◌⊎◌, ◌<◌, ◌≤◌, ◌+◌, true, ℕ, List, [], ◌∷◌, ◌++◌, ◌==◌, Some, if◌then◌else◌}
 use Rattle.xm_num.specs.declared.Enclave.{Enclave}
 use Rattle.xm_num.specs.Rows.{at, put}
 use Rattle.xm_num.specs.RowLaws.{RowLaws as TableLaws}
@@ -8,8 +8,10 @@ use Rattle.xemem_language.specs.declared.line.Line.{Line}
 use Rattle.global_model.specs.Facts.{Facts, facts_after, after_lines, facts_at, no_facts}
 use Rattle.global_model.specs.Journals.{do_commands, onto}
 use Rattle.global_model.specs.Carriage.{IsCarried}
-use Rattle.global_model.specs.Flow.{IsFlowing}
+use Rattle.global_model.specs.Flow.{IsFlowing, IsTree}
 use Rattle.global_model.specs.Pauses.{IsInSteps}
+use Rattle.global_model.specs.Channels.{is_neighbour}
+use Rattle.global_model.specs.Tree.{IsRooted, AreNear, IsToward, distance, parent_of}
 use Rattle.global_model.specs.Place.{IsPlaced}
 use Rattle.global_model.specs.Due.{step_lines, journal_of}
 
@@ -30,8 +32,19 @@ pub record JournalLaws : Type 0 where
 pub record RowLaws : Type 0 where
   pub ways : (table : List (ℕ × Enclave)) (k q : ℕ) (v : Enclave) → at (put table k v) q ≡ (if k == q then Some v else at table q)
 
+-- paths in a tree
+pub record TreeLaws : Type 0 where
+  pub rooted : (G : Facts) → IsTree G → IsRooted (parent_of G)
+  pub near : (G : Facts) (x y : ℕ) → is_neighbour G x y ≡ true → AreNear (parent_of G) x y
+  pub beside : (parent : ℕ → ℕ) (born x d y : ℕ) → IsRooted parent → IsToward parent born x d y → AreNear parent x y
+  pub nearer : (parent : ℕ → ℕ) (born x d y : ℕ) → IsRooted parent → IsToward parent born x d y → distance parent x d ≡ distance parent y d + 1
+  pub sides : (parent : ℕ → ℕ) (born x y d : ℕ) → IsRooted parent → AreNear parent x y → x < born → y < born → d < born → IsToward parent born x d y ⊎ IsToward parent born y d x
+  pub stays : (parent later : ℕ → ℕ) (born more x d y : ℕ) → IsRooted parent → ((e : ℕ) → 0 < e → e < born → later e ≡ parent e) → born ≤ more → IsToward parent born x d y → IsToward later more x d y
+  pub far : (parent later : ℕ → ℕ) (born x d : ℕ) → IsRooted parent → ((e : ℕ) → 0 < e → e < born → later e ≡ parent e) → x < born → d < born → distance later x d ≡ distance parent x d
+
 pub record Laws : Type 0 where
   pub past : PastLaws
   pub journal : JournalLaws
   pub row : RowLaws
   pub table : TableLaws Enclave
+  pub tree : TreeLaws

@@ -1,6 +1,7 @@
 pub mod Pasts
 pub mod Flow
 pub mod Tree
+pub mod Paths
 pub mod Ways
 pub mod Writes
 pub mod Tells

@@ -16,6 +16,7 @@ pub mod Channels
 pub mod Space
 pub mod Refusals
 pub mod Flow
+pub mod Tree
 pub mod Due
 pub mod Known
 pub mod Place

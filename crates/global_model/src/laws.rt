@@ -1,5 +1,6 @@
 // Laws of the definitions: each is the contract of a function that does nothing, which a crate above calls to have it.
-ghost use Rattle.std.specs.Prelude.{◌≡◌, ◌≢◌, ◌≤◌, ◌-◌, ℕ, List, [], ◌∷◌, ◌++◌, length, take, drop, Bool, true, false, None, nat_lt, if◌then◌else◌, Some};
+ghost use Rattle.std.specs.Prelude.{◌≡◌, ◌≢◌, ◌⊎◌, ◌≤◌, ◌<◌, ◌+◌, ◌-◌, ℕ, List, [], ◌∷◌, ◌++◌, length, take, drop, Bool, true, false, None, nat_lt, if◌then◌else◌, Some};
+ghost use Rattle.std.specs.List.{AllByRecursion};
 ghost use Rattle.xm_num.specs.declared.Enclave.{Enclave as Enclaves};
 ghost use Rattle.xm_num.specs.declared.Cause.{Cause as Causes};
 ghost use Rattle.xm_num.specs.declared.Cause.TheVariants as causes;
@@ -12,13 +13,14 @@ ghost use Rattle.enclave_rules.specs.View.{View, own_lines, seen_lines, unborn_v
 ghost use Rattle.enclave_rules.specs.Steps.{refusal, host_lines, first_blocks, lines_of_records};
 ghost use Rattle.global_model.specs.Place.{IsPlaced};
 ghost use Rattle.global_model.specs.Facts.{Facts, after_lines, facts_at, facts_after, is_living_enclave, no_facts};
-ghost use Rattle.global_model.specs.Channels.{whole_records};
+ghost use Rattle.global_model.specs.Channels.{is_neighbour, whole_records};
 ghost use Rattle.global_model.specs.Views.{view_of};
 ghost use Rattle.global_model.specs.Known.{IsAnswered};
 ghost use Rattle.global_model.specs.Due.{got_lines, deliver_lines, next_rest, first_waiting, acts_of, command_lines, journal_of, step_lines};
 ghost use Rattle.global_model.specs.Refusals.{Condition, when, first_cause};
 ghost use Rattle.global_model.specs.Plain.{ArePlain, AreActs, IsQuiet, IsBirth};
-ghost use Rattle.global_model.specs.Flow.{IsFlowing};
+ghost use Rattle.global_model.specs.Flow.{IsFlowing, IsTree};
+ghost use Rattle.global_model.specs.Tree.{IsRooted, AreNear, IsToward, path, hop, distance, parent_of};
 ghost use Rattle.global_model.specs.Journals.{do_commands, onto};
 ghost use Rattle.global_model.specs.Carriage.{IsCarried};
 ghost use Rattle.global_model.specs.Rest.{EndsSettle, IsRested};
@@ -71,6 +73,29 @@ pub fn journals_are_carried()
 /// and is kept by each step that may come holds at every pause.
 pub fn journals_are_in_steps()
     ensures { (commands : List Commands) → IsPlaced commands → IsInSteps no_facts (journal_of commands) }
+{}
+
+/// In a tree the path from one to another begins with the first, and goes on as the path from the neighbour behind it, which is nearer
+/// to the other end; so it names none twice. Of two neighbours one is next from the other to any third. What is born later changes
+/// none of it, and a path goes over those alone that live where its ends do.
+pub fn trees_have_paths()
+    ensures rooted { (G : Facts) → IsTree G → IsRooted (parent_of G) }
+    ensures near { (G : Facts) (x y : ℕ) → is_neighbour G x y ≡ true → AreNear (parent_of G) x y }
+    ensures same { (parent : ℕ → ℕ) (a : ℕ) → path parent a a ≡ a ∷ [] }
+    ensures hops { (parent : ℕ → ℕ) (a b : ℕ) → IsRooted parent → a ≢ b → path parent a b ≡ a ∷ path parent (hop parent a b) b }
+    ensures toward { (parent : ℕ → ℕ) (born x d : ℕ) → IsRooted parent → x < born → d < born → x ≢ d
+        → IsToward parent born x d (hop parent x d) }
+    ensures beside { (parent : ℕ → ℕ) (born x d y : ℕ) → IsRooted parent → IsToward parent born x d y → AreNear parent x y }
+    ensures nearer { (parent : ℕ → ℕ) (born x d y : ℕ) → IsRooted parent → IsToward parent born x d y
+        → distance parent x d ≡ distance parent y d + 1 }
+    ensures sides { (parent : ℕ → ℕ) (born x y d : ℕ) → IsRooted parent → AreNear parent x y → x < born → y < born → d < born
+        → IsToward parent born x d y ⊎ IsToward parent born y d x }
+    ensures stays { (parent later : ℕ → ℕ) (born more x d y : ℕ) → IsRooted parent
+        → ((e : ℕ) → 0 < e → e < born → later e ≡ parent e) → born ≤ more → IsToward parent born x d y → IsToward later more x d y }
+    ensures far { (parent later : ℕ → ℕ) (born x d : ℕ) → IsRooted parent → ((e : ℕ) → 0 < e → e < born → later e ≡ parent e)
+        → x < born → d < born → distance later x d ≡ distance parent x d }
+    ensures lives { (parent : ℕ → ℕ) (lives : ℕ → Bool) (a b : ℕ) → ((e : ℕ) → 0 < e → lives e ≡ true → lives (parent e) ≡ true)
+        → lives a ≡ true → lives b ≡ true → AllByRecursion (λ e. lives e ≡ true) (path parent a b) }
 {}
 
 /// The records that are whole among the first bytes stay so when more are sent. Once so many of them were got, those
