@@ -2,5 +2,6 @@ pub mod Flights
 pub mod Asking
 pub mod Knowing
 pub mod Newborn
+pub mod Calm
 pub mod Stages
 pub mod Unmoved

@@ -245,18 +245,19 @@ module _ (G : Facts) (child parent : Enclave) (kind : Kind) (ns : Bool) (blocks 
 
   -- where the two are to ask each other for the way, if they don't know it
   pub counted_born : (owed : ℕ → ℕ → ℕ) → ((x y : ℕ) → is_neighbour G x y ≡ false → G.channel x y ≡ no_channel)
+      → ((a b : ℕ) → owed a b ≤ 1)
       → ((a b : ℕ) → owed a b ≤ add true parent.0 child.0 a b + add true child.0 parent.0 a b)
-      → 1 ≤ one_if ns + owed parent.0 child.0 → 1 ≤ one_if (knows G parent.0) + owed child.0 parent.0
-      → parent.0 < child.0
+      → (is_neighbour born child.0 parent.0 ≡ true → 1 ≤ one_if ns + owed parent.0 child.0)
+      → (is_neighbour born parent.0 child.0 ≡ true → 1 ≤ one_if (knows G parent.0) + owed child.0 parent.0)
       → IsCounted (λ a b. 0) (knows G) G → IsCounted owed (knows born) born
-  counted_born owed apart most up down above old = record {
+  counted_born owed apart one most up down old = record {
     within = old.within;
     ascends = old.ascends;
     keyed = λ e k x is. by_key e k x is (eqb e child.0) refl;
     still = λ e k is. by_still e k is (eqb e child.0) refl;
     asks = old.asks;
     once = λ a b. by_pair a b (eqb a parent.0 && eqb b child.0) (eqb a child.0 && eqb b parent.0) refl refl;
-    asked = λ a b near. by_near a b (near_split a b near);
+    asked = λ a b near. by_near a b near (near_split a b near);
   }
     where
       by_pair : (a b : ℕ) (s t : Bool) → (eqb a parent.0 && eqb b child.0) ≡ s → (eqb a child.0 && eqb b parent.0) ≡ t
@@ -268,38 +269,33 @@ module _ (G : Facts) (child parent : Enclave) (kind : Kind) (ns : Bool) (blocks 
           let heres : heres_sent G a b ≡ 0 = (λ i. heres_sent G a (b_is i)) ∙ ap (λ c. count is_here c.sent) (apart a child.0 (far_down a)) in
           let queries : queries_flying G b a ≡ 0 = (λ i. queries_flying G (b_is i) a) ∙ ap (λ c. count is_query (drop c.got c.sent)) (apart child.0 a (far_up a)) in
           let kept : one_if (remembers born a b) ≡ 0 = ap one_if (same_remembers a b ∙ ap (remembers G a) b_is ∙ unasked old a) in
-          let other : eqb a child.0 ≡ false = ne_eqb a child.0 (λ same. omega (arith, same, a_is, above)) in
-          let away : add true child.0 parent.0 a b ≡ 0 = ap (λ q. one_if (q && eqb b parent.0)) other in
-          let one : add true parent.0 child.0 a b ≡ 1 = ap one_if first in
-          omega (arith, heres, queries, kept, most a b, away, one)
+          omega (arith, heres, queries, kept, one a b)
       by_pair a b false true first second =
           let both = and_parts (eqb a child.0) (eqb b parent.0) second in
           let a_is = eqb-true a child.0 both.0 in
           let heres : heres_sent G a b ≡ 0 = (λ i. heres_sent G (a_is i) b) ∙ ap (λ c. count is_here c.sent) (apart child.0 b (far_up b)) in
           let queries : queries_flying G b a ≡ 0 = (λ i. queries_flying G b (a_is i)) ∙ ap (λ c. count is_query (drop c.got c.sent)) (apart b child.0 (far_down b)) in
           let kept : one_if (remembers born a b) ≡ 0 = ap one_if (same_remembers a b ∙ ap (λ n. remembers G n b) a_is ∙ ap is_some (no_asker (place (parent_of G child.0) b))) in
-          let none : add true parent.0 child.0 a b ≡ 0 = ap one_if first in
-          let one : add true child.0 parent.0 a b ≡ 1 = ap one_if second in
-          omega (arith, heres, queries, kept, most a b, none, one)
+          omega (arith, heres, queries, kept, one a b)
       by_pair a b false false first second =
           let none : add true parent.0 child.0 a b ≡ 0 = ap one_if first in
           let away : add true child.0 parent.0 a b ≡ 0 = ap one_if second in
           let kept : one_if (remembers born a b) ≡ one_if (remembers G a b) = ap one_if (same_remembers a b) in
           omega (arith, none, away, kept, most a b, old.once a b)
 
-      by_near : (a b : ℕ) → Near G child.0 parent.0 a b
+      by_near : (a b : ℕ) → is_neighbour born a b ≡ true → Near G child.0 parent.0 a b
           → 1 ≤ one_if (knows born a) + one_if (remembers born b a) + owed b a + queries_flying G a b + heres_flying G b a
-      by_near a b (Before near) =
+      by_near a b is (Before near) =
           let kept : one_if (remembers born b a) ≡ one_if (remembers G b a) = ap one_if (same_remembers b a) in
           omega (arith, kept, more_know a, old.asked a b near)
-      by_near a b (Up a_is b_is) =
+      by_near a b is (Up a_is b_is) =
           let knowing : one_if (knows born a) ≡ one_if ns = ap one_if (ap (knows born) a_is ∙ born_knows) in
           let owes : owed b a ≡ owed parent.0 child.0 = λ i. owed (b_is i) (a_is i) in
-          omega (arith, knowing, owes, up)
-      by_near a b (Down a_is b_is) =
+          omega (arith, knowing, owes, up ((λ i. is_neighbour born (sym a_is i) (sym b_is i)) ∙ is))
+      by_near a b is (Down a_is b_is) =
           let knowing : one_if (knows G a) ≡ one_if (knows G parent.0) = ap (λ n. one_if (knows G n)) a_is in
           let owes : owed b a ≡ owed child.0 parent.0 = λ i. owed (b_is i) (a_is i) in
-          omega (arith, knowing, more_know a, owes, down)
+          omega (arith, knowing, more_know a, owes, down ((λ i. is_neighbour born (sym a_is i) (sym b_is i)) ∙ is))
 
       by_key : (e k : ℕ) (x : Enclave) → at (G.askers e) k ≡ Some x → (t : Bool) → eqb e child.0 ≡ t → k ≡ place (parent_of born e) x.0
       by_key e k x is true same =
