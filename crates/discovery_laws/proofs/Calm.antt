@@ -31,6 +31,19 @@ counted_knowing owed knowing later G grows old = record {
   asked = λ a b near. omega (arith, grows a, old.asked a b near);
 }
 
+-- the same is owed
+pub counted_owed : (owed left : ℕ → ℕ → ℕ) (knowing : ℕ → Bool) (G : Facts) → ((a b : ℕ) → owed a b ≡ left a b)
+    → IsCounted owed knowing G → IsCounted left knowing G
+counted_owed owed left knowing G same old = record {
+  within = old.within;
+  ascends = old.ascends;
+  keyed = old.keyed;
+  still = old.still;
+  asks = old.asks;
+  once = λ a b. omega (arith, same a b, old.once a b);
+  asked = λ a b near. omega (arith, same b a, old.asked a b near);
+}
+
 pub record IsAsking (owed : ℕ → ℕ → ℕ) (G : Facts) : Type 0 where
   pub counted : IsCounted owed (knows G) G
   pub known : IsKnown G
