@@ -52,7 +52,7 @@ pub handled_first : (G : Facts) (x y : Enclave) (r : Record) → MayHandle G x y
     → IsFirst (G.channel x.0 y.0).sent (G.channel x.0 y.0).got r
 handled_first G x y r may = whole_first (G.channel x.0 y.0).sent (G.channel x.0 y.0).taken (G.channel x.0 y.0).got r may.others may.next
 
-first_has : (P : Record → Type 0) (rs : List Record) (n : ℕ) (r : Record) (behind : List Record) → AllByRecursion P rs → drop n rs ≡ r ∷ behind → P r
+pub first_has : (P : Record → Type 0) (rs : List Record) (n : ℕ) (r : Record) (behind : List Record) → AllByRecursion P rs → drop n rs ≡ r ∷ behind → P r
 first_has P [] zero r behind all is = absurd (cc)
 first_has P [] (suc n) r behind all is = absurd (cc)
 first_has P (s ∷ rs) zero r behind all is = let same : s ≡ r = cc in subst P same all.0
@@ -117,7 +117,7 @@ calm_body v from r calm bodies.Register is = calm_register v from r calm
 calm_body v from r calm bodies.Admit is = calm_admit v from r r.dest calm
 calm_body v from r calm body is = (tt, tt)
 
-calm_record : (v : View) (from : Enclave) (r : Record) → (is_query r || is_here r) ≡ false → AreCalm (record_lines v from r)
+pub calm_record : (v : View) (from : Enclave) (r : Record) → (is_query r || is_here r) ≡ false → AreCalm (record_lines v from r)
 calm_record v from r calm = calm_either (is_stray v r) (drop_lines v) (body_lines v from r r.body) (tt, tt) (calm_body v from r calm r.body calm)
 
 -- ---- what a step leaves
@@ -130,7 +130,7 @@ module _ (laws : TreeLaws) (G : Facts) (x y : Enclave) (r : Record) (behind : Li
   got = after_line G (lines.Got x y)
 
   -- a record of another kind, or a here where the way is known
-  handles_calm : is_query r ≡ false → (is_here r ≡ true → knows G y.0 ≡ true) → (ls : List Line) → AreCalm ls → IsAsking none_owed G
+  pub handles_calm : is_query r ≡ false → (is_here r ≡ true → knows G y.0 ≡ true) → (ls : List Line) → AreCalm ls → IsAsking none_owed G
       → IsAsking none_owed (after_lines got ls)
   handles_calm query here ls calm old = calm_lines laws none_owed ls got calm (record {
     counted = counted_got none_owed none_owed (knows G) (knows G) G x y r behind next
@@ -144,7 +144,7 @@ module _ (laws : TreeLaws) (G : Facts) (x y : Enclave) (r : Record) (behind : Li
   abbrev asked_owed : ℕ → ℕ → ℕ
   asked_owed a b = add true y.0 x.0 a b
 
-  handles_query : (table : RowLaws Enclave) → is_query r ≡ true → is_here r ≡ false → IsAsking none_owed G → (t : Bool) → knows G y.0 ≡ t
+  pub handles_query : (table : RowLaws Enclave) → is_query r ≡ true → is_here r ≡ false → IsAsking none_owed G → (t : Bool) → knows G y.0 ≡ t
       → IsAsking none_owed (after_lines got (cond t (lines.Sent y x (here_of y) ∷ []) (lines.Asked y x ∷ [])))
   handles_query table query here old t is = by t is
     where
@@ -257,12 +257,12 @@ some_holder : (fact : Option EnclaveFact) → is_holder fact ≡ true → is_som
 some_holder None is = absurd (cc)
 some_holder (Some fact) is = refl
 
-holder_born : (G : Facts) (h : ℕ) → IsTree G → holds G h ≡ true → h < G.born
+pub holder_born : (G : Facts) (h : ℕ) → IsTree G → holds G h ≡ true → h < G.born
 holder_born G h tree is = ltb-true h G.born (sym (tree.enclaves h).known ∙ some_holder (G.enclave h) is)
 
 -- where a neighbour knows the way, its way doesn't go over one that doesn't know it; so that one's way goes over the neighbour
 module _ (laws : TreeLaws) (G : Facts) (x y : Enclave) (tree : IsTree G) (near : is_neighbour G x.0 y.0 ≡ true) (old : IsAsking none_owed G) where
-  over_neighbour : knows G x.0 ≡ true → knows G y.0 ≡ false → (h : ℕ) → holds G h ≡ true → IsToward (parent_of G) G.born y.0 h x.0
+  pub over_neighbour : knows G x.0 ≡ true → knows G y.0 ≡ false → (h : ℕ) → holds G h ≡ true → IsToward (parent_of G) G.born y.0 h x.0
   over_neighbour knowing unknowing h is = elim (laws.sides (parent_of G) G.born x.0 y.0 h old.rooted (laws.near G x.0 y.0 near)
       (near_born G x.0 y.0 tree near) (near_born G y.0 x.0 tree (near_turned G x.0 y.0 near)) (holder_born G h tree is)) [
     | inl away ↦ absurd (back away (way_of G x.0) refl)
@@ -283,7 +283,7 @@ module _ (laws : TreeLaws) (G : Facts) (x y : Enclave) (tree : IsTree G) (near :
           let clash : true ≡ false = sym (old.known.over x.0 over found) ∙ ap (knows G) same ∙ unknowing in
           cc
 
-  handles_here : (past : PastLaws) (table : RowLaws Enclave) (r : Record) (behind : List Record) → in_flight G x.0 y.0 ≡ r ∷ behind
+  pub handles_here : (past : PastLaws) (table : RowLaws Enclave) (r : Record) (behind : List Record) → in_flight G x.0 y.0 ≡ r ∷ behind
       → is_here r ≡ true → is_query r ≡ false → knows G y.0 ≡ false
       → IsAsking none_owed (after_lines G (lines.Got x y ∷ lines.Way y x
       ∷ told_askers (view_of G y) (less (G.askers y.0) (place (parent_of G y.0) x.0)) ++ lines.Sent y x (register_of y) ∷ []))

@@ -4,5 +4,7 @@ pub mod Knowing
 pub mod Newborn
 pub mod Calm
 pub mod Handled
+pub mod Boots
+pub mod Asked
 pub mod Stages
 pub mod Unmoved

@@ -229,14 +229,14 @@ module _ (G : Facts) (child parent : Enclave) (kind : Kind) (ns : Bool) (blocks 
       by true is = let one : one_if (knows born e) ≡ 1 = ap one_if (still_knows e is) in omega (arith, one)
       by false is = omega arith
 
-  far_up : (x : ℕ) → is_neighbour G child.0 x ≡ false
+  pub far_up : (x : ℕ) → is_neighbour G child.0 x ≡ false
   far_up x = by (is_neighbour G child.0 x) refl
     where
       by : (t : Bool) → is_neighbour G child.0 x ≡ t → t ≡ false
       by true is = absurd (far x is)
       by false is = refl
 
-  far_down : (x : ℕ) → is_neighbour G x child.0 ≡ false
+  pub far_down : (x : ℕ) → is_neighbour G x child.0 ≡ false
   far_down x = by (is_neighbour G x child.0) refl
     where
       by : (t : Bool) → is_neighbour G x child.0 ≡ t → t ≡ false
