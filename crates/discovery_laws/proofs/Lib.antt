@@ -1,3 +1,11 @@
+pub mod Flights
+pub mod Asking
+pub mod Knowing
+pub mod Newborn
+pub mod Calm
+pub mod Handled
+pub mod Boots
+pub mod Asked
 pub mod Stages
 pub mod Unmoved
 pub mod Received

@@ -2,15 +2,17 @@
 use Rattle.std.specs.Prelude.{◌≡◌, ◌⊎◌, ◌<◌, ◌≤◌, ◌+◌, true, ℕ, List, [], ◌∷◌, ◌++◌, ◌==◌, Some, if◌then◌else◌}
 use Rattle.xm_num.specs.declared.Enclave.{Enclave}
 use Rattle.xm_num.specs.Rows.{at, put}
+use Rattle.xm_num.specs.RowLaws.{RowLaws as TableLaws}
 use Rattle.xemem_language.specs.declared.command.Command.{Command}
 use Rattle.xemem_language.specs.declared.line.Line.{Line}
 use Rattle.xemem_language.specs.declared.record.Record.{Record}
 use Rattle.enclave_rules.specs.View.{AreOf, View}
 use Rattle.enclave_rules.specs.Steps.{lines_of_records}
-use Rattle.global_model.specs.Facts.{Facts, facts_after, after_lines, facts_at}
+use Rattle.global_model.specs.Facts.{Facts, facts_after, after_lines, facts_at, no_facts}
 use Rattle.global_model.specs.Journals.{do_commands, onto}
 use Rattle.global_model.specs.Carriage.{IsCarried}
 use Rattle.global_model.specs.Flow.{IsFlowing, IsTree}
+use Rattle.global_model.specs.Pauses.{IsInSteps}
 use Rattle.global_model.specs.Channels.{is_neighbour}
 use Rattle.global_model.specs.Tree.{IsRooted, AreNear, IsToward, distance, parent_of}
 use Rattle.global_model.specs.Place.{IsPlaced}
@@ -27,6 +29,7 @@ pub record JournalLaws : Type 0 where
   pub more : (commands : List Command) (command : Command) → journal_of (commands ++ command ∷ []) ≡ journal_of commands ++ step_lines (facts_after (journal_of commands)) command
   pub carried : (commands : List Command) → IsPlaced commands → IsCarried (journal_of commands)
   pub flowing : (commands : List Command) → IsPlaced commands → IsFlowing (facts_after (journal_of commands))
+  pub steps : (commands : List Command) → IsPlaced commands → IsInSteps no_facts (journal_of commands)
 
 -- what is written for records is at the enclave that got them
 pub record StepLaws : Type 0 where
@@ -51,4 +54,5 @@ pub record Laws : Type 0 where
   pub journal : JournalLaws
   pub step : StepLaws
   pub row : RowLaws
+  pub table : TableLaws Enclave
   pub tree : TreeLaws
