@@ -17,3 +17,4 @@ pub mod Begun
 pub mod Trees
 pub mod Registrations
 pub mod Pausing
+pub mod Marks

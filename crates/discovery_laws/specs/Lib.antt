@@ -1,2 +1,3 @@
 pub mod Known
+pub mod Once
 pub mod Laws
