@@ -15,8 +15,9 @@ use Rattle.discovery_laws.specs.Known.{back_of, in_flight, is_admitted_at, route
 use Rattle.discovery_laws.specs.Laws.{RowLaws}
 use Rattle.discovery_laws.proofs.Flights.{count, count-append}
 use Rattle.discovery_laws.proofs.Moves.{row_more}
-use Rattle.discovery_laws.proofs.Trees.{AreBarren, IsBarren}
-use Rattle.discovery_laws.proofs.Unmoved.{IsBounded}
+use Rattle.global_model.specs.Tree.{parent_of}
+use Rattle.discovery_laws.proofs.Stages.{IsRegistered}
+use Rattle.discovery_laws.proofs.Unmoved.{AreCalm, IsBounded, IsCalm, bounded_line}
 
 -- ---- marks
 
@@ -122,42 +123,48 @@ some_row rows f e of over a d is = by (eqb a e) refl
 same_got : (G : Facts) (test : Record → Bool) (a b : ℕ) → count test (got_of (G.channel a b)) ≤ count test (got_of (G.channel a b))
 same_got G test a b = omega arith
 
-pub kept_line : RowLaws → (G : Facts) (line : Line) → IsBarren line → IsBounded G → IsKept G (after_line G line)
-kept_line rows G (lines.Born e kind parent ns blocks) barren bounded = absurd barren
-kept_line rows G (lines.Back e of over) barren bounded = record {
+pub kept_line : RowLaws → (G : Facts) (line : Line) → IsCalm line → IsBounded G → IsKept G (after_line G line)
+kept_line rows G (lines.Born e kind parent ns blocks) calm bounded = absurd calm
+kept_line rows G (lines.Back e of over) calm bounded = record {
   backs = λ a d is. some_row rows G.backs e.0 of.0 over a d is; routes = λ a d is. is; ready = λ a is. is; got = same_got G }
-kept_line rows G (lines.Route e of over) barren bounded = record {
+kept_line rows G (lines.Route e of over) calm bounded = record {
   backs = λ a d is. is; routes = λ a d is. some_row rows G.routes e.0 of.0 over a d is; ready = λ a is. is; got = same_got G }
-kept_line rows G (lines.Admitted e) barren bounded = record { backs = λ a d is. is; routes = λ a d is. is; ready = ready_more G e; got = same_got G }
-kept_line rows G (lines.Sent x y r) barren bounded = record {
+kept_line rows G (lines.Admitted e) calm bounded = record { backs = λ a d is. is; routes = λ a d is. is; ready = ready_more G e; got = same_got G }
+kept_line rows G (lines.Sent x y r) calm bounded = record {
   backs = λ a d is. is;
   routes = λ a d is. is;
   ready = λ a is. is;
   got = λ test a b. at_pair_kept (λ c c'. count test (got_of c) ≤ count test (got_of c')) x.0 y.0 (with_sent r) G.channel a b
       (rw (take-behind (G.channel a b).got (G.channel a b).sent r (bounded a b)) (omega arith)) (omega arith);
 }
-kept_line rows G (lines.Got x y) barren bounded = record {
-  backs = λ a d is. is;
-  routes = λ a d is. is;
-  ready = λ a is. is;
-  got = λ test a b. at_pair_kept (λ c c'. count test (got_of c) ≤ count test (got_of c')) x.0 y.0 with_got G.channel a b
-      (count-take test (G.channel a b).got (G.channel a b).sent) (omega arith);
-}
-kept_line rows G (lines.Took x y n) barren bounded = record {
+kept_line rows G (lines.Got x y) calm bounded = absurd calm
+kept_line rows G (lines.Took x y n) calm bounded = record {
   backs = λ a d is. is;
   routes = λ a d is. is;
   ready = λ a is. is;
   got = λ test a b. at_pair_kept (λ c c'. count test (got_of c) ≤ count test (got_of c')) x.0 y.0 (with_taken n) G.channel a b
       (omega arith) (omega arith);
 }
-kept_line rows G (lines.Do (commands.Pool blocks)) barren bounded = record { backs = λ a d is. is; routes = λ a d is. is; ready = λ a is. is; got = same_got G }
-kept_line rows G _ barren bounded = record { backs = λ a d is. is; routes = λ a d is. is; ready = λ a is. is; got = same_got G }
+kept_line rows G (lines.Do (commands.Pool blocks)) calm bounded = record { backs = λ a d is. is; routes = λ a d is. is; ready = λ a is. is; got = same_got G }
+kept_line rows G _ calm bounded = record { backs = λ a d is. is; routes = λ a d is. is; ready = λ a is. is; got = same_got G }
 
-pub record AreKept (G H : Facts) : Type 0 where
-  pub same : IsKept G H
-  pub bounded : IsBounded H
+pub kept_lines : RowLaws → (G : Facts) (ls : List Line) → AreCalm ls → IsBounded G → IsKept G (after_lines G ls)
+kept_lines rows G [] calm bounded = record { backs = λ a d is. is; routes = λ a d is. is; ready = λ a is. is; got = same_got G }
+kept_lines rows G (l ∷ ls) calm bounded =
+    kept-trans G (after_line G l) (after_lines (after_line G l) ls) (kept_line rows G l calm.0 bounded)
+    (kept_lines rows (after_line G l) ls calm.1 (bounded_line G l bounded calm.0))
 
--- lines that bear no enclave and get nothing
-abbrev pub IsGotless : Line → Type 0
-IsGotless (lines.Got x y) = ⊥
-IsGotless line = Unit {0}
+pub kept_got : (G : Facts) (x y : Enclave) → IsKept G (after_line G (lines.Got x y))
+kept_got G x y = record {
+  backs = λ a d is. is;
+  routes = λ a d is. is;
+  ready = λ a is. is;
+  got = λ test a b. at_pair_kept (λ c c'. count test (got_of c) ≤ count test (got_of c')) x.0 y.0 with_got G.channel a b
+      (count-take test (G.channel a b).got (G.channel a b).sent) (omega arith);
+}
+
+-- what comes of a record of d at y: its registration is at a stage, and y has kept of the record what it didn't have before
+pub record IsMoved (G : Facts) (x y : Enclave) (d : ℕ) (r : Record) (ls : List Line) : Type 0 where
+  pub registered : IsRegistered (parent_of G) G.born (after_lines G (lines.Got x y ∷ ls)) d
+  pub before : mark G y.0 r ≡ false
+  pub after : mark (after_lines G (lines.Got x y ∷ ls)) y.0 r ≡ true
