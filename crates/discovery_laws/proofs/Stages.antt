@@ -49,8 +49,8 @@ under_way d (Admitting h x y) a b = alone_at x y (admit_of (number h) (number d)
 under_way d Ready a b = []
 
 -- d itself, or an enclave that remembers the way back to it
-abbrev pub Answers : Facts → ℕ → ℕ → Type 0
-Answers G d x = (x ≡ d) ⊎ (is_some (back_of G x d) ≡ true)
+abbrev pub Answers : (ℕ → ℕ → Option Enclave) → ℕ → ℕ → Type 0
+Answers back d x = (x ≡ d) ⊎ (is_some (back x d) ≡ true)
 
 -- the register has left behind it those farther from the name server, and the admit those farther from d
 abbrev pub MayAnswer : (ℕ → ℕ) → Stage → ℕ → Type 0
@@ -64,9 +64,9 @@ MayReach parent d Ready e = Unit {0}
 MayReach parent d stage e = ⊥
 
 -- a way back goes to the next enclave toward d, and over it to another one or to d
-pub record IsBack (parent : ℕ → ℕ) (born : ℕ) (G : Facts) (d : ℕ) (stage : Stage) (e x : ℕ) : Type 0 where
+pub record IsBack (parent : ℕ → ℕ) (born : ℕ) (back : ℕ → ℕ → Option Enclave) (d : ℕ) (stage : Stage) (e x : ℕ) : Type 0 where
   pub toward : IsToward parent born e d x
-  pub leads : Answers G d x
+  pub leads : Answers back d x
   pub may : MayAnswer parent stage e
 
 pub record IsRoute (parent : ℕ → ℕ) (born d : ℕ) (stage : Stage) (e x : ℕ) : Type 0 where
@@ -79,17 +79,17 @@ pub record IsRegistering (parent : ℕ → ℕ) (born : ℕ) (G : Facts) (d h x 
   pub ahead : IsToward parent born x h y
   pub behind : IsToward parent born y d x
   pub nearer : distance parent y h < distance parent d h
-  pub answers : Answers G d x
+  pub answers : Answers (back_of G) d x
   pub knowing : knows G y ≡ true
   pub known : knows G d ≡ true
   pub waits : is_admitted_at G d ≡ false
 
 -- the admit goes from x to y, toward d
 pub record IsAdmitting (parent : ℕ → ℕ) (born : ℕ) (G : Facts) (d h x y : ℕ) : Type 0 where
-  pub holder : holds G h ≡ true
+  pub from : h < born
   pub ahead : IsToward parent born x d y
   pub nearer : distance parent y d < distance parent h d
-  pub answers : Answers G d y
+  pub answers : Answers (back_of G) d y
   pub known : knows G d ≡ true
   pub waits : is_admitted_at G d ≡ false
 
@@ -110,7 +110,7 @@ IsAt parent born G d Ready = IsReady G d
 -- the records of d under way, the ways back to it, the routes to it, and d itself are as the stage says
 pub record IsStaged (parent : ℕ → ℕ) (born : ℕ) (G : Facts) (d : ℕ) (stage : Stage) : Type 0 where
   pub flight : (a b : ℕ) → about_in G d a b ≡ under_way d stage a b
-  pub backs : (e : ℕ) (x : Enclave) → back_of G e d ≡ Some x → IsBack parent born G d stage e x.0
+  pub backs : (e : ℕ) (x : Enclave) → back_of G e d ≡ Some x → IsBack parent born (back_of G) d stage e x.0
   pub routes : (e : ℕ) (x : Enclave) → route_of G e d ≡ Some x → IsRoute parent born d stage e x.0
   pub at : IsAt parent born G d stage
 

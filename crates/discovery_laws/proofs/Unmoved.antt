@@ -49,7 +49,7 @@ unmoved-trans G H K d one two = record {
 
 -- ---- its stage stays
 
-answers_stay : (G H : Facts) (d x : ℕ) → ((e : ℕ) → back_of H e d ≡ back_of G e d) → Answers G d x → Answers H d x
+answers_stay : (G H : Facts) (d x : ℕ) → ((e : ℕ) → back_of H e d ≡ back_of G e d) → Answers (back_of G) d x → Answers (back_of H) d x
 answers_stay G H d x same (inl is) = inl is
 answers_stay G H d x same (inr is) = inr (ap is_some (same x) ∙ is)
 
@@ -66,7 +66,7 @@ at_stays parent born G H d (Registering h x y) same at = record {
   waits = same.admitted ∙ at.waits;
 }
 at_stays parent born G H d (Admitting h x y) same at = record {
-  holder = same.holders h at.holder;
+  from = at.from;
   ahead = at.ahead;
   nearer = at.nearer;
   answers = answers_stay G H d y same.backs at.answers;

@@ -5,6 +5,9 @@ use Rattle.xm_num.specs.Rows.{at, put}
 use Rattle.xm_num.specs.RowLaws.{RowLaws as TableLaws}
 use Rattle.xemem_language.specs.declared.command.Command.{Command}
 use Rattle.xemem_language.specs.declared.line.Line.{Line}
+use Rattle.xemem_language.specs.declared.record.Record.{Record}
+use Rattle.enclave_rules.specs.View.{AreOf, View}
+use Rattle.enclave_rules.specs.Steps.{lines_of_records}
 use Rattle.global_model.specs.Facts.{Facts, facts_after, after_lines, facts_at, no_facts}
 use Rattle.global_model.specs.Journals.{do_commands, onto}
 use Rattle.global_model.specs.Carriage.{IsCarried}
@@ -28,6 +31,10 @@ pub record JournalLaws : Type 0 where
   pub flowing : (commands : List Command) → IsPlaced commands → IsFlowing (facts_after (journal_of commands))
   pub steps : (commands : List Command) → IsPlaced commands → IsInSteps no_facts (journal_of commands)
 
+-- what is written for records is at the enclave that got them
+pub record StepLaws : Type 0 where
+  pub own : (v : View) (x : Enclave) (rs : List Record) → AreOf v.me (lines_of_records v x rs)
+
 -- what a table has at a number after a change
 pub record RowLaws : Type 0 where
   pub ways : (table : List (ℕ × Enclave)) (k q : ℕ) (v : Enclave) → at (put table k v) q ≡ (if k == q then Some v else at table q)
@@ -45,6 +52,7 @@ pub record TreeLaws : Type 0 where
 pub record Laws : Type 0 where
   pub past : PastLaws
   pub journal : JournalLaws
+  pub step : StepLaws
   pub row : RowLaws
   pub table : TableLaws Enclave
   pub tree : TreeLaws

@@ -1,0 +1,110 @@
+-- A record of d leaves a channel and goes into another; and what a row of d changes.
+use Rattle.std.proofs.Common.{◌≡◌, ◌≢◌, ◌⊎◌, ◌+◌, ◌<◌, ◌≤◌, ℕ, List, [], ◌∷◌, ◌++◌, filter, Bool, true, false, cond, ◌&&◌, ◌||◌, eqb, Option, None, Some, is_some, inl, inr, refl, sym, ap, ◌∙◌, subst, arith}
+use Rattle.std.specs.List.{list_any}
+use Rattle.std.specs.Option.{option_map_or}
+use Rattle.std.proofs.lemmas.Bool.{eqb-true, eq-eqb, ne_eqb, and_parts}
+use Rattle.xm_num.specs.declared.Enclave.{Enclave}
+use Rattle.xm_num.specs.Rows.{at, put}
+use Rattle.xemem_language.specs.declared.record.Record.{Record}
+use Rattle.xemem_language.specs.declared.line.Line.TheVariants as lines
+use Rattle.enclave_rules.specs.View.{View}
+use Rattle.enclave_rules.specs.Steps.{is_stray, knows_dead}
+use Rattle.global_model.specs.Facts.{Facts, EnclaveFact, after_line, at_number, fact_of, is_admitted, is_holder}
+use Rattle.global_model.specs.Views.{view_of}
+use Rattle.discovery_laws.specs.Known.{in_flight}
+use Rattle.discovery_laws.specs.Laws.{RowLaws}
+use Rattle.discovery_laws.proofs.Stages.{about_in, alone_at, is_about}
+use Rattle.discovery_laws.proofs.Unmoved.{IsBounded, about_sent}
+use Rattle.discovery_laws.proofs.Received.{about_got}
+
+-- ---- records of d under way
+
+-- where records stand alone, the first of a channel is the first of them
+pub record IsTaken (x y : ℕ) (s r : Record) (rs : List Record) (a b : ℕ) : Type 0 where
+  pub from : a ≡ x
+  pub to : b ≡ y
+  pub same : s ≡ r
+  pub last : rs ≡ []
+
+pub alone_taken : (x y : ℕ) (s r : Record) (rs : List Record) (a b : ℕ) → alone_at x y (s ∷ []) a b ≡ r ∷ rs → IsTaken x y s r rs a b
+alone_taken x y s r rs a b = by (eqb a x && eqb b y) refl
+  where
+    by : (t : Bool) → (eqb a x && eqb b y) ≡ t → cond t (s ∷ []) [] ≡ r ∷ rs → IsTaken x y s r rs a b
+    by true here is =
+        let both = and_parts (eqb a x) (eqb b y) here in
+        record { from = eqb-true a x both.0; to = eqb-true b y both.1; same = cc; last = cc }
+    by false other is = cc
+
+-- the first record of a channel, where it is about d
+pub about_first : (G : Facts) (x y : ℕ) (r : Record) (rs : List Record) (d : ℕ) → in_flight G x y ≡ r ∷ rs → is_about d r ≡ true
+    → about_in G d x y ≡ r ∷ filter (is_about d) rs
+about_first G x y r rs d is about =
+    let first : filter (is_about d) (r ∷ rs) ≡ r ∷ filter (is_about d) rs = rw about refl in
+    ap (filter (is_about d)) is ∙ first
+
+-- once it is got, none is under way
+pub none_left : (G : Facts) (x y : Enclave) (s r : Record) (rs : List Record) (d a b : ℕ) → in_flight G x.0 y.0 ≡ r ∷ rs
+    → filter (is_about d) rs ≡ [] → ((a b : ℕ) → about_in G d a b ≡ alone_at x.0 y.0 (s ∷ []) a b)
+    → about_in (after_line G (lines.Got x y)) d a b ≡ []
+none_left G x y s r rs d a b is last alone = about_got G x y r rs d a b is ∙ rw last (by (eqb a x.0 && eqb b y.0) (alone a b))
+  where
+    by : (t : Bool) → about_in G d a b ≡ cond t (s ∷ []) [] → cond t [] (about_in G d a b) ≡ []
+    by true there = refl
+    by false there = there
+
+-- where none is under way and one is sent, it is alone
+pub one_sent : (G : Facts) (x y : Enclave) (r : Record) (d a b : ℕ) → IsBounded G → is_about d r ≡ true → about_in G d a b ≡ []
+    → about_in (after_line G (lines.Sent x y r)) d a b ≡ alone_at x.0 y.0 (r ∷ []) a b
+one_sent G x y r d a b bounded about none = about_sent G x y r d a b bounded ∙ rw (about, none) refl
+
+-- ---- rows of d
+
+-- the row is the new one, or an old one
+pub row_cases : RowLaws → (f : ℕ → List (ℕ × Enclave)) (e of : ℕ) (over : Enclave) (a : ℕ) (x : Enclave)
+    → at (at_number e (put (f e) of over) f a) of ≡ Some x → ((a ≡ e) × (over ≡ x)) ⊎ (at (f a) of ≡ Some x)
+row_cases rows f e of over a x = by (eqb a e) refl
+  where
+    by : (t : Bool) → eqb a e ≡ t → at (cond t (put (f e) of over) (f a)) of ≡ Some x → ((a ≡ e) × (over ≡ x)) ⊎ (at (f a) of ≡ Some x)
+    by true here is =
+        let new : at (put (f e) of over) of ≡ Some over = rows.ways (f e) of of over ∙ rw (eq-eqb of of refl) refl in
+        let both : Some over ≡ Some x = sym new ∙ is in
+        inl (eqb-true a e here, cc)
+    by false other is = inr is
+
+pub row_here : RowLaws → (f : ℕ → List (ℕ × Enclave)) (e of : ℕ) (over : Enclave) → at (at_number e (put (f e) of over) f e) of ≡ Some over
+row_here rows f e of over = rw (eq-eqb e e refl) (rows.ways (f e) of of over ∙ rw (eq-eqb of of refl) refl)
+
+pub row_more : RowLaws → (f : ℕ → List (ℕ × Enclave)) (e of : ℕ) (over : Enclave) (a : ℕ) → is_some (at (f a) of) ≡ true
+    → is_some (at (at_number e (put (f e) of over) f a) of) ≡ true
+row_more rows f e of over a some = by (eqb a e)
+  where
+    by : (t : Bool) → is_some (at (cond t (put (f e) of over) (f a)) of) ≡ true
+    by true = ap is_some (rows.ways (f e) of of over) ∙ rw (eq-eqb of of refl) refl
+    by false = some
+
+-- ---- views
+
+pub view_holder : (fact : Option EnclaveFact) → (fact_of fact).ns ≡ is_holder fact
+view_holder None = refl
+view_holder (Some fact) = refl
+
+pub view_admitted : (fact : Option EnclaveFact) → (fact_of fact).admitted ≡ is_admitted fact
+view_admitted None = refl
+view_admitted (Some fact) = refl
+
+-- no record of another enclave is a stray where no death was heard of
+pub no_stray : (G : Facts) (y : Enclave) (r : Record) → G.heard y.0 ≡ [] → r.origin.0 ≢ y.0 → is_stray (view_of G y) r ≡ false
+no_stray G y r quiet apart = rw (ne_eqb r.origin.0 y.0 apart, quiet) (by r.dest)
+  where
+    by : (dest : Option Enclave) → option_map_or (λ (e : Enclave). list_any (λ (d : Enclave). eqb d.0 e.0) []) dest false ≡ false
+    by None = refl
+    by (Some e) = refl
+
+-- a way back that is there
+pub record IsThere {A : Type 0} (found : Option A) : Type 0 where
+  pub value : A
+  pub is : found ≡ Some value
+
+pub is_there : {A : Type 0} (found : Option A) → is_some found ≡ true → IsThere found
+is_there None is = cc
+is_there (Some value) is = record { value = value; is = refl }

@@ -1,0 +1,185 @@
+-- A record is got; and what an enclave makes of one that says nothing of d says nothing of d either.
+use Rattle.std.proofs.Common.{◌≡◌, ◌≢◌, ◌⊎◌, ◌+◌, ◌-◌, ◌<◌, ◌≤◌, ℕ, List, [], ◌∷◌, ◌++◌, zero, suc, length, drop, filter, Bool, true, false, cond, ◌&&◌, ◌||◌, eqb, leb, Option, None, Some, is_some, inl, inr, refl, sym, ap, ◌∙◌, subst, arith, length-drop}
+use Rattle.std.specs.List.{AllByRecursion}
+use Rattle.std.specs.Option.{option_map_or}
+use Rattle.std.proofs.lemmas.Bool.{cases_Bool, eqb-true, eqb-false, eq-eqb, ne_eqb, and_parts}
+use Rattle.xm_num.specs.declared.Enclave.{Enclave}
+use Rattle.xm_num.specs.Rows.{at, less}
+use Rattle.xemem_language.specs.declared.record.Record.{Record}
+use Rattle.xemem_language.specs.declared.record.Body.{Body}
+use Rattle.xemem_language.specs.declared.record.Body.TheVariants as bodies
+use Rattle.xemem_language.specs.declared.line.Line.{Line}
+use Rattle.xemem_language.specs.declared.line.Line.TheVariants as lines
+use Rattle.enclave_rules.specs.View.{View, place_among}
+use Rattle.enclave_rules.specs.Steps.{admit_over, admit_to, body_lines, drop_lines, here_lines, here_of, register_of, admit_of, is_stray, knows_way, passed_lines, query_lines, record_lines, register_lines, told_askers}
+use Rattle.global_model.specs.Facts.{Facts, after_line, with_got}
+use Rattle.global_model.specs.Channels.{arriving, size_of, whole_records}
+use Rattle.discovery_laws.specs.Known.{in_flight}
+use Rattle.discovery_laws.proofs.Stages.{about_in, is_about, is_about_by}
+use Rattle.discovery_laws.proofs.Unmoved.{AreAside, IsAside, IsBounded, IsUnmoved}
+
+-- ---- the next record
+
+-- a record is the next of those under way, and these come behind it
+pub record IsNextOf (r : Record) (rs : List Record) : Type 0 where
+  pub others : List Record
+  pub is : rs ≡ r ∷ others
+
+next_sent : (n bytes : ℕ) (r : Record) (rs others : List Record) → drop n (whole_records bytes rs) ≡ r ∷ others → IsNextOf r (drop n rs)
+next_sent zero bytes r [] others is = cc
+next_sent (suc n) bytes r [] others is = cc
+next_sent zero bytes r (s ∷ ss) others is = by (leb (size_of s) bytes) is
+  where
+    by : (b : Bool) → cond b (s ∷ whole_records (bytes - size_of s) ss) [] ≡ r ∷ others → IsNextOf r (s ∷ ss)
+    by true found = record { others = ss; is = let same : s ≡ r = cc in ap (λ t. t ∷ ss) same }
+    by false found = cc
+next_sent (suc n) bytes r (s ∷ ss) others is = by (λ found. next_sent n (bytes - size_of s) r ss others found) (leb (size_of s) bytes) is
+  where
+    by : (drop n (whole_records (bytes - size_of s) ss) ≡ r ∷ others → IsNextOf r (drop n ss)) → (b : Bool)
+        → drop (suc n) (cond b (s ∷ whole_records (bytes - size_of s) ss) []) ≡ r ∷ others → IsNextOf r (drop n ss)
+    by later true found = later found
+    by later false found = cc
+
+-- what arrives next is the next of what is under way
+pub next_flight : (G : Facts) (x y : ℕ) (r : Record) (others : List Record) → arriving (G.channel x y) ≡ r ∷ others → IsNextOf r (in_flight G x y)
+next_flight G x y r others is = next_sent (G.channel x y).got (G.channel x y).taken r (G.channel x y).sent others is
+
+drop-more : {A : Type 0} (n : ℕ) (x : A) (ws xs : List A) → drop n ws ≡ x ∷ xs → drop (n + 1) ws ≡ xs
+drop-more zero x [] xs is = cc
+drop-more zero x (w ∷ ws) xs is = cc
+drop-more (suc n) x [] xs is = cc
+drop-more (suc n) x (w ∷ ws) xs is = let e : suc n + 1 ≡ suc (n + 1) = omega arith in rw e (drop-more n x ws xs is)
+
+pub flight_got : (G : Facts) (x y : Enclave) (r : Record) (rs : List Record) (a b : ℕ) → in_flight G x.0 y.0 ≡ r ∷ rs
+    → in_flight (after_line G (lines.Got x y)) a b ≡ cond (eqb a x.0 && eqb b y.0) rs (in_flight G a b)
+flight_got G x y r rs a b is = by (eqb a x.0 && eqb b y.0) refl
+  where
+    by : (t : Bool) → (eqb a x.0 && eqb b y.0) ≡ t
+        → drop (cond t (with_got (G.channel a b)) (G.channel a b)).got (cond t (with_got (G.channel a b)) (G.channel a b)).sent
+        ≡ cond t rs (in_flight G a b)
+    by true here =
+        let both = and_parts (eqb a x.0) (eqb b y.0) here in
+        let same : in_flight G a b ≡ r ∷ rs = rw (eqb-true a x.0 both.0, eqb-true b y.0 both.1) is in
+        drop-more (G.channel a b).got r (G.channel a b).sent rs same
+    by false other = refl
+
+pub bounded_got : (G : Facts) (x y : Enclave) (r : Record) (rs : List Record) → in_flight G x.0 y.0 ≡ r ∷ rs → IsBounded G
+    → IsBounded (after_line G (lines.Got x y))
+bounded_got G x y r rs is bounded a b = by (eqb a x.0 && eqb b y.0) refl
+  where
+    by : (t : Bool) → (eqb a x.0 && eqb b y.0) ≡ t
+        → (cond t (with_got (G.channel a b)) (G.channel a b)).got ≤ length (cond t (with_got (G.channel a b)) (G.channel a b)).sent
+    by true here =
+        let both = and_parts (eqb a x.0) (eqb b y.0) here in
+        let same : in_flight G a b ≡ r ∷ rs = rw (eqb-true a x.0 both.0, eqb-true b y.0 both.1) is in
+        let some : length (G.channel a b).sent - (G.channel a b).got ≡ suc (length rs)
+        = sym (length-drop (G.channel a b).got (G.channel a b).sent) ∙ ap length same in
+        omega (arith, some)
+    by false other = bounded a b
+
+pub about_got : (G : Facts) (x y : Enclave) (r : Record) (rs : List Record) (d a b : ℕ) → in_flight G x.0 y.0 ≡ r ∷ rs
+    → about_in (after_line G (lines.Got x y)) d a b ≡ cond (eqb a x.0 && eqb b y.0) (filter (is_about d) rs) (about_in G d a b)
+about_got G x y r rs d a b is = ap (filter (is_about d)) (flight_got G x y r rs a b is) ∙ by (eqb a x.0 && eqb b y.0)
+  where
+    by : (t : Bool) → filter (is_about d) (cond t rs (in_flight G a b)) ≡ cond t (filter (is_about d) rs) (about_in G d a b)
+    by true = refl
+    by false = refl
+
+pub unmoved_got : (G : Facts) (x y : Enclave) (r : Record) (rs : List Record) (d : ℕ) → in_flight G x.0 y.0 ≡ r ∷ rs → is_about d r ≡ false
+    → IsUnmoved G (after_line G (lines.Got x y)) d
+unmoved_got G x y r rs d is other = record {
+  flight = λ a b. about_got G x y r rs d a b is ∙ by a b (eqb a x.0 && eqb b y.0) refl;
+  backs = λ e. refl;
+  routes = λ e. refl;
+  holders = λ e is. is;
+  knowing = λ e is. is;
+  held = refl;
+  known = refl;
+  admitted = refl;
+}
+  where
+    by : (a b : ℕ) (t : Bool) → (eqb a x.0 && eqb b y.0) ≡ t → cond t (filter (is_about d) rs) (about_in G d a b) ≡ about_in G d a b
+    by a b true here =
+        let both = and_parts (eqb a x.0) (eqb b y.0) here in
+        let same : in_flight G a b ≡ r ∷ rs = rw (eqb-true a x.0 both.0, eqb-true b y.0 both.1) is in
+        let first : filter (is_about d) (r ∷ rs) ≡ filter (is_about d) rs = rw other refl in
+        sym (ap (filter (is_about d)) same ∙ first)
+    by a b false elsewhere = refl
+
+-- ---- what is made of a record
+
+aside_passed : (v : View) (from : Enclave) (to : Option Enclave) (r : Record) (d : ℕ) → is_about d r ≡ false → AreAside d (passed_lines v from to r)
+aside_passed v from None r d other = (tt, tt)
+aside_passed v from (Some over) r d other = by (eqb over.0 from.0)
+  where
+    by : (t : Bool) → AreAside d (cond t (drop_lines v) (lines.Sent v.me over r ∷ []))
+    by true = (tt, tt)
+    by false = (other, tt)
+
+pub aside_told : (v : View) (askers : List (ℕ × Enclave)) (d : ℕ) (more : List Line) → AreAside d more → AreAside d (told_askers v askers ++ more)
+aside_told v [] d more aside = aside
+aside_told v (row ∷ askers) d more aside = (refl, aside_told v askers d more aside)
+
+aside_query : (v : View) (from : Enclave) (d : ℕ) → AreAside d (query_lines v from)
+aside_query v from d = by (knows_way v)
+  where
+    by : (t : Bool) → AreAside d (cond t (lines.Sent v.me from (here_of v.me) ∷ []) (lines.Asked v.me from ∷ []))
+    by true = (refl, tt)
+    by false = (tt, tt)
+
+-- only an enclave that knows no way registers, and for itself
+abbrev pub MayHear : View → ℕ → Body → Type 0
+MayHear v d bodies.Here = (knows_way v ≡ true) ⊎ (v.me.0 ≢ d)
+MayHear v d body = Unit {0}
+
+aside_here : (v : View) (from : Enclave) (d : ℕ) → (knows_way v ≡ true) ⊎ (v.me.0 ≢ d) → AreAside d (here_lines v from)
+aside_here v from d may = by (knows_way v) may
+  where
+    by : (t : Bool) → (t ≡ true) ⊎ (v.me.0 ≢ d)
+        → AreAside d (cond t (drop_lines v)
+        (lines.Way v.me from ∷ told_askers v (less v.askers (place_among v.parent from)) ++ lines.Sent v.me from (register_of v.me) ∷ []))
+    by true may = (tt, tt)
+    by false (inl is) = absurd (cc)
+    by false (inr other) = (other, aside_told v (less v.askers (place_among v.parent from)) d _ (ne_eqb v.me.0 d other, tt))
+
+aside_register : (v : View) (from : Enclave) (r : Record) (d : ℕ) → is_about d r ≡ false → r.origin.0 ≢ d → AreAside d (register_lines v from r)
+aside_register v from r d other apart = (apart, by v.holder)
+  where
+    by : (t : Bool) → AreAside d (cond t (lines.Route v.me r.origin from ∷ lines.Sent v.me from (admit_of v.me r.origin) ∷ [])
+        (passed_lines v from v.way r))
+    by true = (apart, (ne_eqb r.origin.0 d apart, tt))
+    by false = aside_passed v from v.way r d other
+
+aside_over : (v : View) (from e : Enclave) (r : Record) (d : ℕ) (over : Option Enclave) → is_about d r ≡ false → e.0 ≢ d
+    → AreAside d (admit_over v from e r over)
+aside_over v from e r d None other apart = (tt, tt)
+aside_over v from e r d (Some over) other apart = (apart, aside_passed v from (Some over) r d other)
+
+aside_admit : (v : View) (from : Enclave) (r : Record) (d : ℕ) (dest : Option Enclave) → is_about d r ≡ false
+    → option_map_or (λ e. eqb e.0 d) dest false ≡ false → AreAside d (admit_to v from r dest)
+aside_admit v from r d None other none = (tt, tt)
+aside_admit v from r d (Some e) other none = by (eqb e.0 v.me.0) refl v.admitted
+  where
+    apart : e.0 ≢ d
+    apart = eqb-false e.0 d none
+
+    by : (t : Bool) → eqb e.0 v.me.0 ≡ t → (ready : Bool)
+        → AreAside d (cond t (cond ready (drop_lines v) (lines.Admitted v.me ∷ [])) (admit_over v from e r (at v.backs e.0)))
+    by true is true = (tt, tt)
+    by true is false = (λ me. apart (eqb-true e.0 v.me.0 is ∙ me), tt)
+    by false is ready = aside_over v from e r d (at v.backs e.0) other apart
+
+aside_body : (v : View) (from : Enclave) (r : Record) (d : ℕ) (body : Body) → is_about d r ≡ false → is_about_by d r body ≡ false → MayHear v d body
+    → AreAside d (body_lines v from r body)
+aside_body v from r d bodies.Query other none may = aside_query v from d
+aside_body v from r d bodies.Here other none may = aside_here v from d may
+aside_body v from r d bodies.Register other none may = aside_register v from r d other (eqb-false r.origin.0 d none)
+aside_body v from r d bodies.Admit other none may = aside_admit v from r d r.dest other none
+aside_body v from r d _ other none may = (tt, tt)
+
+pub aside_record : (v : View) (from : Enclave) (r : Record) (d : ℕ) → is_about d r ≡ false → MayHear v d r.body → AreAside d (record_lines v from r)
+aside_record v from r d other may = by (is_stray v r)
+  where
+    by : (t : Bool) → AreAside d (cond t (drop_lines v) (body_lines v from r r.body))
+    by true = (tt, tt)
+    by false = aside_body v from r d r.body other other may
