@@ -7,6 +7,7 @@ pub mod Calm
 pub mod Answered
 pub mod Boots
 pub mod Asked
+pub mod Resting
 pub mod Stages
 pub mod Unmoved
 pub mod Received
