@@ -19,7 +19,7 @@ use Rattle.discovery_laws.proofs.Unmoved.{IsBounded, holds_admitted}
 use Rattle.discovery_laws.proofs.Received.{bounded_got}
 use Rattle.discovery_laws.proofs.Moves.{no_stray, none_left, one_sent, row_cases, row_here, row_more, view_admitted, view_holder, IsThere, is_there}
 use Rattle.discovery_laws.proofs.Led.{IsLed}
-use Rattle.discovery_laws.proofs.Handled.{record_is}
+use Rattle.discovery_laws.proofs.Registers.{record_is}
 
 -- The admit of d came from x to y.
 module _ (laws : Laws) (G : Facts) (x y : Enclave) (d h : ℕ) (rs : List Record) (rooted : IsRooted (parent_of G)) (bounded : IsBounded G)

@@ -19,7 +19,7 @@ use Rattle.discovery_laws.proofs.Unmoved.{AreAside, IsBounded, IsUnmoved, AreUnm
 use Rattle.discovery_laws.proofs.Received.{IsNextOf, aside_told, bounded_got, unmoved_got}
 use Rattle.discovery_laws.proofs.Moves.{no_stray, none_left, one_sent, row_cases, row_here, row_more, view_admitted, view_holder, IsThere, is_there}
 use Rattle.discovery_laws.proofs.Led.{IsLed}
-use Rattle.discovery_laws.proofs.Handled.{record_is, turned_home}
+use Rattle.discovery_laws.proofs.Registers.{record_is, turned_home}
 
 -- nothing of d stands anywhere, and it isn't admitted
 record IsFresh (G : Facts) (d : ℕ) : Type 0 where

@@ -12,7 +12,7 @@ pub mod Stages
 pub mod Unmoved
 pub mod Received
 pub mod Moves
-pub mod Handled
+pub mod Registers
 pub mod Admitted
 pub mod Begun
 pub mod Trees

@@ -22,7 +22,7 @@ use Rattle.discovery_laws.proofs.Unmoved.{AreAside, IsBounded, IsUnmoved, staged
 use Rattle.discovery_laws.proofs.Received.{IsNextOf, MayHear, aside_record, bounded_got, next_flight, unmoved_got}
 use Rattle.discovery_laws.proofs.Moves.{about_first, alone_taken, view_holder}
 use Rattle.discovery_laws.proofs.Led.{IsLed}
-use Rattle.discovery_laws.proofs.Handled.{register_handled}
+use Rattle.discovery_laws.proofs.Registers.{register_handled}
 use Rattle.discovery_laws.proofs.Admitted.{admit_handled}
 use Rattle.discovery_laws.proofs.Begun.{here_handled}
 use Rattle.discovery_laws.proofs.Trees.{IsGrown, grown_handled, staged_grown}
