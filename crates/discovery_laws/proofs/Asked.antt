@@ -26,6 +26,7 @@ use Rattle.discovery_laws.proofs.Led.{IsLed}
 use Rattle.global_model.specs.Views.{view_of}
 use Rattle.discovery_laws.specs.Known.{holds, in_flight, knows, way_of}
 use Rattle.discovery_laws.specs.Laws.{Laws}
+use Rattle.discovery_laws.specs.Ways.{LeadsToHolder}
 use Rattle.discovery_laws.proofs.Flights.{one_if, count, add, sent_more}
 use Rattle.discovery_laws.proofs.Asking.{is_query, is_here, is_query_body, is_here_body, none_ascends, place, remembers, queries_flying, heres_flying}
 use Rattle.discovery_laws.proofs.Knowing.{IsOwn, IsKnown, known_sent}
@@ -151,3 +152,9 @@ asked_led G old = record {
   one = old.known.one;
   quiet = old.known.quiet;
 }
+
+-- and where a way leads
+pub asked_leads : (G : Facts) → IsAsked G → (e : ℕ) (x : Enclave) → way_of G e ≡ Some x → LeadsToHolder G e x
+asked_leads G old e x is =
+    let held = (asked_led G old).held e x is in
+    record { holder = held.holder; holds = held.holds; toward = old.known.leads held.holder e x held.holds is }

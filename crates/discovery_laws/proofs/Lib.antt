@@ -8,6 +8,7 @@ pub mod Answered
 pub mod Boots
 pub mod Asked
 pub mod Resting
+pub mod WayLines
 pub mod Stages
 pub mod Unmoved
 pub mod Received
