@@ -1,7 +1,7 @@
 -- Each step leaves who asks for the way and who knows it as they are to be.
 use Rattle.std.proofs.Common.{◌≡◌, ◌≢◌, ◌+◌, ◌<◌, ◌≤◌, ℕ, List, [], ◌∷◌, Bool, true, false, cond, not, ◌&&◌, ◌||◌, eqb, drop, is_some, Option, None, Some, refl, sym, ap, ◌∙◌, subst, arith, append-nil}
 use Rattle.std.specs.Prelude.{◌++◌, map}
-use Rattle.std.proofs.lemmas.Bool.{ne_eqb}
+use Rattle.std.proofs.lemmas.Bool.{ne_eqb, or_right}
 use Rattle.xm_num.specs.declared.Enclave.{Enclave}
 use Rattle.xm_num.specs.declared.Kind.{Kind}
 use Rattle.xm_num.specs.declared.Kind.TheVariants as kinds
@@ -14,21 +14,26 @@ use Rattle.xemem_language.specs.declared.line.Line.TheVariants as lines
 use Rattle.enclave_rules.specs.View.{View, host, place_among}
 use Rattle.xm_num.specs.Rows.{less}
 use Rattle.enclave_rules.specs.Steps.{knows_way, is_stray, query_of, drop_lines, here_of, register_of, told_lines, child_lines, adopt_lines, birth_lines, host_lines, query_lines, here_lines, told_askers, body_lines, record_lines}
-use Rattle.global_model.specs.Facts.{Facts, after_line, after_lines, no_facts}
+use Rattle.global_model.specs.Facts.{Facts, after_line, after_lines, facts_after, no_facts}
 use Rattle.global_model.specs.Channels.{is_neighbour}
 use Rattle.global_model.specs.Flow.{IsTree}
-use Rattle.global_model.specs.Pauses.{Step, Written, Hosts, Bears, Takes, Handles, written_by, MayBear, MayCome, MayHandle, IsPause}
+use Rattle.global_model.specs.Pauses.{Step, Written, Hosts, Bears, Takes, Handles, written_by, written_in, AreSteps, MayBear, MayCome, MayHandle, IsPause}
 use Rattle.global_model.specs.Tree.{parent_of}
+use Rattle.xemem_language.specs.declared.command.Command.{Command}
+use Rattle.global_model.specs.Place.{IsPlaced}
+use Rattle.global_model.specs.Due.{journal_of}
+use Rattle.discovery_laws.proofs.Led.{IsLed}
 use Rattle.global_model.specs.Views.{view_of}
 use Rattle.discovery_laws.specs.Known.{holds, in_flight, knows, way_of}
 use Rattle.discovery_laws.specs.Laws.{Laws}
+use Rattle.discovery_laws.specs.Ways.{LeadsToHolder}
 use Rattle.discovery_laws.proofs.Flights.{one_if, count, add, sent_more}
 use Rattle.discovery_laws.proofs.Asking.{is_query, is_here, is_query_body, is_here_body, none_ascends, place, remembers, queries_flying, heres_flying}
 use Rattle.discovery_laws.proofs.Knowing.{IsOwn, IsKnown, known_sent}
 use Rattle.discovery_laws.proofs.Newborn.{near_apart}
 use Rattle.discovery_laws.proofs.Boots.{asked_host, asked_boot}
 use Rattle.discovery_laws.proofs.Calm.{IsAsking, AreCalm, calm_alone, calm_line, calm_lines}
-use Rattle.discovery_laws.proofs.Handled.{none_owed, got, handled_first, first_has, stray_is, knows_way_is, calm_record, handles_calm, handles_query, handles_here}
+use Rattle.discovery_laws.proofs.Answered.{none_owed, got, handled_first, first_has, stray_is, knows_way_is, calm_record, handles_calm, handles_query, handles_here}
 
 -- at a pause no answer is owed
 abbrev pub IsAsked : Facts → Type 0
@@ -121,3 +126,35 @@ asked_first laws = record {
         let none : is_neighbour no_facts a b ≡ false = λ i. no_child (not (eqb a 0)) i || no_child (not (eqb b 0)) i in
         let clash : true ≡ false = sym near ∙ none in
         absurd (cc)
+
+-- ---- whole journals
+
+pub asked_steps : (laws : Laws) (steps : List Step) (G : Facts) → AreSteps G steps → IsAsked G → IsAsked (after_lines G (written_in G steps))
+asked_steps laws [] G are old = old
+asked_steps laws (step ∷ steps) G are old =
+    let own = written_by G step in
+    let H = after_lines G own in
+    subst IsAsked (sym (laws.past.after G own (written_in H steps)))
+    (asked_steps laws steps H are.2 (asked_step laws G step are.0 are.1 old))
+
+pub journal_of-asked : (laws : Laws) (commands : List Command) → IsPlaced commands → IsAsked (facts_after (journal_of commands))
+journal_of-asked laws commands placed =
+    let in_steps = laws.journal.steps commands placed in
+    subst (λ journal. IsAsked (after_lines no_facts journal)) (sym in_steps.written)
+    (asked_steps laws in_steps.steps no_facts in_steps.are (asked_first laws))
+
+-- what is known of the way to the name server
+pub asked_led : (G : Facts) → IsAsked G → IsLed G
+asked_led G old = record {
+  way = old.known.leads;
+  known = old.known.over;
+  held = λ e x is. old.known.held (old.known.server e (or_right (holds G e) (is_some (way_of G e)) (ap (λ o. is_some o) is)));
+  one = old.known.one;
+  quiet = old.known.quiet;
+}
+
+-- and where a way leads
+pub asked_leads : (G : Facts) → IsAsked G → (e : ℕ) (x : Enclave) → way_of G e ≡ Some x → LeadsToHolder G e x
+asked_leads G old e x is =
+    let held = (asked_led G old).held e x is in
+    record { holder = held.holder; holds = held.holds; toward = old.known.leads held.holder e x held.holds is }

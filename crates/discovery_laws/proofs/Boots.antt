@@ -23,7 +23,7 @@ use Rattle.discovery_laws.proofs.Asking.{is_query, queries_sent, number_has, IsC
 use Rattle.discovery_laws.proofs.Knowing.{IsKnown, known_sent}
 use Rattle.discovery_laws.proofs.Newborn.{born, far_down, far_up, known_born, counted_born}
 use Rattle.discovery_laws.proofs.Calm.{counted_owed, IsAsking, AreCalm, calm_line, calm_lines}
-use Rattle.discovery_laws.proofs.Handled.{none_owed, holder_born, knows_way_is}
+use Rattle.discovery_laws.proofs.Answered.{none_owed, holder_born, knows_way_is}
 
 -- two that aren't the same owe each other at most one answer
 add_apart : (s t : Bool) (p c a b : ℕ) → p ≢ c → add s p c a b + add t c p a b ≤ 1

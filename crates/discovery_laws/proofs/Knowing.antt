@@ -10,16 +10,13 @@ use Rattle.global_model.specs.Facts.{Facts, after_line, at_number, with_sent}
 use Rattle.global_model.specs.Tree.{IsRooted, IsToward, parent_of}
 use Rattle.discovery_laws.specs.Known.{holds, in_flight, knows, way_of}
 use Rattle.discovery_laws.specs.Laws.{TreeLaws}
+use Rattle.discovery_laws.proofs.Led.{IsHeld}
 use Rattle.discovery_laws.proofs.Flights.{one_if, count, add, pair_has, sent_more, flies_more, got_sent, flies_less}
 use Rattle.discovery_laws.proofs.Asking.{is_query, is_here, heres_flying, number_has, IsSame, same_knows, same_flight}
 
 -- a query and a here are their sender's own
 abbrev pub IsOwn : ℕ → Record → Type 0
 IsOwn x r = (is_query r || is_here r) ≡ true → r.origin.0 ≡ x
-
-pub record IsHeld (G : Facts) : Type 0 where
-  pub holder : ℕ
-  pub holds : holds G holder ≡ true
 
 pub record IsKnown (G : Facts) : Type 0 where
   pub quiet : (e : ℕ) → G.heard e ≡ []

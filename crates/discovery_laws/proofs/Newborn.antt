@@ -15,7 +15,8 @@ use Rattle.discovery_laws.specs.Known.{holds, in_flight, knows, way_of}
 use Rattle.discovery_laws.specs.Laws.{TreeLaws}
 use Rattle.discovery_laws.proofs.Flights.{one_if, count, add}
 use Rattle.discovery_laws.proofs.Asking.{is_query, is_here, place, one_place, remembers, queries_sent, queries_flying, heres_sent, heres_flying, number_has, IsCounted}
-use Rattle.discovery_laws.proofs.Knowing.{IsHeld, IsKnown}
+use Rattle.discovery_laws.proofs.Knowing.{IsKnown}
+use Rattle.discovery_laws.proofs.Led.{IsHeld}
 
 -- a child was born
 some_fact : (p : ℕ) (fact : Option EnclaveFact) → has_parent p fact ≡ true → is_some fact ≡ true

@@ -1,5 +1,13 @@
 // Laws of discovery: each is the contract of a function that does nothing, which a crate above calls to have it.
+ghost use Rattle.std.specs.Prelude.{◌≡◌, ◌≤◌, ℕ, List, true, Some};
+ghost use Rattle.xm_num.specs.declared.Enclave.{Enclave as Enclaves};
+ghost use Rattle.xemem_language.specs.declared.command.Command.{Command as Commands};
+ghost use Rattle.global_model.specs.Due.{journal_of};
+ghost use Rattle.global_model.specs.Facts.{facts_after};
+ghost use Rattle.global_model.specs.Place.{IsPlaced};
+ghost use Rattle.discovery_laws.specs.Known.{holds, way_of};
 ghost use Rattle.discovery_laws.specs.Laws.{Laws};
+ghost use Rattle.discovery_laws.specs.Ways.{LeadsToHolder, ways_in};
 
 use global_model::{
     journals_are_carried, journals_are_in_steps, journals_grow, pasts_grow, trees_have_paths,
@@ -20,4 +28,21 @@ fn laws()
     view_step();
     rows::<Enclave>();
     row_laws::<Enclave>();
+}
+
+/// Where an enclave's way goes is the next enclave on the path to the one that holds the name server, of which there is one.
+pub fn ways_lead()
+    ensures way { (commands : List Commands) → IsPlaced commands → (e : ℕ) (x : Enclaves)
+        → way_of (facts_after (journal_of commands)) e ≡ Some x → LeadsToHolder (facts_after (journal_of commands)) e x }
+    ensures holder { (commands : List Commands) → IsPlaced commands → (a b : ℕ)
+        → holds (facts_after (journal_of commands)) a ≡ true → holds (facts_after (journal_of commands)) b ≡ true → a ≡ b }
+{
+    laws();
+}
+
+/// An enclave learns its way once: a journal has at most one line by which it does.
+pub fn ways_come_once()
+    ensures { (commands : List Commands) → IsPlaced commands → (e : ℕ) → ways_in e (journal_of commands) ≤ 1 }
+{
+    laws();
 }

@@ -4,3 +4,5 @@
 #![tactic(auto)]
 
 mod laws;
+
+pub use laws::{ways_come_once, ways_lead};

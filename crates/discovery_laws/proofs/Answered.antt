@@ -109,7 +109,7 @@ calm_admit v from r (Some d) calm = calm_either (eqb d.0 v.me.0) (cond v.admitte
     (admit_over v from d r (at v.backs d.0)) (calm_either v.admitted (drop_lines v) (lines.Admitted v.me ∷ []) (tt, tt) (tt, tt))
     (calm_over v from d r (at v.backs d.0) calm)
 
-calm_body : (v : View) (from : Enclave) (r : Record) → (is_query r || is_here r) ≡ false → (body : Body)
+pub calm_body : (v : View) (from : Enclave) (r : Record) → (is_query r || is_here r) ≡ false → (body : Body)
     → (is_query_body body || is_here_body body) ≡ false → AreCalm (body_lines v from r body)
 calm_body v from r calm bodies.Query is = absurd (cc)
 calm_body v from r calm bodies.Here is = absurd (cc)

@@ -1,0 +1,23 @@
+-- Where ways lead, and the lines by which they are learned.
+use Rattle.std.specs.Prelude.{◌≡◌, ◌==◌, ℕ, List, length, filter, Bool, true, false}
+use Rattle.xm_num.specs.declared.Enclave.{Enclave}
+use Rattle.xemem_language.specs.declared.line.Line.{Line}
+use Rattle.xemem_language.specs.declared.line.Line.TheVariants as lines
+use Rattle.global_model.specs.Facts.{Facts}
+use Rattle.global_model.specs.Tree.{IsToward, parent_of}
+use Rattle.discovery_laws.specs.Known.{holds}
+
+-- an enclave holds the name server, and x is the next one from e on the path to it
+pub record LeadsToHolder (G : Facts) (e : ℕ) (x : Enclave) : Type 0 where
+  pub holder : ℕ
+  pub holds : holds G holder ≡ true
+  pub toward : IsToward (parent_of G) G.born e holder x.0
+
+-- a line by which the enclave learns its way
+abbrev pub is_way_line : ℕ → Line → Bool
+is_way_line e (lines.Way of over) = of.0 == e
+is_way_line e line = false
+
+-- how often the enclave learns its way in a journal
+abbrev pub ways_in : ℕ → List Line → ℕ
+ways_in e journal = length (filter (is_way_line e) journal)
