@@ -20,5 +20,4 @@ pub mod Trees
 pub mod Registrations
 pub mod Pausing
 pub mod Marks
-pub mod Honest
 pub mod Onces
