@@ -21,3 +21,4 @@ pub mod Registrations
 pub mod Pausing
 pub mod Marks
 pub mod Onces
+pub mod Discovered
