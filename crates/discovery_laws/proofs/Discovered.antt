@@ -46,11 +46,11 @@ inner_told : (child : Enclave) (heard : List Enclave) → AreInner (told_lines c
 inner_told child [] = tt
 inner_told child (d ∷ heard) = (tt, inner_told child heard)
 
-inner_either : (t : Bool) (ls ms : List Line) → AreInner ls → AreInner ms → AreInner (cond t ls ms)
+pub inner_either : (t : Bool) (ls ms : List Line) → AreInner ls → AreInner ms → AreInner (cond t ls ms)
 inner_either true ls ms one other = one
 inner_either false ls ms one other = other
 
-inner_birth : (child parent : Enclave) (ns : Bool) (heard : List Enclave) (v : View)
+pub inner_birth : (child parent : Enclave) (ns : Bool) (heard : List Enclave) (v : View)
     → AreInner ((told_lines child heard ++ child_lines child parent ns) ++ adopt_lines v child)
 inner_birth child parent ns heard v =
     inner-append (told_lines child heard ++ child_lines child parent ns) (adopt_lines v child)
@@ -97,11 +97,11 @@ kept_step laws G (Bears child kind parent ns blocks) pause may =
 -- ---- the records that were got
 
 -- a line that gets no record
-abbrev IsGotless : Line → Type 0
+abbrev pub IsGotless : Line → Type 0
 IsGotless (lines.Got x y) = ⊥
 IsGotless line = Unit {0}
 
-abbrev AreGotless : List Line → Type 0
+abbrev pub AreGotless : List Line → Type 0
 AreGotless journal = AllByRecursion IsGotless journal
 
 gotless_inner : (line : Line) → IsInner line → IsGotless line
@@ -109,7 +109,7 @@ gotless_inner (lines.Born e kind parent ns blocks) inner = tt
 gotless_inner (lines.Got x y) inner = inner
 gotless_inner _ inner = tt
 
-all_gotless : (ls : List Line) → AreInner ls → AreGotless ls
+pub all_gotless : (ls : List Line) → AreInner ls → AreGotless ls
 all_gotless [] inner = tt
 all_gotless (l ∷ ls) inner = (gotless_inner l inner.0, all_gotless ls inner.1)
 
@@ -130,7 +130,7 @@ once_lines [] past none = tt
 once_lines (l ∷ ls) past none = (once_line l past none.0, once_lines ls (l ∷ past) none.1)
 
 -- all of them are kept
-abbrev AreMarked : Facts → ℕ → List Record → Type 0
+abbrev pub AreMarked : Facts → ℕ → List Record → Type 0
 AreMarked G y rs = AllByRecursion (λ q. mark G y q ≡ true) rs
 
 marked_kept : (G H : Facts) (y : ℕ) (rs : List Record) → IsKept G H → AreMarked G y rs → AreMarked H y rs
@@ -147,23 +147,23 @@ unlike G y r (q ∷ rs) none all = (false_from_ne_true (is_alike r q) (λ is.
 -- ---- steps
 
 -- discovery has gone as it is to, up to a pause
-record IsDiscovered (past : List Line) : Type 0 where
-  asked : IsAsked (facts_at past)
-  registered : (d : ℕ) → IsRegistered (parent_of (facts_at past)) (facts_at past).born (facts_at past) d
-  got : (y : ℕ) → AreMarked (facts_at past) y (records_got y past)
+pub record IsDiscovered (past : List Line) : Type 0 where
+  pub asked : IsAsked (facts_at past)
+  pub registered : (d : ℕ) → IsRegistered (parent_of (facts_at past)) (facts_at past).born (facts_at past) d
+  pub got : (y : ℕ) → AreMarked (facts_at past) y (records_got y past)
 
-record GoesOn (past ls : List Line) : Type 0 where
-  once : Follows OnceAt past ls
-  got : (y : ℕ) → AreMarked (after_lines (facts_at past) ls) y (records_got y (onto ls past))
+pub record GoesOn (past ls : List Line) : Type 0 where
+  pub once : Follows OnceAt past ls
+  pub got : (y : ℕ) → AreMarked (after_lines (facts_at past) ls) y (records_got y (onto ls past))
 
-goes_gotless : (past ls : List Line) → AreGotless ls → IsKept (facts_at past) (after_lines (facts_at past) ls) → IsDiscovered past → GoesOn past ls
+pub goes_gotless : (past ls : List Line) → AreGotless ls → IsKept (facts_at past) (after_lines (facts_at past) ls) → IsDiscovered past → GoesOn past ls
 goes_gotless past ls none kept old = record {
   once = once_lines ls past none;
   got = λ y. subst (AreMarked (after_lines (facts_at past) ls) y) (sym (same_got y ls past none))
       (marked_kept (facts_at past) (after_lines (facts_at past) ls) y (records_got y past) kept (old.got y));
 }
 
-goes_handled : Laws → (past : List Line) (x y : Enclave) (r : Record) → IsPause (facts_at past) → MayHandle (facts_at past) x y r → IsDiscovered past
+pub goes_handled : Laws → (past : List Line) (x y : Enclave) (r : Record) → IsPause (facts_at past) → MayHandle (facts_at past) x y r → IsDiscovered past
     → IsKept (facts_at past) (after_lines (facts_at past) (lines.Got x y ∷ record_lines (view_of (facts_at past) y) x r))
     → GoesOn past (lines.Got x y ∷ record_lines (view_of (facts_at past) y) x r)
 goes_handled laws past x y r pause may old kept =

@@ -22,3 +22,4 @@ pub mod Pausing
 pub mod Marks
 pub mod Onces
 pub mod Discovered
+pub mod Journals
