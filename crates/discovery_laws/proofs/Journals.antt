@@ -22,6 +22,7 @@ use Rattle.global_model.specs.Views.{view_of}
 use Rattle.discovery_laws.specs.Known.{back_of, in_flight, is_admitted_at, knows, route_of}
 use Rattle.discovery_laws.specs.Laws.{Laws}
 use Rattle.discovery_laws.specs.Once.{OnceAt, IsOnce, records_got}
+use Rattle.discovery_laws.specs.Ways.{LeadsTo}
 use Rattle.discovery_laws.proofs.Asked.{IsAsked, asked_first, asked_led, asked_step}
 use Rattle.discovery_laws.proofs.Discovered.{AreMarked, GoesOn, IsDiscovered, all_gotless, inner_birth, inner_either, goes_handled, goes_gotless, kept_step}
 use Rattle.discovery_laws.proofs.Pausing.{aside_alone, registered_step}
@@ -81,3 +82,80 @@ all_steps laws (step ∷ steps) past are old =
       once = Follows-append OnceAt ls (written_in (after_lines G ls) steps) past on.once more.once;
       end = subst IsDiscovered (sym (laws.past.pasts ls (written_in (after_lines G ls) steps) past)) more.end;
     }
+
+-- ---- whole journals
+
+-- nothing of any enclave stands anywhere before the first command
+registered_first : Laws → (d : ℕ) → IsRegistered (parent_of no_facts) 0 no_facts d
+registered_first laws d = record {
+  stage = Silent;
+  is = record {
+    flight = λ a b. refl;
+    backs = λ e x is. absurd (no_row x is);
+    routes = λ e x is. absurd (no_row x is);
+    at = record { known = refl; admitted = refl };
+  };
+}
+  where
+    no_row : (x : Enclave) → at [] d ≡ Some x → ⊥
+    no_row x is = let clash : None ≡ Some x = sym (laws.table.none d) ∙ is in cc
+
+from_the_start : (laws : Laws) (commands : List Command) → IsPlaced commands → GoesAll [] (journal_of commands)
+from_the_start laws commands placed =
+    let in_steps = laws.journal.steps commands placed in
+    subst (GoesAll []) (sym in_steps.written)
+    (all_steps laws in_steps.steps [] in_steps.are (record { asked = asked_first laws; registered = registered_first laws; got = λ y. tt }))
+
+pub journal_of-once : (laws : Laws) (commands : List Command) → IsPlaced commands → IsOnce (journal_of commands)
+journal_of-once laws commands placed = (from_the_start laws commands placed).once
+
+-- where every command has ended
+record EndsDiscovered (G : Facts) : Type 0 where
+  asked : IsAsked G
+  registered : (d : ℕ) → IsRegistered (parent_of G) G.born G d
+
+journal_of-discovered : (laws : Laws) (commands : List Command) → IsPlaced commands → EndsDiscovered (facts_after (journal_of commands))
+journal_of-discovered laws commands placed =
+    let end = (from_the_start laws commands placed).end in
+    subst EndsDiscovered (laws.past.facts (journal_of commands) []) (record { asked = end.asked; registered = end.registered })
+
+-- ---- where ways back and routes lead
+
+pub journal_of-backs : (laws : Laws) (commands : List Command) → IsPlaced commands → (e d : ℕ) (x : Enclave)
+    → back_of (facts_after (journal_of commands)) e d ≡ Some x → LeadsTo (facts_after (journal_of commands)) e d x
+journal_of-backs laws commands placed e d x is = (((journal_of-discovered laws commands placed).registered d).is.backs e x is).toward
+
+pub journal_of-routes : (laws : Laws) (commands : List Command) → IsPlaced commands → (e d : ℕ) (x : Enclave)
+    → route_of (facts_after (journal_of commands)) e d ≡ Some x → LeadsTo (facts_after (journal_of commands)) e d x
+journal_of-routes laws commands placed e d x is = (((journal_of-discovered laws commands placed).registered d).is.routes e x is).toward
+
+-- ---- at rest
+
+-- who knows its way is admitted where nothing is under way
+rested : (parent : ℕ → ℕ) (born : ℕ) (G : Facts) (d : ℕ) (stage : Stage) → ((x y : ℕ) → in_flight G x y ≡ []) → IsStaged parent born G d stage
+    → knows G d ≡ true → is_admitted_at G d ≡ true
+rested parent born G d Silent none staged known = staged.at.admitted ∙ sym staged.at.known ∙ known
+rested parent born G d (Registering h x y) none staged known = absurd (
+    let alone : alone_at x y (register_of (number d) ∷ []) x y ≡ register_of (number d) ∷ [] = rw (eq-eqb x x refl, eq-eqb y y refl) refl in
+    let clash : [] ≡ register_of (number d) ∷ [] = sym (ap (filter (is_about d)) (none x y)) ∙ staged.flight x y ∙ alone in
+    cc)
+rested parent born G d (Admitting h x y) none staged known = absurd (
+    let alone : alone_at x y (admit_of (number h) (number d) ∷ []) x y ≡ admit_of (number h) (number d) ∷ [] = rw (eq-eqb x x refl, eq-eqb y y refl) refl in
+    let clash : [] ≡ admit_of (number h) (number d) ∷ [] = sym (ap (filter (is_about d)) (none x y)) ∙ staged.flight x y ∙ alone in
+    cc)
+rested parent born G d Ready none staged known = staged.at.admitted
+
+pub journal_of-known : (laws : Laws) (commands : List Command) → IsPlaced commands → IsAtRest (facts_after (journal_of commands))
+    → (facts_after (journal_of commands)).server ≡ true → (e : ℕ) → is_living_enclave ((facts_after (journal_of commands)).enclave e) ≡ true
+    → knows (facts_after (journal_of commands)) e ≡ true
+journal_of-known laws commands placed rest served e living =
+    knows_at_rest (facts_after (journal_of commands)) (laws.journal.flowing commands placed) (journal_of-discovered laws commands placed).asked rest served e living
+
+pub journal_of-admitted : (laws : Laws) (commands : List Command) → IsPlaced commands → IsAtRest (facts_after (journal_of commands))
+    → (facts_after (journal_of commands)).server ≡ true → (e : ℕ) → is_living_enclave ((facts_after (journal_of commands)).enclave e) ≡ true
+    → is_admitted_at (facts_after (journal_of commands)) e ≡ true
+journal_of-admitted laws commands placed rest served e living =
+    let G = facts_after (journal_of commands) in
+    let registered = (journal_of-discovered laws commands placed).registered e in
+    rested (parent_of G) G.born G e registered.stage (rest_flight G (laws.journal.flowing commands placed) rest) registered.is
+    (journal_of-known laws commands placed rest served e living)

@@ -3,11 +3,13 @@ ghost use Rattle.std.specs.Prelude.{◌≡◌, ◌≤◌, ℕ, List, true, Some}
 ghost use Rattle.xm_num.specs.declared.Enclave.{Enclave as Enclaves};
 ghost use Rattle.xemem_language.specs.declared.command.Command.{Command as Commands};
 ghost use Rattle.global_model.specs.Due.{journal_of};
-ghost use Rattle.global_model.specs.Facts.{facts_after};
+ghost use Rattle.global_model.specs.Facts.{facts_after, is_living_enclave};
+ghost use Rattle.global_model.specs.Rest.{IsAtRest};
 ghost use Rattle.global_model.specs.Place.{IsPlaced};
-ghost use Rattle.discovery_laws.specs.Known.{holds, way_of};
+ghost use Rattle.discovery_laws.specs.Known.{back_of, holds, is_admitted_at, knows, route_of, way_of};
 ghost use Rattle.discovery_laws.specs.Laws.{Laws};
-ghost use Rattle.discovery_laws.specs.Ways.{LeadsToHolder, ways_in};
+ghost use Rattle.discovery_laws.specs.Ways.{LeadsTo, LeadsToHolder, ways_in};
+ghost use Rattle.discovery_laws.specs.Once.{IsOnce};
 
 use global_model::{
     journals_are_carried, journals_are_in_steps, journals_grow, pasts_grow, trees_have_paths,
@@ -30,10 +32,15 @@ fn laws()
     row_laws::<Enclave>();
 }
 
-/// Where an enclave's way goes is the next enclave on the path to the one that holds the name server, of which there is one.
+/// Where an enclave's way goes is the next enclave on the path to the one that holds the name server, of which there is one. Its way
+/// back to an enclave and its route to one go to the next enclave on the path to that one.
 pub fn ways_lead()
     ensures way { (commands : List Commands) → IsPlaced commands → (e : ℕ) (x : Enclaves)
         → way_of (facts_after (journal_of commands)) e ≡ Some x → LeadsToHolder (facts_after (journal_of commands)) e x }
+    ensures back { (commands : List Commands) → IsPlaced commands → (e d : ℕ) (x : Enclaves)
+        → back_of (facts_after (journal_of commands)) e d ≡ Some x → LeadsTo (facts_after (journal_of commands)) e d x }
+    ensures route { (commands : List Commands) → IsPlaced commands → (e d : ℕ) (x : Enclaves)
+        → route_of (facts_after (journal_of commands)) e d ≡ Some x → LeadsTo (facts_after (journal_of commands)) e d x }
     ensures holder { (commands : List Commands) → IsPlaced commands → (a b : ℕ)
         → holds (facts_after (journal_of commands)) a ≡ true → holds (facts_after (journal_of commands)) b ≡ true → a ≡ b }
 {
@@ -43,6 +50,27 @@ pub fn ways_lead()
 /// An enclave learns its way once: a journal has at most one line by which it does.
 pub fn ways_come_once()
     ensures { (commands : List Commands) → IsPlaced commands → (e : ℕ) → ways_in e (journal_of commands) ≤ 1 }
+{
+    laws();
+}
+
+/// No enclave gets two records of one kind with the same origin, destination and call.
+pub fn records_come_once()
+    ensures { (commands : List Commands) → IsPlaced commands → IsOnce (journal_of commands) }
+{
+    laws();
+}
+
+/// Whenever nothing waits in any channel, and an enclave was born with the name server, each living enclave knows the way to it
+/// and is admitted.
+pub fn rest_is_admitted()
+    ensures known { (commands : List Commands) → IsPlaced commands → IsAtRest (facts_after (journal_of commands))
+        → (facts_after (journal_of commands)).server ≡ true → (e : ℕ)
+        → is_living_enclave ((facts_after (journal_of commands)).enclave e) ≡ true → knows (facts_after (journal_of commands)) e ≡ true }
+    ensures admitted { (commands : List Commands) → IsPlaced commands → IsAtRest (facts_after (journal_of commands))
+        → (facts_after (journal_of commands)).server ≡ true → (e : ℕ)
+        → is_living_enclave ((facts_after (journal_of commands)).enclave e) ≡ true
+        → is_admitted_at (facts_after (journal_of commands)) e ≡ true }
 {
     laws();
 }
