@@ -19,3 +19,4 @@ pub mod Begun
 pub mod Trees
 pub mod Registrations
 pub mod Pausing
+pub mod Joined

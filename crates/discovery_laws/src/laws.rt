@@ -3,9 +3,11 @@ ghost use Rattle.std.specs.Prelude.{◌≡◌, ◌≤◌, ℕ, List, true, Some}
 ghost use Rattle.xm_num.specs.declared.Enclave.{Enclave as Enclaves};
 ghost use Rattle.xemem_language.specs.declared.command.Command.{Command as Commands};
 ghost use Rattle.global_model.specs.Due.{journal_of};
-ghost use Rattle.global_model.specs.Facts.{facts_after};
+ghost use Rattle.global_model.specs.Facts.{facts_after, is_living_enclave};
 ghost use Rattle.global_model.specs.Place.{IsPlaced};
-ghost use Rattle.discovery_laws.specs.Known.{holds, way_of};
+ghost use Rattle.global_model.specs.Rest.{IsAtRest};
+ghost use Rattle.global_model.specs.Tree.{IsToward, parent_of};
+ghost use Rattle.discovery_laws.specs.Known.{back_of, holds, is_admitted_at, knows, route_of, way_of};
 ghost use Rattle.discovery_laws.specs.Laws.{Laws};
 ghost use Rattle.discovery_laws.specs.Ways.{LeadsToHolder, ways_in};
 
@@ -30,12 +32,19 @@ fn laws()
     row_laws::<Enclave>();
 }
 
-/// Where an enclave's way goes is the next enclave on the path to the one that holds the name server, of which there is one.
+/// An enclave's way goes to the next enclave on the path to the one that holds the name server, of which there is one. A way back and
+/// a route go to the next enclave on the path to the enclave that they are to.
 pub fn ways_lead()
     ensures way { (commands : List Commands) → IsPlaced commands → (e : ℕ) (x : Enclaves)
         → way_of (facts_after (journal_of commands)) e ≡ Some x → LeadsToHolder (facts_after (journal_of commands)) e x }
     ensures holder { (commands : List Commands) → IsPlaced commands → (a b : ℕ)
         → holds (facts_after (journal_of commands)) a ≡ true → holds (facts_after (journal_of commands)) b ≡ true → a ≡ b }
+    ensures backs { (commands : List Commands) → IsPlaced commands → (e d : ℕ) (x : Enclaves)
+        → back_of (facts_after (journal_of commands)) e d ≡ Some x
+        → IsToward (parent_of (facts_after (journal_of commands))) (facts_after (journal_of commands)).born e d x.0 }
+    ensures routes { (commands : List Commands) → IsPlaced commands → (e d : ℕ) (x : Enclaves)
+        → route_of (facts_after (journal_of commands)) e d ≡ Some x
+        → IsToward (parent_of (facts_after (journal_of commands))) (facts_after (journal_of commands)).born e d x.0 }
 {
     laws();
 }
@@ -43,6 +52,19 @@ pub fn ways_lead()
 /// An enclave learns its way once: a journal has at most one line by which it does.
 pub fn ways_come_once()
     ensures { (commands : List Commands) → IsPlaced commands → (e : ℕ) → ways_in e (journal_of commands) ≤ 1 }
+{
+    laws();
+}
+
+/// Where nothing waits in any channel, and an enclave was born with the name server, each living enclave knows the way to it and is
+/// admitted.
+pub fn rest_is_admitted()
+    ensures knows { (commands : List Commands) → IsPlaced commands → IsAtRest (facts_after (journal_of commands))
+        → (facts_after (journal_of commands)).server ≡ true → (e : ℕ)
+        → is_living_enclave ((facts_after (journal_of commands)).enclave e) ≡ true → knows (facts_after (journal_of commands)) e ≡ true }
+    ensures admitted { (commands : List Commands) → IsPlaced commands → IsAtRest (facts_after (journal_of commands))
+        → (facts_after (journal_of commands)).server ≡ true → (e : ℕ)
+        → is_living_enclave ((facts_after (journal_of commands)).enclave e) ≡ true → is_admitted_at (facts_after (journal_of commands)) e ≡ true }
 {
     laws();
 }
