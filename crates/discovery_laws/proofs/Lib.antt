@@ -1,4 +1,5 @@
 pub mod Flights
+pub mod Effects
 pub mod Led
 pub mod Asking
 pub mod Knowing
