@@ -1,6 +1,6 @@
 -- The admit of d is handled: it is passed on over the way back, or makes d ready.
 use Rattle.std.proofs.Common.{◌≡◌, ◌≢◌, ◌⊎◌, ◌+◌, ◌<◌, ◌≤◌, ℕ, List, [], ◌∷◌, ◌++◌, filter, Bool, true, false, cond, ltb, ◌&&◌, ◌||◌, eqb, Option, None, Some, is_some, inl, inr, refl, sym, ap, ◌∙◌, subst, arith}
-use Rattle.std.proofs.lemmas.Bool.{cases_Bool, cases_eq, eqb-true, eq-eqb, ne_eqb, and_parts, lt-ltb}
+use Rattle.std.proofs.lemmas.Bool.{cases_Bool, cases_eq, eqb-true, eq-eqb, ne_eqb, and_parts, lt-ltb, false_from_ne_true}
 use Rattle.xm_num.specs.declared.Enclave.{Enclave}
 use Rattle.xm_num.specs.Rows.{at, put}
 use Rattle.xemem_language.specs.declared.record.Record.{Record}
@@ -18,8 +18,13 @@ use Rattle.discovery_laws.proofs.Stages.{Stage, Silent, Registering, Admitting, 
 use Rattle.discovery_laws.proofs.Unmoved.{IsBounded, holds_admitted}
 use Rattle.discovery_laws.proofs.Received.{bounded_got}
 use Rattle.discovery_laws.proofs.Moves.{no_stray, none_left, one_sent, row_cases, row_here, row_more, view_admitted, view_holder, IsThere, is_there}
+use Rattle.discovery_laws.proofs.Marks.{IsMoved}
 use Rattle.discovery_laws.proofs.Led.{IsLed}
 use Rattle.discovery_laws.proofs.Registers.{record_is}
+
+some_ready : (fact : Option EnclaveFact) → is_some fact ≡ true → is_admitted (as_admitted fact) ≡ true
+some_ready None is = cc
+some_ready (Some fact) is = refl
 
 -- The admit of d came from x to y.
 module _ (laws : Laws) (G : Facts) (x y : Enclave) (d h : ℕ) (rs : List Record) (rooted : IsRooted (parent_of G)) (bounded : IsBounded G)
@@ -80,13 +85,9 @@ module _ (laws : Laws) (G : Facts) (x y : Enclave) (d h : ℕ) (rs : List Record
     routes = λ e z is. let was = staged.routes e z is in record { toward = was.toward; may = tt };
     at = record {
       known = ap (λ t. t || is_some (way_of G d)) (holds_admitted (after_line G (lines.Got x y)) y d) ∙ staged.at.known;
-      admitted = rw (eq-eqb d y.0 (sym here)) (by (G.enclave y.0) some);
+      admitted = rw (eq-eqb d y.0 (sym here)) (some_ready (G.enclave y.0) some);
     };
   }
-    where
-      by : (fact : Option EnclaveFact) → is_some fact ≡ true → is_admitted (as_admitted fact) ≡ true
-      by None is = cc
-      by (Some fact) is = refl
 
 -- ---- what is made of it
 
@@ -100,12 +101,16 @@ admit_on v from d over r apart back turned = rw (ne_eqb d.0 v.me.0 apart, back, 
 pub admit_handled : Laws → (G : Facts) (x y : Enclave) (d h : ℕ) (rs : List Record) → IsLed G → IsTree G → IsBounded G
     → IsStaged (parent_of G) G.born G d (Admitting h x.0 y.0) → in_flight G x.0 y.0 ≡ admit_of (number h) (number d) ∷ rs
     → filter (is_about d) rs ≡ []
-    → IsRegistered (parent_of G) G.born (after_lines G (lines.Got x y ∷ record_lines (view_of G y) x (admit_of (number h) (number d)))) d
+    → IsMoved G x y d (admit_of (number h) (number d)) (record_lines (view_of G y) x (admit_of (number h) (number d)))
 admit_handled laws G x y d h rs led tree bounded staged flight last =
     subst P (sym (record_is (view_of G y) x r fresh)) (elim (cases_eq d y.0) [
       | inl is ↦
           subst P (sym (admit_home (view_of G y) x (number d) r is (waits is)))
-          (record { stage = Ready; is = ready_now laws G x y d h rs rooted bounded staged flight last (sym is) born })
+          (record {
+            registered = record { stage = Ready; is = ready_now laws G x y d h rs rooted bounded staged flight last (sym is) born };
+            before = rw (eq-eqb d y.0 is) (ap (is_admitted_at G) (sym is) ∙ staged.at.waits);
+            after = rw (eq-eqb d y.0 is, eq-eqb y.0 y.0 refl) (some_ready (G.enclave y.0) born);
+          })
       | inr apart ↦ by apart staged.at.answers
     ])
   where
@@ -113,7 +118,7 @@ admit_handled laws G x y d h rs led tree bounded staged flight last =
     r = admit_of (number h) (number d)
 
     P : List Line → Type 0
-    P ls = IsRegistered (parent_of G) G.born (after_lines G (lines.Got x y ∷ ls)) d
+    P ls = IsMoved G x y d (admit_of (number h) (number d)) ls
 
     rooted : IsRooted (parent_of G)
     rooted = laws.tree.rooted G tree
@@ -130,6 +135,12 @@ admit_handled laws G x y d h rs led tree bounded staged flight last =
     born : is_some (G.enclave y.0) ≡ true
     born = (tree.enclaves y.0).known ∙ lt-ltb y.0 G.born staged.at.ahead.over
 
+    none : is_some (route_of G y.0 d) ≡ false
+    none = false_from_ne_true (is_some (route_of G y.0 d)) (λ some.
+        let found = is_there (route_of G y.0 d) some in
+        let less = (staged.routes y.0 found.value found.is).may in
+        omega (arith, less))
+
     by : d ≢ y.0 → Answers (back_of G) d y.0 → P (body_lines (view_of G y) x r r.body)
     by apart (inl is) = absurd (apart (sym is))
     by apart (inr some) =
@@ -137,4 +148,8 @@ admit_handled laws G x y d h rs led tree bounded staged flight last =
         let over = found.value in
         let turned : over.0 ≢ x.0 = back_apart laws G x y d h rs rooted bounded staged flight last over (staged.backs y.0 over found.is).toward in
         subst P (sym (admit_on (view_of G y) x (number d) over r apart found.is turned))
-        (record { stage = Admitting h y.0 over.0; is = passed_over laws G x y d h rs rooted bounded staged flight last over found.is })
+        (record {
+          registered = record { stage = Admitting h y.0 over.0; is = passed_over laws G x y d h rs rooted bounded staged flight last over found.is };
+          before = rw (ne_eqb d y.0 apart) none;
+          after = rw (ne_eqb d y.0 apart) (ap is_some (row_here laws.row G.routes y.0 d over));
+        })

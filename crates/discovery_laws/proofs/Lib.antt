@@ -20,4 +20,6 @@ pub mod Begun
 pub mod Trees
 pub mod Registrations
 pub mod Pausing
+pub mod Marks
+pub mod Onces
 pub mod Joined

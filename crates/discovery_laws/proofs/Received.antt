@@ -44,7 +44,7 @@ next_sent (suc n) bytes r (s ∷ ss) others is = by (λ found. next_sent n (byte
 pub next_flight : (G : Facts) (x y : ℕ) (r : Record) (others : List Record) → arriving (G.channel x y) ≡ r ∷ others → IsNextOf r (in_flight G x y)
 next_flight G x y r others is = next_sent (G.channel x y).got (G.channel x y).taken r (G.channel x y).sent others is
 
-drop-more : {A : Type 0} (n : ℕ) (x : A) (ws xs : List A) → drop n ws ≡ x ∷ xs → drop (n + 1) ws ≡ xs
+pub drop-more : {A : Type 0} (n : ℕ) (x : A) (ws xs : List A) → drop n ws ≡ x ∷ xs → drop (n + 1) ws ≡ xs
 drop-more zero x [] xs is = cc
 drop-more zero x (w ∷ ws) xs is = cc
 drop-more (suc n) x [] xs is = cc

@@ -1,6 +1,6 @@
 -- A register or an admit of d is handled: it comes to the next stage, and is passed on or ends, but isn't dropped.
 use Rattle.std.proofs.Common.{◌≡◌, ◌≢◌, ◌⊎◌, ◌+◌, ◌<◌, ◌≤◌, ℕ, List, [], ◌∷◌, ◌++◌, filter, Bool, true, false, cond, ◌&&◌, ◌||◌, eqb, Option, None, Some, is_some, inl, inr, refl, sym, ap, ◌∙◌, subst, arith}
-use Rattle.std.proofs.lemmas.Bool.{cases_Bool, cases_eq, eqb-true, eq-eqb, ne_eqb, and_parts}
+use Rattle.std.proofs.lemmas.Bool.{cases_Bool, cases_eq, eqb-true, eq-eqb, ne_eqb, and_parts, false_from_ne_true}
 use Rattle.xm_num.specs.declared.Enclave.{Enclave}
 use Rattle.xm_num.specs.Rows.{at, put}
 use Rattle.xemem_language.specs.declared.record.Record.{Record}
@@ -17,6 +17,7 @@ use Rattle.discovery_laws.proofs.Stages.{Stage, Silent, Registering, Admitting, 
 use Rattle.discovery_laws.proofs.Unmoved.{IsBounded}
 use Rattle.discovery_laws.proofs.Received.{bounded_got}
 use Rattle.discovery_laws.proofs.Moves.{no_stray, none_left, one_sent, row_cases, row_here, row_more, view_admitted, view_holder, IsThere, is_there}
+use Rattle.discovery_laws.proofs.Marks.{IsMoved}
 use Rattle.discovery_laws.proofs.Led.{IsLed}
 
 -- ---- no turning back
@@ -151,12 +152,21 @@ way_known G e known none = is_there (way_of G e) (sym (rw none refl) ∙ known)
 pub register_handled : Laws → (G : Facts) (x y : Enclave) (d h : ℕ) (rs : List Record) → IsLed G → IsRooted (parent_of G) → IsBounded G
     → IsStaged (parent_of G) G.born G d (Registering h x.0 y.0) → in_flight G x.0 y.0 ≡ register_of (number d) ∷ rs
     → filter (is_about d) rs ≡ []
-    → IsRegistered (parent_of G) G.born (after_lines G (lines.Got x y ∷ record_lines (view_of G y) x (register_of (number d)))) d
+    → IsMoved G x y d (register_of (number d)) (record_lines (view_of G y) x (register_of (number d)))
 register_handled laws G x y d h rs led rooted bounded staged flight last =
     subst P (sym (record_is (view_of G y) x (register_of (number d)) fresh)) (by (holds G y.0) refl)
   where
     P : List Line → Type 0
-    P ls = IsRegistered (parent_of G) G.born (after_lines G (lines.Got x y ∷ ls)) d
+    P ls = IsMoved G x y d (register_of (number d)) ls
+
+    kept : is_some (back_of (remembered G x y d) y.0 d) ≡ true
+    kept = ap is_some (row_here laws.row G.backs y.0 d x)
+
+    none : is_some (back_of G y.0 d) ≡ false
+    none = false_from_ne_true (is_some (back_of G y.0 d)) (λ some.
+        let found = is_there (back_of G y.0 d) some in
+        let less = (staged.backs y.0 found.value found.is).may in
+        omega (arith, less))
 
     fresh : is_stray (view_of G y) (register_of (number d)) ≡ false
     fresh = no_stray G y (register_of (number d)) (led.quiet y.0) (λ is.
@@ -166,7 +176,11 @@ register_handled laws G x y d h rs led rooted bounded staged flight last =
 
     by : (t : Bool) → holds G y.0 ≡ t → P (register_lines (view_of G y) x (register_of (number d)))
     by true is = subst P (sym (register_here (view_of G y) x (register_of (number d)) (view_holder (G.enclave y.0) ∙ is)))
-        (record { stage = Admitting y.0 y.0 x.0; is = admitted_over laws G x y d h rs rooted bounded staged flight last })
+        (record {
+          registered = record { stage = Admitting y.0 y.0 x.0; is = admitted_over laws G x y d h rs rooted bounded staged flight last };
+          before = none;
+          after = kept;
+        })
     by false is =
         let found = way_known G y.0 staged.at.knowing is in
         let over = found.value in
@@ -174,6 +188,10 @@ register_handled laws G x y d h rs led rooted bounded staged flight last =
         let apart : over.0 ≢ x.0 = ahead_of laws G x y d h rs rooted bounded staged flight last over ahead in
         subst P (sym (register_on (view_of G y) x over (register_of (number d)) (view_holder (G.enclave y.0) ∙ is) found.is apart))
         (record {
-          stage = Registering h y.0 over.0;
-          is = passed_on laws G x y d h rs rooted bounded staged flight last over ahead (led.known y.0 over found.is);
+          registered = record {
+            stage = Registering h y.0 over.0;
+            is = passed_on laws G x y d h rs rooted bounded staged flight last over ahead (led.known y.0 over found.is);
+          };
+          before = none;
+          after = kept;
         })

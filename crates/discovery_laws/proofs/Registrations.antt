@@ -21,6 +21,7 @@ use Rattle.discovery_laws.proofs.Stages.{Stage, Silent, Registering, Admitting, 
 use Rattle.discovery_laws.proofs.Unmoved.{AreAside, IsBounded, IsUnmoved, staged_stays, unmoved-trans, unmoved_lines}
 use Rattle.discovery_laws.proofs.Received.{IsNextOf, MayHear, aside_record, bounded_got, next_flight, unmoved_got}
 use Rattle.discovery_laws.proofs.Moves.{about_first, alone_taken, view_holder}
+use Rattle.discovery_laws.proofs.Marks.{IsMoved}
 use Rattle.discovery_laws.proofs.Led.{IsLed}
 use Rattle.discovery_laws.proofs.Registers.{register_handled}
 use Rattle.discovery_laws.proofs.Admitted.{admit_handled}
@@ -68,27 +69,27 @@ leaves laws G x y r rs d bounded flight other aside registered =
     }
 
 -- one of d
-moves : Laws → (G : Facts) (x y : Enclave) (r : Record) (rs : List Record) (d : ℕ) (stage : Stage) → IsLed G → IsTree G → IsBounded G
+pub moves : Laws → (G : Facts) (x y : Enclave) (r : Record) (rs : List Record) (d : ℕ) (stage : Stage) → IsLed G → IsTree G → IsBounded G
     → in_flight G x.0 y.0 ≡ r ∷ rs → is_about d r ≡ true → IsStaged (parent_of G) G.born G d stage
-    → IsRegistered (parent_of G) G.born (after_lines G (lines.Got x y ∷ record_lines (view_of G y) x r)) d
+    → IsMoved G x y d r (record_lines (view_of G y) x r)
 moves laws G x y r rs d stage led tree bounded flight about staged = by stage staged (sym (staged.flight x.0 y.0) ∙ about_first G x.0 y.0 r rs d flight about)
   where
     by : (stage : Stage) → IsStaged (parent_of G) G.born G d stage → under_way d stage x.0 y.0 ≡ r ∷ filter (is_about d) rs
-        → IsRegistered (parent_of G) G.born (after_lines G (lines.Got x y ∷ record_lines (view_of G y) x r)) d
+        → IsMoved G x y d r (record_lines (view_of G y) x r)
     by Silent staged is = cc
     by (Registering h a b) staged is =
         let taken = alone_taken a b (register_of (number d)) r (filter (is_about d) rs) x.0 y.0 is in
         let here : IsStaged (parent_of G) G.born G d (Registering h x.0 y.0)
         = subst (λ n. IsStaged (parent_of G) G.born G d (Registering h n y.0)) (sym taken.from)
         (subst (λ n. IsStaged (parent_of G) G.born G d (Registering h a n)) (sym taken.to) staged) in
-        subst (λ s. IsRegistered (parent_of G) G.born (after_lines G (lines.Got x y ∷ record_lines (view_of G y) x s)) d) taken.same
+        subst (λ s. IsMoved G x y d s (record_lines (view_of G y) x s)) taken.same
         (register_handled laws G x y d h rs led (laws.tree.rooted G tree) bounded here (flight ∙ ap (λ s. s ∷ rs) (sym taken.same)) taken.last)
     by (Admitting h a b) staged is =
         let taken = alone_taken a b (admit_of (number h) (number d)) r (filter (is_about d) rs) x.0 y.0 is in
         let here : IsStaged (parent_of G) G.born G d (Admitting h x.0 y.0)
         = subst (λ n. IsStaged (parent_of G) G.born G d (Admitting h n y.0)) (sym taken.from)
         (subst (λ n. IsStaged (parent_of G) G.born G d (Admitting h a n)) (sym taken.to) staged) in
-        subst (λ s. IsRegistered (parent_of G) G.born (after_lines G (lines.Got x y ∷ record_lines (view_of G y) x s)) d) taken.same
+        subst (λ s. IsMoved G x y d s (record_lines (view_of G y) x s)) taken.same
         (admit_handled laws G x y d h rs led tree bounded here (flight ∙ ap (λ s. s ∷ rs) (sym taken.same)) taken.last)
     by Ready staged is = cc
 
@@ -122,7 +123,7 @@ pub handled : Laws → (G : Facts) (x y : Enclave) (r : Record) → IsPause G �
     IsLed H → IsRooted (parent_of H)
     → (d : ℕ) → IsRegistered (parent_of G) G.born G d → IsRegistered (parent_of H) H.born H d)
 handled laws G x y r pause may led led' rooted' d registered = elim (cases_Bool (is_about d r)) [
-  | inl about ↦ grown (moves laws G x y r rs d registered.stage led tree bounded flight about registered.is)
+  | inl about ↦ grown (moves laws G x y r rs d registered.stage led tree bounded flight about registered.is).registered
   | inr other ↦ elim (cases_Bool (knows G y.0)) [
       | inl known ↦
           let way : knows_way (view_of G y) ≡ true = ap (λ t. t || is_some (G.way y.0)) (view_holder (G.enclave y.0)) ∙ known in
