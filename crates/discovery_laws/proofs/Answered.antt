@@ -21,7 +21,7 @@ use Rattle.global_model.specs.Flow.{IsTree}
 use Rattle.global_model.specs.Pauses.{IsPause, MayHandle}
 use Rattle.global_model.specs.Tree.{IsRooted, IsToward, parent_of}
 use Rattle.global_model.specs.Views.{view_of}
-use Rattle.discovery_laws.specs.Known.{holds, in_flight, knows, way_of}
+use Rattle.discovery_laws.specs.Known.{askers_of, holds, in_flight, knows, way_of}
 use Rattle.discovery_laws.specs.Laws.{PastLaws, TreeLaws}
 use Rattle.discovery_laws.proofs.Flights.{one_if, count, add, add-here}
 use Rattle.discovery_laws.proofs.Asking.{is_query, is_here, is_query_body, is_here_body, place, one_place, remembers, heres_flying, number_has, IsCounted, counted_sent, counted_got, counted_way, counted_asked}
@@ -80,7 +80,7 @@ holder_is None = refl
 holder_is (Some fact) = refl
 
 pub knows_way_is : (G : Facts) (y : Enclave) → knows_way (view_of G y) ≡ knows G y.0
-knows_way_is G y = ap (λ b. b || is_some (G.way y.0)) (holder_is (G.enclave y.0))
+knows_way_is G y = ap (λ b. b || is_some (way_of G y.0)) (holder_is (G.enclave y.0))
 
 -- ---- records that neither ask for the way nor tell it
 
@@ -163,7 +163,7 @@ module _ (laws : TreeLaws) (G : Facts) (x y : Enclave) (r : Record) (behind : Li
       }
       by false is = record {
         counted = counted_asked asked_owed none_owed (knows G) table got y x (λ a b. omega arith) is first;
-        known = known_asked got y x (known_got G x y r behind next old.known);
+        known = known_asked laws got y x old.rooted (known_got G x y r behind next old.known);
         rooted = old.rooted;
       }
 
@@ -286,7 +286,7 @@ module _ (laws : TreeLaws) (G : Facts) (x y : Enclave) (tree : IsTree G) (near :
   pub handles_here : (past : PastLaws) (table : RowLaws Enclave) (r : Record) (behind : List Record) → in_flight G x.0 y.0 ≡ r ∷ behind
       → is_here r ≡ true → is_query r ≡ false → knows G y.0 ≡ false
       → IsAsking none_owed (after_lines G (lines.Got x y ∷ lines.Way y x
-      ∷ told_askers (view_of G y) (less (G.askers y.0) (place (parent_of G y.0) x.0)) ++ lines.Sent y x (register_of y) ∷ []))
+      ∷ told_askers (view_of G y) (less (askers_of G y.0) (place (parent_of G y.0) x.0)) ++ lines.Sent y x (register_of y) ∷ []))
   handles_here past table r behind next here query unknowing =
       subst (IsAsking none_owed) (sym (past.after H2 (told_askers (view_of G y) rows) (lines.Sent y x (register_of y) ∷ [])))
       (calm_line laws none_owed (after_lines H2 (told_askers (view_of G y) rows)) (lines.Sent y x (register_of y)) refl
@@ -306,18 +306,18 @@ module _ (laws : TreeLaws) (G : Facts) (x y : Enclave) (tree : IsTree G) (near :
       p = parent_of G y.0
 
       rows : List (ℕ × Enclave)
-      rows = less (G.askers y.0) (place p x.0)
+      rows = less (askers_of G y.0) (place p x.0)
 
-      rows_at : (k : ℕ) → at rows k ≡ cond (eqb (place p x.0) k) None (at (G.askers y.0) k)
-      rows_at k = table.less_at (G.askers y.0) (place p x.0) k (old.counted.ascends y.0)
+      rows_at : (k : ℕ) → at rows k ≡ cond (eqb (place p x.0) k) None (at (askers_of G y.0) k)
+      rows_at k = table.less_at (askers_of G y.0) (place p x.0) k (old.counted.ascends y.0)
 
       row_keyed : AreKeyed p rows
       row_keyed = record {
-        ascends = table.less_ascends (G.askers y.0) (place p x.0) (old.counted.ascends y.0);
+        ascends = table.less_ascends (askers_of G y.0) (place p x.0) (old.counted.ascends y.0);
         keyed = λ k z is. by k z (eqb (place p x.0) k) (sym (rows_at k) ∙ is);
       }
         where
-          by : (k : ℕ) (z : Enclave) (t : Bool) → cond t None (at (G.askers y.0) k) ≡ Some z → k ≡ place p z.0
+          by : (k : ℕ) (z : Enclave) (t : Bool) → cond t None (at (askers_of G y.0) k) ≡ Some z → k ≡ place p z.0
           by k z true is = absurd (cc)
           by k z false is = old.counted.keyed y.0 k z is
 
@@ -352,13 +352,13 @@ module _ (laws : TreeLaws) (G : Facts) (x y : Enclave) (tree : IsTree G) (near :
           (λ a b other. ap (λ t. one_if (t && is_some (at rows (place p b)))) other)
           (λ b. refl) most least (or_left (knows G x.0) (eqb x.0 y.0) knowing) first
         where
-          here_owed : (b : ℕ) → row_owed y.0 p rows y.0 b ≡ one_if (is_some (cond (eqb (place p x.0) (place p b)) None (at (G.askers y.0) (place p b))))
+          here_owed : (b : ℕ) → row_owed y.0 p rows y.0 b ≡ one_if (is_some (cond (eqb (place p x.0) (place p b)) None (at (askers_of G y.0) (place p b))))
           here_owed b = ap (λ t. one_if (t && is_some (at rows (place p b)))) (eq-eqb y.0 y.0 refl) ∙ ap (λ o. one_if (is_some o)) (rows_at (place p b))
 
           most : (b : ℕ) → row_owed y.0 p rows y.0 b ≤ one_if (remembers G y.0 b)
           most b = let is = here_owed b in let le = by (eqb (place p x.0) (place p b)) in omega (arith, is, le)
             where
-              by : (t : Bool) → one_if (is_some (cond t None (at (G.askers y.0) (place p b)))) ≤ one_if (remembers G y.0 b)
+              by : (t : Bool) → one_if (is_some (cond t None (at (askers_of G y.0) (place p b)))) ≤ one_if (remembers G y.0 b)
               by true = omega arith
               by false = omega arith
 
@@ -370,7 +370,7 @@ module _ (laws : TreeLaws) (G : Facts) (x y : Enclave) (tree : IsTree G) (near :
               most_one false = omega arith
 
               by : (t : Bool) → eqb (place p x.0) (place p b) ≡ t → (u : Bool) → eqb b x.0 ≡ u
-                  → one_if (remembers G y.0 b) ≤ one_if u + one_if (is_some (cond t None (at (G.askers y.0) (place p b))))
+                  → one_if (remembers G y.0 b) ≤ one_if u + one_if (is_some (cond t None (at (askers_of G y.0) (place p b))))
               by t is true same = omega (arith, most_one (remembers G y.0 b))
               by true is false other = absurd (eqb-false b x.0 other (sym (one_place p x.0 b (eqb-true (place p x.0) (place p b) is))))
               by false is false other = omega arith

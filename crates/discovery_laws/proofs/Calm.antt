@@ -15,7 +15,8 @@ use Rattle.global_model.specs.Tree.{IsRooted, parent_of}
 use Rattle.discovery_laws.specs.Known.{holds, knows}
 use Rattle.discovery_laws.specs.Laws.{TreeLaws}
 use Rattle.discovery_laws.proofs.Flights.{one_if, add, pair_has}
-use Rattle.discovery_laws.proofs.Asking.{is_query, is_here, number_has, IsSame, same_knows, IsCounted, counted_same, counted_sent}
+use Rattle.discovery_laws.proofs.Effects.{LeavesWays, admitted_leaves, back_leaves, route_leaves}
+use Rattle.discovery_laws.proofs.Asking.{is_query, is_here, number_has, IsAlike, IsSame, same_knows, IsCounted, counted_same, counted_sent}
 use Rattle.discovery_laws.proofs.Knowing.{IsKnown, known_same, known_sent}
 
 -- more may be about to know
@@ -71,29 +72,27 @@ kept_by f kept G e a = number_has (λ a fact. f fact ≡ f (G.enclave a)) e.0 (a
 child_kept : (G : Facts) (e : Enclave) (a b : ℕ) → is_child_of (after_line G (lines.Admitted e)) a b ≡ is_child_of G a b
 child_kept G e a b = ap (λ has. not (eqb a 0) && has) (kept_by (has_parent b) (has_kept b) G e a)
 
-pub same_admitted : (G : Facts) (e : Enclave) → IsSame G (after_line G (lines.Admitted e))
-same_admitted G e = record {
+pub alike_admitted : (G : Facts) (e : Enclave) → IsAlike G (after_line G (lines.Admitted e))
+alike_admitted G e = record {
   born = refl;
   server = refl;
   holds = kept_by is_holder holder_kept G e;
   parent = kept_by (λ fact. (fact_of fact).parent.0) parent_kept G e;
   near = λ a b i. child_kept G e a b i || child_kept G e b a i;
-  way = λ a. refl;
-  askers = λ a. refl;
+  way = (admitted_leaves G e e e).way;
   heard = λ a. refl;
   sent = λ a b. refl;
   got = λ a b. refl;
 }
 
-same_took : (G : Facts) (x y : Enclave) (n : ℕ) → IsSame G (after_line G (lines.Took x y n))
-same_took G x y n = record {
+alike_took : (G : Facts) (x y : Enclave) (n : ℕ) → IsAlike G (after_line G (lines.Took x y n))
+alike_took G x y n = record {
   born = refl;
   server = refl;
   holds = λ a. refl;
   parent = λ a. refl;
   near = λ a b. refl;
   way = λ a. refl;
-  askers = λ a. refl;
   heard = λ a. refl;
   sent = λ a b. pair_has (λ a b t c. c.sent ≡ (G.channel a b).sent) x.0 y.0 (with_taken n) G.channel a b refl refl;
   got = λ a b. pair_has (λ a b t c. c.got ≡ (G.channel a b).got) x.0 y.0 (with_taken n) G.channel a b refl refl;
@@ -118,10 +117,10 @@ neither false b is = (refl, is)
 
 pub asking_same : (laws : TreeLaws) (owed : ℕ → ℕ → ℕ) (G H : Facts) → IsSame G H → IsAsking owed G → IsAsking owed H
 asking_same laws owed G H same old = record {
-  counted = counted_knowing owed (knows G) (knows H) H (λ a. let is : one_if (knows H a) ≡ one_if (knows G a) = ap one_if (same_knows G H same a) in omega (arith, is))
+  counted = counted_knowing owed (knows G) (knows H) H (λ a. let is : one_if (knows H a) ≡ one_if (knows G a) = ap one_if (same_knows G H same.alike a) in omega (arith, is))
       (counted_same G H same owed (knows G) old.counted);
-  known = known_same laws G H same old.rooted old.known;
-  rooted = record { lower = λ e some. rw (same.parent e) (old.rooted.lower e some) };
+  known = known_same laws G H same.alike old.rooted old.known;
+  rooted = record { lower = λ e some. rw (same.alike.parent e) (old.rooted.lower e some) };
 }
 
 pub asking_sent : (owed : ℕ → ℕ → ℕ) (G : Facts) (x y : Enclave) (r : Record) → (is_query r || is_here r) ≡ false
@@ -140,6 +139,24 @@ asking_sent owed G x y r calm old =
       rooted = old.rooted;
     }
 
+-- where the enclaves, the channels and the deaths are as before by themselves
+still_same : (G H : Facts) → LeavesWays G H → H.born ≡ G.born → H.server ≡ G.server → ((e : ℕ) → H.enclave e ≡ G.enclave e)
+    → ((a b : ℕ) → H.channel a b ≡ G.channel a b) → ((e : ℕ) → H.heard e ≡ G.heard e) → IsSame G H
+still_same G H leaves born server enclaves channels heard = record {
+  alike = record {
+    born = born;
+    server = server;
+    holds = λ e. ap is_holder (enclaves e);
+    parent = λ e. ap (λ fact. (fact_of fact).parent.0) (enclaves e);
+    near = λ a b i. (not (eqb a 0) && has_parent b (enclaves a i)) || (not (eqb b 0) && has_parent a (enclaves b i));
+    way = leaves.way;
+    heard = heard;
+    sent = λ a b. ap (λ c. c.sent) (channels a b);
+    got = λ a b. ap (λ c. c.got) (channels a b);
+  };
+  askers = leaves.askers;
+}
+
 pub calm_line : (laws : TreeLaws) (owed : ℕ → ℕ → ℕ) (G : Facts) (line : Line) → IsCalm line → IsAsking owed G → IsAsking owed (after_line G line)
 calm_line laws owed G (lines.Born e kind parent ns blocks) calm old = absurd calm
 calm_line laws owed G (lines.Told e of) calm old = absurd calm
@@ -147,12 +164,18 @@ calm_line laws owed G (lines.Got x y) calm old = absurd calm
 calm_line laws owed G (lines.Asked e by) calm old = absurd calm
 calm_line laws owed G (lines.Way e over) calm old = absurd calm
 calm_line laws owed G (lines.Sent x y r) calm old = asking_sent owed G x y r calm old
-calm_line laws owed G (lines.Admitted e) calm old = asking_same laws owed G (after_line G (lines.Admitted e)) (same_admitted G e) old
-calm_line laws owed G (lines.Took x y n) calm old = asking_same laws owed G (after_line G (lines.Took x y n)) (same_took G x y n) old
-calm_line laws owed G (lines.Do (commands.Pool blocks)) calm old = asking_same laws owed G (after_line G (lines.Do (commands.Pool blocks))) (record {
-  born = refl; server = refl; holds = λ a. refl; parent = λ a. refl; near = λ a b. refl; way = λ a. refl; askers = λ a. refl; heard = λ a. refl; sent = λ a b. refl; got = λ a b. refl }) old
-calm_line laws owed G line calm old = asking_same laws owed G (after_line G line) (record {
-  born = refl; server = refl; holds = λ a. refl; parent = λ a. refl; near = λ a b. refl; way = λ a. refl; askers = λ a. refl; heard = λ a. refl; sent = λ a b. refl; got = λ a b. refl }) old
+calm_line laws owed G (lines.Admitted e) calm old = asking_same laws owed G (after_line G (lines.Admitted e))
+    (record { alike = alike_admitted G e; askers = (admitted_leaves G e e e).askers }) old
+calm_line laws owed G (lines.Took x y n) calm old = asking_same laws owed G (after_line G (lines.Took x y n))
+    (record { alike = alike_took G x y n; askers = λ e. refl }) old
+calm_line laws owed G (lines.Back e d over) calm old = asking_same laws owed G (after_line G (lines.Back e d over))
+    (still_same G (after_line G (lines.Back e d over)) (back_leaves G e d over) refl refl (λ e. refl) (λ a b. refl) (λ e. refl)) old
+calm_line laws owed G (lines.Route e d over) calm old = asking_same laws owed G (after_line G (lines.Route e d over))
+    (still_same G (after_line G (lines.Route e d over)) (route_leaves G e d over) refl refl (λ e. refl) (λ a b. refl) (λ e. refl)) old
+calm_line laws owed G (lines.Do (commands.Pool blocks)) calm old = asking_same laws owed G (after_line G (lines.Do (commands.Pool blocks)))
+    (still_same G (after_line G (lines.Do (commands.Pool blocks))) (record { way = λ e. refl; askers = λ e. refl }) refl refl (λ e. refl) (λ a b. refl) (λ e. refl)) old
+calm_line laws owed G line calm old = asking_same laws owed G (after_line G line)
+    (still_same G (after_line G line) (record { way = λ e. refl; askers = λ e. refl }) refl refl (λ e. refl) (λ a b. refl) (λ e. refl)) old
 
 pub calm_lines : (laws : TreeLaws) (owed : ℕ → ℕ → ℕ) (ls : List Line) (G : Facts) → AreCalm ls → IsAsking owed G → IsAsking owed (after_lines G ls)
 calm_lines laws owed [] G calm old = old

@@ -27,6 +27,7 @@ use Rattle.discovery_laws.specs.Once.{IsFirstNew, OnceAt, IsOnce, first_onto, is
 use Rattle.xemem_language.specs.Destinations.{destination_number}
 use Rattle.xemem_wire.specs.Table.{kind_of}
 use Rattle.discovery_laws.proofs.Asked.{IsAsked, asked_first, asked_led, asked_step}
+use Rattle.discovery_laws.proofs.Joined.{IsJoined}
 use Rattle.discovery_laws.proofs.Led.{IsLed}
 use Rattle.discovery_laws.proofs.Marks.{IsKept, kept-trans, kept_got, kept_lines, mark, mark_kept}
 use Rattle.discovery_laws.proofs.Onces.{IsNew, alike_mark, new_record}
@@ -148,8 +149,7 @@ unlike G y r (q ∷ rs) none all = (false_from_ne_true (is_alike r q) (λ is.
 
 -- discovery has gone as it is to, up to a pause
 pub record IsDiscovered (past : List Line) : Type 0 where
-  pub asked : IsAsked (facts_at past)
-  pub registered : (d : ℕ) → IsRegistered (parent_of (facts_at past)) (facts_at past).born (facts_at past) d
+  pub joined : IsJoined (facts_at past)
   pub got : (y : ℕ) → AreMarked (facts_at past) y (records_got y past)
 
 pub record GoesOn (past ls : List Line) : Type 0 where
@@ -170,7 +170,7 @@ goes_handled laws past x y r pause may old kept =
     let G = facts_at past in
     let own = record_lines (view_of G y) x r in
     let inner = all_gotless own (inner_record (view_of G y) x r) in
-    let new = new_record laws G x y r pause may old.asked old.registered in
+    let new = new_record laws G x y r pause may old.joined.asked old.joined.registered in
     let next = next_flight G x.0 y.0 r may.others may.next in
     record {
       once = (subst (λ rs. IsFirstNew rs (records_got y.0 past)) (sym next.is) (unlike G y.0 r (records_got y.0 past) new.before (old.got y.0)),

@@ -1,4 +1,4 @@
--- Along every journal discovery goes as it is to, and no record is got twice; at rest every enclave is admitted.
+-- Along every journal discovery goes as it is to, and no record is got twice.
 use Rattle.std.proofs.Common.{◌≡◌, ◌≢◌, ◌⊎◌, ◌+◌, ◌<◌, ◌≤◌, ℕ, List, [], ◌∷◌, ◌++◌, filter, Bool, true, false, cond, ◌&&◌, ◌||◌, eqb, None, Some, inl, inr, refl, sym, ap, ◌∙◌, subst, arith}
 use Rattle.std.specs.List.{AllByRecursion}
 use Rattle.std.proofs.lemmas.Bool.{eq-eqb}
@@ -22,13 +22,10 @@ use Rattle.global_model.specs.Views.{view_of}
 use Rattle.discovery_laws.specs.Known.{back_of, in_flight, is_admitted_at, knows, route_of}
 use Rattle.discovery_laws.specs.Laws.{Laws}
 use Rattle.discovery_laws.specs.Once.{OnceAt, IsOnce, records_got}
-use Rattle.discovery_laws.specs.Ways.{LeadsTo}
-use Rattle.discovery_laws.proofs.Asked.{IsAsked, asked_first, asked_led, asked_step}
+use Rattle.discovery_laws.proofs.Joined.{IsJoined, joined_first, joined_step}
 use Rattle.discovery_laws.proofs.Discovered.{AreMarked, GoesOn, IsDiscovered, all_gotless, inner_birth, inner_either, goes_handled, goes_gotless, kept_step}
-use Rattle.discovery_laws.proofs.Pausing.{aside_alone, registered_step}
+use Rattle.discovery_laws.proofs.Pausing.{aside_alone}
 use Rattle.discovery_laws.proofs.Unmoved.{inner_aside}
-use Rattle.discovery_laws.proofs.Resting.{knows_at_rest, rest_flight}
-use Rattle.discovery_laws.proofs.Stages.{IsRegistered, IsStaged, Stage, Silent, Registering, Admitting, Ready, about_in, alone_at, is_about, number, under_way}
 
 -- ---- steps
 
@@ -51,11 +48,9 @@ after_step : (laws : Laws) (past : List Line) (step : Step) → IsPause (facts_a
 after_step laws past step pause may old on =
     let G = facts_at past in
     let ls = written_by G step in
-    let asked : IsAsked (after_lines G ls) = asked_step laws G step pause may old.asked in
-    let P : Facts → Type 0 = λ H. IsAsked H × ((d : ℕ) → IsRegistered (parent_of H) H.born H d) × ((y : ℕ) → AreMarked H y (records_got y (onto ls past))) in
-    let all : P (facts_at (onto ls past)) = subst P (sym (laws.past.facts ls past))
-    (asked, (λ d. registered_step laws G step pause may (asked_led G old.asked) (asked_led (after_lines G ls) asked) asked.rooted d (old.registered d)), on.got) in
-    record { asked = all.0; registered = all.1; got = all.2 }
+    let P : Facts → Type 0 = λ H. IsJoined H × ((y : ℕ) → AreMarked H y (records_got y (onto ls past))) in
+    let all : P (facts_at (onto ls past)) = subst P (sym (laws.past.facts ls past)) (joined_step laws G step pause may old.joined, on.got) in
+    record { joined = all.0; got = all.1 }
 
 Follows-append : (Law : List Line → Line → Type 0) (ls ms past : List Line) → Follows Law past ls → Follows Law (onto ls past) ms
     → Follows Law past (ls ++ ms)
@@ -85,77 +80,15 @@ all_steps laws (step ∷ steps) past are old =
 
 -- ---- whole journals
 
--- nothing of any enclave stands anywhere before the first command
-registered_first : Laws → (d : ℕ) → IsRegistered (parent_of no_facts) 0 no_facts d
-registered_first laws d = record {
-  stage = Silent;
-  is = record {
-    flight = λ a b. refl;
-    backs = λ e x is. absurd (no_row x is);
-    routes = λ e x is. absurd (no_row x is);
-    at = record { known = refl; admitted = refl };
-  };
-}
-  where
-    no_row : (x : Enclave) → at [] d ≡ Some x → ⊥
-    no_row x is = let clash : None ≡ Some x = sym (laws.table.none d) ∙ is in cc
-
 from_the_start : (laws : Laws) (commands : List Command) → IsPlaced commands → GoesAll [] (journal_of commands)
 from_the_start laws commands placed =
     let in_steps = laws.journal.steps commands placed in
     subst (GoesAll []) (sym in_steps.written)
-    (all_steps laws in_steps.steps [] in_steps.are (record { asked = asked_first laws; registered = registered_first laws; got = λ y. tt }))
+    (all_steps laws in_steps.steps [] in_steps.are (record { joined = joined_first laws; got = λ y. tt }))
 
 pub journal_of-once : (laws : Laws) (commands : List Command) → IsPlaced commands → IsOnce (journal_of commands)
 journal_of-once laws commands placed = (from_the_start laws commands placed).once
 
 -- where every command has ended
-record EndsDiscovered (G : Facts) : Type 0 where
-  asked : IsAsked G
-  registered : (d : ℕ) → IsRegistered (parent_of G) G.born G d
-
-journal_of-discovered : (laws : Laws) (commands : List Command) → IsPlaced commands → EndsDiscovered (facts_after (journal_of commands))
-journal_of-discovered laws commands placed =
-    let end = (from_the_start laws commands placed).end in
-    subst EndsDiscovered (laws.past.facts (journal_of commands) []) (record { asked = end.asked; registered = end.registered })
-
--- ---- where ways back and routes lead
-
-pub journal_of-backs : (laws : Laws) (commands : List Command) → IsPlaced commands → (e d : ℕ) (x : Enclave)
-    → back_of (facts_after (journal_of commands)) e d ≡ Some x → LeadsTo (facts_after (journal_of commands)) e d x
-journal_of-backs laws commands placed e d x is = (((journal_of-discovered laws commands placed).registered d).is.backs e x is).toward
-
-pub journal_of-routes : (laws : Laws) (commands : List Command) → IsPlaced commands → (e d : ℕ) (x : Enclave)
-    → route_of (facts_after (journal_of commands)) e d ≡ Some x → LeadsTo (facts_after (journal_of commands)) e d x
-journal_of-routes laws commands placed e d x is = (((journal_of-discovered laws commands placed).registered d).is.routes e x is).toward
-
--- ---- at rest
-
--- who knows its way is admitted where nothing is under way
-rested : (parent : ℕ → ℕ) (born : ℕ) (G : Facts) (d : ℕ) (stage : Stage) → ((x y : ℕ) → in_flight G x y ≡ []) → IsStaged parent born G d stage
-    → knows G d ≡ true → is_admitted_at G d ≡ true
-rested parent born G d Silent none staged known = staged.at.admitted ∙ sym staged.at.known ∙ known
-rested parent born G d (Registering h x y) none staged known = absurd (
-    let alone : alone_at x y (register_of (number d) ∷ []) x y ≡ register_of (number d) ∷ [] = rw (eq-eqb x x refl, eq-eqb y y refl) refl in
-    let clash : [] ≡ register_of (number d) ∷ [] = sym (ap (filter (is_about d)) (none x y)) ∙ staged.flight x y ∙ alone in
-    cc)
-rested parent born G d (Admitting h x y) none staged known = absurd (
-    let alone : alone_at x y (admit_of (number h) (number d) ∷ []) x y ≡ admit_of (number h) (number d) ∷ [] = rw (eq-eqb x x refl, eq-eqb y y refl) refl in
-    let clash : [] ≡ admit_of (number h) (number d) ∷ [] = sym (ap (filter (is_about d)) (none x y)) ∙ staged.flight x y ∙ alone in
-    cc)
-rested parent born G d Ready none staged known = staged.at.admitted
-
-pub journal_of-known : (laws : Laws) (commands : List Command) → IsPlaced commands → IsAtRest (facts_after (journal_of commands))
-    → (facts_after (journal_of commands)).server ≡ true → (e : ℕ) → is_living_enclave ((facts_after (journal_of commands)).enclave e) ≡ true
-    → knows (facts_after (journal_of commands)) e ≡ true
-journal_of-known laws commands placed rest served e living =
-    knows_at_rest (facts_after (journal_of commands)) (laws.journal.flowing commands placed) (journal_of-discovered laws commands placed).asked rest served e living
-
-pub journal_of-admitted : (laws : Laws) (commands : List Command) → IsPlaced commands → IsAtRest (facts_after (journal_of commands))
-    → (facts_after (journal_of commands)).server ≡ true → (e : ℕ) → is_living_enclave ((facts_after (journal_of commands)).enclave e) ≡ true
-    → is_admitted_at (facts_after (journal_of commands)) e ≡ true
-journal_of-admitted laws commands placed rest served e living =
-    let G = facts_after (journal_of commands) in
-    let registered = (journal_of-discovered laws commands placed).registered e in
-    rested (parent_of G) G.born G e registered.stage (rest_flight G (laws.journal.flowing commands placed) rest) registered.is
-    (journal_of-known laws commands placed rest served e living)
+pub journal_of-joined : (laws : Laws) (commands : List Command) → IsPlaced commands → IsJoined (facts_after (journal_of commands))
+journal_of-joined laws commands placed = subst IsJoined (laws.past.facts (journal_of commands) []) (from_the_start laws commands placed).end.joined

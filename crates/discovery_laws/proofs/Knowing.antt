@@ -12,7 +12,8 @@ use Rattle.discovery_laws.specs.Known.{holds, in_flight, knows, way_of}
 use Rattle.discovery_laws.specs.Laws.{TreeLaws}
 use Rattle.discovery_laws.proofs.Led.{IsHeld}
 use Rattle.discovery_laws.proofs.Flights.{one_if, count, add, pair_has, sent_more, flies_more, got_sent, flies_less}
-use Rattle.discovery_laws.proofs.Asking.{is_query, is_here, heres_flying, number_has, IsSame, same_knows, same_flight}
+use Rattle.discovery_laws.proofs.Effects.{number_at, way_learns, asked_leaves}
+use Rattle.discovery_laws.proofs.Asking.{is_query, is_here, heres_flying, IsAlike, same_knows, same_flight}
 
 -- a query and a here are their sender's own
 abbrev pub IsOwn : ℕ → Record → Type 0
@@ -34,7 +35,7 @@ own-append x (s ∷ rs) r all own = (all.0, own-append x rs r all.1 own)
 
 -- ---- lines that change nothing of this
 
-pub known_same : (laws : TreeLaws) (G H : Facts) → IsSame G H → IsRooted (parent_of G) → IsKnown G → IsKnown H
+pub known_same : (laws : TreeLaws) (G H : Facts) → IsAlike G H → IsRooted (parent_of G) → IsKnown G → IsKnown H
 known_same laws G H same rooted old = record {
   quiet = λ e. same.heard e ∙ old.quiet e;
   own = λ a b. rw (same.sent a b) (old.own a b);
@@ -89,38 +90,41 @@ known_got G x y r behind next old = record {
   leads = old.leads;
 }
 
-pub known_asked : (G : Facts) (y asker : Enclave) → IsKnown G → IsKnown (after_line G (lines.Asked y asker))
-known_asked G y asker old = record {
-  quiet = old.quiet; own = old.own; told = old.told; over = old.over; server = old.server; held = λ is. record { holder = (old.held is).holder; holds = (old.held is).holds }; one = old.one; leads = old.leads }
+pub known_asked : (laws : TreeLaws) (G : Facts) (y asker : Enclave) → IsRooted (parent_of G) → IsKnown G → IsKnown (after_line G (lines.Asked y asker))
+known_asked laws G y asker rooted old = known_same laws G (after_line G (lines.Asked y asker)) (record {
+  born = refl; server = refl; holds = λ e. refl; parent = λ e. refl; near = λ a b. refl; way = asked_leaves G y asker; heard = λ e. refl; sent = λ a b. refl; got = λ a b. refl }) rooted old
 
 -- ---- the way is learned
 
 -- who knew the way knows it still, and y does now
 module _ (G : Facts) (y from : Enclave) where
-  pub way_knows : (e : ℕ) → knows G e ≡ true → knows (after_line G (lines.Way y from)) e ≡ true
-  way_knows e is = number_has (λ e way. (holds G e || is_some way) ≡ true) y.0 (Some from) G.way e (or_right (holds G y.0) true refl) (λ other. is)
+  abbrev H : Facts
+  H = after_line G (lines.Way y from)
 
-  pub way_learned : knows (after_line G (lines.Way y from)) y.0 ≡ true
-  way_learned = rw (eq-eqb y.0 y.0 refl) (or_right (holds G y.0) true refl)
+  way_at : (P : ℕ → Option Enclave → Type 0) (e : ℕ) → P y.0 (Some from) → (eqb e y.0 ≡ false → P e (way_of G e)) → P e (way_of H e)
+  way_at P e here there = number_at P y.0 (Some from) (way_of G) (way_of H) (way_learns G y from) e here there
 
-  pub way_before : (e : ℕ) → eqb e y.0 ≡ false → knows (after_line G (lines.Way y from)) e ≡ knows G e
-  way_before e other = rw other refl
+  pub way_knows : (e : ℕ) → knows G e ≡ true → knows H e ≡ true
+  way_knows e is = way_at (λ e way. (holds G e || is_some way) ≡ true) e (or_right (holds G y.0) true refl) (λ other. is)
+
+  pub way_learned : knows H y.0 ≡ true
+  way_learned = way_at (λ e way. (holds G e || is_some way) ≡ true) y.0 (or_right (holds G y.0) true refl) (λ other. absurd (eqb-false y.0 y.0 other refl))
 
   pub known_way : knows G from.0 ≡ true
       → ((h : ℕ) → holds G h ≡ true → IsToward (parent_of G) G.born y.0 h from.0)
-      → IsKnown G → IsKnown (after_line G (lines.Way y from))
+      → IsKnown G → IsKnown H
   known_way knowing toward old = record {
     quiet = old.quiet;
     own = old.own;
     told = λ a b some. way_knows a (old.told a b some);
-    over = λ e x. number_has (λ e way. way ≡ Some x → knows (after_line G (lines.Way y from)) x.0 ≡ true) y.0 (Some from) G.way e
+    over = λ e x. way_at (λ e way. way ≡ Some x → knows H x.0 ≡ true) e
         (λ is. let same : from ≡ x = cc in way_knows x.0 (subst (λ z. knows G z.0 ≡ true) same knowing))
         (λ other is. way_knows x.0 (old.over e x is));
-    server = λ e is. number_has (λ e way. (holds G e || is_some way) ≡ true → G.server ≡ true) y.0 (Some from) G.way e
-        (λ is. old.server from.0 knowing) (λ other is. old.server e is) is;
+    server = λ e. way_at (λ e way. (holds G e || is_some way) ≡ true → G.server ≡ true) e
+        (λ is. old.server from.0 knowing) (λ other is. old.server e is);
     held = λ is. record { holder = (old.held is).holder; holds = (old.held is).holds };
     one = old.one;
-    leads = λ h e x is. number_has (λ e way. way ≡ Some x → IsToward (parent_of G) G.born e h x.0) y.0 (Some from) G.way e
+    leads = λ h e x is. way_at (λ e way. way ≡ Some x → IsToward (parent_of G) G.born e h x.0) e
         (λ found. let same : from ≡ x = cc in subst (λ z. IsToward (parent_of G) G.born y.0 h z.0) same (toward h is))
         (λ other found. old.leads h e x is found);
   }

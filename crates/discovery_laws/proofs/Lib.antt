@@ -1,4 +1,5 @@
 pub mod Flights
+pub mod Effects
 pub mod Led
 pub mod Asking
 pub mod Knowing
@@ -21,5 +22,6 @@ pub mod Registrations
 pub mod Pausing
 pub mod Marks
 pub mod Onces
+pub mod Joined
 pub mod Discovered
 pub mod Journals

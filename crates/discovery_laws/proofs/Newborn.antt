@@ -11,7 +11,7 @@ use Rattle.global_model.specs.Facts.{Facts, EnclaveFact, ChannelFact, after_line
 use Rattle.global_model.specs.Channels.{is_child_of, is_neighbour}
 use Rattle.global_model.specs.Flow.{AreWays, IsTree}
 use Rattle.global_model.specs.Tree.{IsRooted, IsToward, parent_of}
-use Rattle.discovery_laws.specs.Known.{holds, in_flight, knows, way_of}
+use Rattle.discovery_laws.specs.Known.{askers_of, holds, in_flight, knows, way_of}
 use Rattle.discovery_laws.specs.Laws.{TreeLaws}
 use Rattle.discovery_laws.proofs.Flights.{one_if, count, add}
 use Rattle.discovery_laws.proofs.Asking.{is_query, is_here, place, one_place, remembers, queries_sent, queries_flying, heres_sent, heres_flying, number_has, IsCounted}
@@ -77,10 +77,10 @@ module _ (G : Facts) (child parent : Enclave) (kind : Kind) (ns : Bool) (blocks 
       by None is = refl
       by (Some x) is = absurd (far x.0 (ways.way child.0 x is))
 
-  pub no_asker : (k : ℕ) → at (G.askers child.0) k ≡ None
-  no_asker k = by (at (G.askers child.0) k) refl
+  pub no_asker : (k : ℕ) → at (askers_of G child.0) k ≡ None
+  no_asker k = by (at (askers_of G child.0) k) refl
     where
-      by : (o : Option Enclave) → at (G.askers child.0) k ≡ o → o ≡ None
+      by : (o : Option Enclave) → at (askers_of G child.0) k ≡ o → o ≡ None
       by None is = refl
       by (Some x) is = absurd (far x.0 (ways.askers child.0 k x is))
 
@@ -204,9 +204,9 @@ module _ (G : Facts) (child parent : Enclave) (kind : Kind) (ns : Bool) (blocks 
 
   -- a row of a new child's can't stand in any table yet
   unasked : IsCounted (λ a b. 0) (knows G) G → (e : ℕ) → remembers G e child.0 ≡ false
-  unasked old e = by (at (G.askers e) (place (parent_of G e) child.0)) refl
+  unasked old e = by (at (askers_of G e) (place (parent_of G e) child.0)) refl
     where
-      by : (o : Option Enclave) → at (G.askers e) (place (parent_of G e) child.0) ≡ o → is_some o ≡ false
+      by : (o : Option Enclave) → at (askers_of G e) (place (parent_of G e) child.0) ≡ o → is_some o ≡ false
       by None is = refl
       by (Some x) is =
           let same : child.0 ≡ x.0 = one_place (parent_of G e) child.0 x.0 (old.keyed e (place (parent_of G e) child.0) x is) in
@@ -216,8 +216,8 @@ module _ (G : Facts) (child parent : Enclave) (kind : Kind) (ns : Bool) (blocks 
   same_remembers : (a b : ℕ) → remembers born a b ≡ remembers G a b
   same_remembers a b = by (eqb a child.0) refl
     where
-      empty : eqb a child.0 ≡ true → (k : ℕ) → at (G.askers a) k ≡ None
-      empty same k = ap (λ n. at (G.askers n) k) (eqb-true a child.0 same) ∙ no_asker k
+      empty : eqb a child.0 ≡ true → (k : ℕ) → at (askers_of G a) k ≡ None
+      empty same k = ap (λ n. at (askers_of G n) k) (eqb-true a child.0 same) ∙ no_asker k
 
       by : (t : Bool) → eqb a child.0 ≡ t → remembers born a b ≡ remembers G a b
       by true same = ap is_some (empty same (place (parent_of born a) b)) ∙ sym (ap is_some (empty same (place (parent_of G a) b)))
@@ -298,13 +298,13 @@ module _ (G : Facts) (child parent : Enclave) (kind : Kind) (ns : Bool) (blocks 
           let owes : owed b a ≡ owed child.0 parent.0 = λ i. owed (b_is i) (a_is i) in
           omega (arith, knowing, more_know a, owes, down ((λ i. is_neighbour born (sym a_is i) (sym b_is i)) ∙ is))
 
-      by_key : (e k : ℕ) (x : Enclave) → at (G.askers e) k ≡ Some x → (t : Bool) → eqb e child.0 ≡ t → k ≡ place (parent_of born e) x.0
+      by_key : (e k : ℕ) (x : Enclave) → at (askers_of G e) k ≡ Some x → (t : Bool) → eqb e child.0 ≡ t → k ≡ place (parent_of born e) x.0
       by_key e k x is true same =
-          let none : at (G.askers e) k ≡ None = ap (λ n. at (G.askers n) k) (eqb-true e child.0 same) ∙ no_asker k in
+          let none : at (askers_of G e) k ≡ None = ap (λ n. at (askers_of G n) k) (eqb-true e child.0 same) ∙ no_asker k in
           let clash = sym none ∙ is in
           absurd (cc)
       by_key e k x is false other = rw (parent_of, other) (old.keyed e k x is)
 
-      by_still : (e k : ℕ) → knows born e ≡ true → (t : Bool) → eqb e child.0 ≡ t → at (G.askers e) k ≡ None
-      by_still e k is true same = ap (λ n. at (G.askers n) k) (eqb-true e child.0 same) ∙ no_asker k
+      by_still : (e k : ℕ) → knows born e ≡ true → (t : Bool) → eqb e child.0 ≡ t → at (askers_of G e) k ≡ None
+      by_still e k is true same = ap (λ n. at (askers_of G n) k) (eqb-true e child.0 same) ∙ no_asker k
       by_still e k is false other = old.still e k (sym (other_knows e other) ∙ is)

@@ -25,6 +25,8 @@ use Rattle.global_model.specs.Pauses.{Step, Written, Hosts, Bears, Takes, Handle
 use Rattle.global_model.specs.Views.{view_of}
 use Rattle.discovery_laws.specs.Laws.{Laws, PastLaws}
 use Rattle.discovery_laws.specs.Ways.{is_way_line, ways_in}
+use Rattle.discovery_laws.specs.Known.{way_of}
+use Rattle.discovery_laws.proofs.Effects.{way_learns, asked_leaves, admitted_leaves, back_leaves, route_leaves}
 use Rattle.discovery_laws.proofs.Flights.{one_if}
 use Rattle.discovery_laws.proofs.Asking.{is_query_body, is_here_body}
 use Rattle.discovery_laws.proofs.Calm.{IsCalm, AreCalm, calm_alone}
@@ -58,11 +60,15 @@ all_wayless (l ∷ ls) calm = (calm_wayless l calm.0, all_wayless ls calm.1)
 -- ---- how often an enclave learned its way is told by whether it knows it
 
 record IsTold (G : Facts) (e : ℕ) (ls : List Line) : Type 0 where
-  told : ways_in e ls + one_if (is_some (G.way e)) ≡ one_if (is_some ((after_lines G ls).way e))
+  told : ways_in e ls + one_if (is_some (way_of G e)) ≡ one_if (is_some (way_of (after_lines G ls) e))
 
-wayless_line : (G : Facts) (e : ℕ) (line : Line) → IsWayless line → (is_way_line e line ≡ false) × ((after_line G line).way e ≡ G.way e)
+wayless_line : (G : Facts) (e : ℕ) (line : Line) → IsWayless line → (is_way_line e line ≡ false) × (way_of (after_line G line) e ≡ way_of G e)
 wayless_line G e (lines.Way of over) none = absurd none
 wayless_line G e (lines.Do (commands.Pool blocks)) none = (refl, refl)
+wayless_line G e (lines.Asked of by) none = (refl, asked_leaves G of by e)
+wayless_line G e (lines.Back of d over) none = (refl, (back_leaves G of d over).way e)
+wayless_line G e (lines.Route of d over) none = (refl, (route_leaves G of d over).way e)
+wayless_line G e (lines.Admitted of) none = (refl, (admitted_leaves G of of of).way e)
 wayless_line G e line none = (refl, refl)
 
 told-append : (past : PastLaws) (G : Facts) (e : ℕ) (ls ms : List Line) → IsTold G e ls → IsTold (after_lines G ls) e ms → IsTold G e (ls ++ ms)
@@ -70,8 +76,8 @@ told-append past G e ls ms first more = record {
   told =
       let both : ways_in e (ls ++ ms) ≡ ways_in e ls + ways_in e ms
       = ap length (filter-append (is_way_line e) ls ms) ∙ length-append (filter (is_way_line e) ls) (filter (is_way_line e) ms) in
-      let end : one_if (is_some ((after_lines G (ls ++ ms)).way e)) ≡ one_if (is_some ((after_lines (after_lines G ls) ms).way e))
-      = ap (λ H. one_if (is_some (H.way e))) (past.after G ls ms) in
+      let end : one_if (is_some (way_of (after_lines G (ls ++ ms)) e)) ≡ one_if (is_some (way_of (after_lines (after_lines G ls) ms) e))
+      = ap (λ H. one_if (is_some (way_of H e))) (past.after G ls ms) in
       omega (arith, both, end, first.told, more.told);
 }
 
@@ -83,17 +89,19 @@ wayless_told e (l ∷ ls) G none =
     record {
       told =
           let count : ways_in e (l ∷ ls) ≡ ways_in e ls = ap (λ t. length (cond t (l ∷ filter (is_way_line e) ls) (filter (is_way_line e) ls))) one.0 in
-          let before : one_if (is_some ((after_line G l).way e)) ≡ one_if (is_some (G.way e)) = ap (λ o. one_if (is_some o)) one.1 in
+          let before : one_if (is_some (way_of (after_line G l) e)) ≡ one_if (is_some (way_of G e)) = ap (λ o. one_if (is_some o)) one.1 in
           omega (arith, count, before, more.told);
     }
 
-way_told : (G : Facts) (e : ℕ) (y over : Enclave) → G.way y.0 ≡ None → IsTold G e (lines.Way y over ∷ [])
-way_told G e y over none = record { told = by (eqb y.0 e) (eqb e y.0) refl refl }
+way_told : (G : Facts) (e : ℕ) (y over : Enclave) → way_of G y.0 ≡ None → IsTold G e (lines.Way y over ∷ [])
+way_told G e y over none = record {
+  told = by (eqb y.0 e) (eqb e y.0) refl refl ∙ ap (λ o. one_if (is_some o)) (sym (way_learns G y over e));
+}
   where
     by : (s t : Bool) → eqb y.0 e ≡ s → eqb e y.0 ≡ t
-        → length (cond s (lines.Way y over ∷ []) []) + one_if (is_some (G.way e)) ≡ one_if (is_some (cond t (Some over) (G.way e)))
+        → length (cond s (lines.Way y over ∷ []) []) + one_if (is_some (way_of G e)) ≡ one_if (is_some (cond t (Some over) (way_of G e)))
     by true true is at =
-        let unknown : one_if (is_some (G.way e)) ≡ 0 = ap (λ o. one_if (is_some o)) (ap G.way (eqb-true e y.0 at) ∙ none) in
+        let unknown : one_if (is_some (way_of G e)) ≡ 0 = ap (λ o. one_if (is_some o)) (ap (way_of G) (eqb-true e y.0 at) ∙ none) in
         omega (arith, unknown)
     by false false is at = omega arith
     by true false is at = absurd (eqb-false e y.0 at (sym (eqb-true y.0 e is)))
@@ -121,7 +129,7 @@ module _ (laws : Laws) (G : Facts) (e : ℕ) (x y : Enclave) (r : Record) where
       let others = told_askers v (less v.askers (place_among v.parent x)) in
       let first : IsTold G e (lines.Got x y ∷ lines.Way y x ∷ [])
       = told-append laws.past G e (lines.Got x y ∷ []) (lines.Way y x ∷ []) (wayless_told e (lines.Got x y ∷ []) G (tt, tt))
-      (way_told (after_line G (lines.Got x y)) e y x (unknown_way v.holder (G.way y.0) is)) in
+      (way_told (after_line G (lines.Got x y)) e y x (unknown_way v.holder (way_of G y.0) is)) in
       told-append laws.past G e (lines.Got x y ∷ lines.Way y x ∷ []) (others ++ lines.Sent y x (register_of y) ∷ []) first
       (wayless_told e (others ++ lines.Sent y x (register_of y) ∷ []) (after_lines G (lines.Got x y ∷ lines.Way y x ∷ []))
       (wayless-append others (lines.Sent y x (register_of y) ∷ []) (wayless_askers v (less v.askers (place_among v.parent x))) (tt, tt)))
@@ -176,7 +184,7 @@ journal_of-ways laws commands placed e =
     let in_steps = laws.journal.steps commands placed in
     let is : ways_in e (journal_of commands) ≡ ways_in e (written_in no_facts in_steps.steps) = ap (ways_in e) in_steps.written in
     let told = (steps_told laws e in_steps.steps no_facts in_steps.are).told in
-    let most = most_one (is_some ((after_lines no_facts (written_in no_facts in_steps.steps)).way e)) in
+    let most = most_one (is_some (way_of (after_lines no_facts (written_in no_facts in_steps.steps)) e)) in
     omega (arith, is, told, most)
   where
     most_one : (t : Bool) → one_if t ≤ 1

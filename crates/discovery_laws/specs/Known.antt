@@ -13,6 +13,10 @@ way_of G e = G.way e
 abbrev pub asker_of : Facts → ℕ → ℕ → Option Enclave
 asker_of G e place = at (G.askers e) place
 
+-- those that asked it for the way and weren't answered, by their places
+abbrev pub askers_of : Facts → ℕ → List (ℕ × Enclave)
+askers_of G e = G.askers e
+
 -- the neighbours over which the enclave answers another one, and over which that one lies
 abbrev pub back_of : Facts → ℕ → ℕ → Option Enclave
 back_of G e d = at (G.backs e) d

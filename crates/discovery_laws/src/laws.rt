@@ -4,8 +4,8 @@ ghost use Rattle.xm_num.specs.declared.Enclave.{Enclave as Enclaves};
 ghost use Rattle.xemem_language.specs.declared.command.Command.{Command as Commands};
 ghost use Rattle.global_model.specs.Due.{journal_of};
 ghost use Rattle.global_model.specs.Facts.{facts_after, is_living_enclave};
-ghost use Rattle.global_model.specs.Rest.{IsAtRest};
 ghost use Rattle.global_model.specs.Place.{IsPlaced};
+ghost use Rattle.global_model.specs.Rest.{IsAtRest};
 ghost use Rattle.discovery_laws.specs.Known.{back_of, holds, is_admitted_at, knows, route_of, way_of};
 ghost use Rattle.discovery_laws.specs.Laws.{Laws};
 ghost use Rattle.discovery_laws.specs.Ways.{LeadsTo, LeadsToHolder, ways_in};
@@ -32,17 +32,17 @@ fn laws()
     row_laws::<Enclave>();
 }
 
-/// Where an enclave's way goes is the next enclave on the path to the one that holds the name server, of which there is one. Its way
-/// back to an enclave and its route to one go to the next enclave on the path to that one.
+/// An enclave's way goes to the next enclave on the path to the one that holds the name server, of which there is one. A way back and
+/// a route go to the next enclave on the path to the enclave that they are to.
 pub fn ways_lead()
     ensures way { (commands : List Commands) → IsPlaced commands → (e : ℕ) (x : Enclaves)
         → way_of (facts_after (journal_of commands)) e ≡ Some x → LeadsToHolder (facts_after (journal_of commands)) e x }
-    ensures back { (commands : List Commands) → IsPlaced commands → (e d : ℕ) (x : Enclaves)
-        → back_of (facts_after (journal_of commands)) e d ≡ Some x → LeadsTo (facts_after (journal_of commands)) e d x }
-    ensures route { (commands : List Commands) → IsPlaced commands → (e d : ℕ) (x : Enclaves)
-        → route_of (facts_after (journal_of commands)) e d ≡ Some x → LeadsTo (facts_after (journal_of commands)) e d x }
     ensures holder { (commands : List Commands) → IsPlaced commands → (a b : ℕ)
         → holds (facts_after (journal_of commands)) a ≡ true → holds (facts_after (journal_of commands)) b ≡ true → a ≡ b }
+    ensures backs { (commands : List Commands) → IsPlaced commands → (e d : ℕ) (x : Enclaves)
+        → back_of (facts_after (journal_of commands)) e d ≡ Some x → LeadsTo (facts_after (journal_of commands)) e d x }
+    ensures routes { (commands : List Commands) → IsPlaced commands → (e d : ℕ) (x : Enclaves)
+        → route_of (facts_after (journal_of commands)) e d ≡ Some x → LeadsTo (facts_after (journal_of commands)) e d x }
 {
     laws();
 }
@@ -61,16 +61,15 @@ pub fn records_come_once()
     laws();
 }
 
-/// Whenever nothing waits in any channel, and an enclave was born with the name server, each living enclave knows the way to it
-/// and is admitted.
+/// Where nothing waits in any channel, and an enclave was born with the name server, each living enclave knows the way to it and is
+/// admitted.
 pub fn rest_is_admitted()
-    ensures known { (commands : List Commands) → IsPlaced commands → IsAtRest (facts_after (journal_of commands))
+    ensures knows { (commands : List Commands) → IsPlaced commands → IsAtRest (facts_after (journal_of commands))
         → (facts_after (journal_of commands)).server ≡ true → (e : ℕ)
         → is_living_enclave ((facts_after (journal_of commands)).enclave e) ≡ true → knows (facts_after (journal_of commands)) e ≡ true }
     ensures admitted { (commands : List Commands) → IsPlaced commands → IsAtRest (facts_after (journal_of commands))
         → (facts_after (journal_of commands)).server ≡ true → (e : ℕ)
-        → is_living_enclave ((facts_after (journal_of commands)).enclave e) ≡ true
-        → is_admitted_at (facts_after (journal_of commands)) e ≡ true }
+        → is_living_enclave ((facts_after (journal_of commands)).enclave e) ≡ true → is_admitted_at (facts_after (journal_of commands)) e ≡ true }
 {
     laws();
 }
