@@ -2,6 +2,7 @@ pub mod Pasts
 pub mod Flow
 pub mod Tree
 pub mod Paths
+pub mod Roads
 pub mod Ways
 pub mod Writes
 pub mod Tells

@@ -279,13 +279,16 @@ toward_sides parent born x y d tree near x_born y_born d_born = elim (near_sides
   | inr other ↦ inr (record { from = y_born; to = d_born; over = x_born; apart = other.apart; next = other.next })
 ]
 
+pub hop_nearer : (parent : ℕ → ℕ) (x d : ℕ) → IsRooted parent → x ≢ d → distance parent x d ≡ distance parent (hop parent x d) d + 1
+hop_nearer parent x d tree apart =
+    let some = some_path parent (hop parent x d) d tree in
+    let longer : distance parent x d ≡ length (x ∷ path parent (hop parent x d) d) - 1 = ap (λ ws. length ws - 1) (path_hops parent d x d tree (omega arith) apart) in
+    omega (arith, longer, some)
+
 pub toward_nearer : (parent : ℕ → ℕ) (born x d y : ℕ) → IsRooted parent → IsToward parent born x d y
     → distance parent x d ≡ distance parent y d + 1
 toward_nearer parent born x d y tree toward =
-    let some = some_path parent y d tree in
-    let longer : path parent x d ≡ x ∷ path parent y d
-    = path_hops parent d x d tree (omega arith) toward.apart ∙ ap (λ c. x ∷ path parent c d) (sym toward.next) in
-    rw longer (omega (arith, some))
+    hop_nearer parent x d tree toward.apart ∙ ap (λ c. distance parent c d + 1) (sym toward.next)
 
 pub toward_stays : (parent parent' : ℕ → ℕ) (born born' x d y : ℕ) → IsRooted parent → ((e : ℕ) → 0 < e → e < born → parent' e ≡ parent e)
     → born ≤ born' → IsToward parent born x d y → IsToward parent' born' x d y

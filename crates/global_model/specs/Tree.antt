@@ -1,5 +1,6 @@
 -- The tree of enclaves: the path between two, the next enclave on it, and who stands above whom.
 use Rattle.std.specs.Prelude.{zero, suc, ◌≡◌, ◌≢◌, ◌⊎◌, ◌+◌, ◌-◌, ◌<◌, ℕ, List, [], ◌∷◌, ◌++◌, length, Bool, ◌&&◌, ◌||◌, ◌==◌, nat_lt, if◌then◌else◌}
+use Rattle.std.specs.List.{AllByRecursion}
 use Rattle.global_model.specs.Facts.{Facts, fact_of}
 
 -- a tree below 0: each other number has a lower one as its parent
@@ -40,6 +41,27 @@ is_above_within (suc steps) parent a e = (a == e) || (nat_lt a e && is_above_wit
 -- a is e, or its parent, or that one's, and so on
 abbrev pub is_above : (ℕ → ℕ) → ℕ → ℕ → Bool
 is_above parent a e = is_above_within e parent a e
+
+-- each is a neighbour of the one before it
+abbrev pub AreLinked : (ℕ → ℕ) → List ℕ → Type 0
+AreLinked parent (a ∷ b ∷ more) = AreNear parent a b × AreLinked parent (b ∷ more)
+AreLinked parent few = Unit {0}
+
+abbrev pub AreDistinct : List ℕ → Type 0
+AreDistinct [] = Unit {0}
+AreDistinct (a ∷ more) = AllByRecursion (λ b. a ≢ b) more × AreDistinct more
+
+abbrev pub last_or : ℕ → List ℕ → ℕ
+last_or none [] = none
+last_or none (a ∷ more) = last_or a more
+
+-- the enclaves go from a to b over neighbours, and none comes twice
+pub record IsPath (parent : ℕ → ℕ) (a b : ℕ) (enclaves : List ℕ) : Type 0 where
+  pub behind : List ℕ
+  pub begins : enclaves ≡ a ∷ behind
+  pub ends : last_or a behind ≡ b
+  pub linked : AreLinked parent enclaves
+  pub distinct : AreDistinct enclaves
 
 -- ---- by the facts
 

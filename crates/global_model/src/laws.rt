@@ -1,5 +1,5 @@
 // Laws of the definitions: each is the contract of a function that does nothing, which a crate above calls to have it.
-ghost use Rattle.std.specs.Prelude.{◌≡◌, ◌≢◌, ◌⊎◌, ◌≤◌, ◌<◌, ◌+◌, ◌-◌, ℕ, List, [], ◌∷◌, ◌++◌, length, take, drop, Bool, true, false, None, nat_lt, if◌then◌else◌, Some};
+ghost use Rattle.std.specs.Prelude.{◌≡◌, ◌==◌, ◌||◌, ◌≢◌, ◌⊎◌, ◌≤◌, ◌<◌, ◌+◌, ◌-◌, ℕ, List, [], ◌∷◌, ◌++◌, length, take, drop, Bool, true, false, None, nat_lt, if◌then◌else◌, Some};
 ghost use Rattle.std.specs.List.{AllByRecursion};
 ghost use Rattle.xm_num.specs.declared.Enclave.{Enclave as Enclaves};
 ghost use Rattle.xm_num.specs.declared.Cause.{Cause as Causes};
@@ -20,7 +20,7 @@ ghost use Rattle.global_model.specs.Due.{got_lines, deliver_lines, next_rest, fi
 ghost use Rattle.global_model.specs.Refusals.{Condition, when, first_cause};
 ghost use Rattle.global_model.specs.Plain.{ArePlain, AreActs, IsQuiet, IsBirth};
 ghost use Rattle.global_model.specs.Flow.{IsFlowing, IsTree};
-ghost use Rattle.global_model.specs.Tree.{IsRooted, AreNear, IsToward, path, hop, distance, parent_of};
+ghost use Rattle.global_model.specs.Tree.{IsRooted, AreNear, IsPath, IsToward, is_above, path, hop, distance, parent_of};
 ghost use Rattle.global_model.specs.Journals.{do_commands, onto};
 ghost use Rattle.global_model.specs.Carriage.{IsCarried};
 ghost use Rattle.global_model.specs.Rest.{EndsSettle, IsRested};
@@ -75,14 +75,18 @@ pub fn journals_are_in_steps()
     ensures { (commands : List Commands) → IsPlaced commands → IsInSteps no_facts (journal_of commands) }
 {}
 
-/// In a tree the path from one to another begins with the first, and goes on as the path from the neighbour behind it, which is nearer
-/// to the other end; so it names none twice. Of two neighbours one is next from the other to any third. What is born later changes
-/// none of it, and a path goes over those alone that live where its ends do.
+/// In a tree there is one path from one to another that goes over neighbours and names none twice. It goes on as the path from the
+/// neighbour behind its first, which is nearer to the other end. Of two neighbours one is next from the other to any third. What is
+/// born later changes none of it, and a path goes over those alone that live where its ends do. Who stands above an enclave but
+/// the host is it itself, or stands above its parent.
 pub fn trees_have_paths()
     ensures rooted { (G : Facts) → IsTree G → IsRooted (parent_of G) }
     ensures near { (G : Facts) (x y : ℕ) → is_neighbour G x y ≡ true → AreNear (parent_of G) x y }
     ensures same { (parent : ℕ → ℕ) (a : ℕ) → path parent a a ≡ a ∷ [] }
     ensures hops { (parent : ℕ → ℕ) (a b : ℕ) → IsRooted parent → a ≢ b → path parent a b ≡ a ∷ path parent (hop parent a b) b }
+    ensures path { (parent : ℕ → ℕ) (a b : ℕ) → IsRooted parent → IsPath parent a b (path parent a b) }
+    ensures one { (parent : ℕ → ℕ) (a b : ℕ) (enclaves : List ℕ) → IsRooted parent → IsPath parent a b enclaves
+        → enclaves ≡ path parent a b }
     ensures toward { (parent : ℕ → ℕ) (born x d : ℕ) → IsRooted parent → x < born → d < born → x ≢ d
         → IsToward parent born x d (hop parent x d) }
     ensures beside { (parent : ℕ → ℕ) (born x d y : ℕ) → IsRooted parent → IsToward parent born x d y → AreNear parent x y }
@@ -96,6 +100,9 @@ pub fn trees_have_paths()
         → x < born → d < born → distance later x d ≡ distance parent x d }
     ensures lives { (parent : ℕ → ℕ) (lives : ℕ → Bool) (a b : ℕ) → ((e : ℕ) → 0 < e → lives e ≡ true → lives (parent e) ≡ true)
         → lives a ≡ true → lives b ≡ true → AllByRecursion (λ e. lives e ≡ true) (path parent a b) }
+    ensures above { (parent : ℕ → ℕ) (a e : ℕ) → IsRooted parent → 0 < e
+        → is_above parent a e ≡ (a == e || is_above parent a (parent e)) }
+    ensures host { (parent : ℕ → ℕ) (a : ℕ) → is_above parent a 0 ≡ (a == 0) }
 {}
 
 /// The records that are whole among the first bytes stay so when more are sent. Once so many of them were got, those
