@@ -119,13 +119,13 @@ one_more G x y kind r rs flight is few =
     let sent = (G.channel x y).sent in
     let got = (G.channel x y).got in
     let now = count-split (is_kind kind) got sent in
-    let then_ = count-split (is_kind kind) (got + 1) sent in
+    let further = count-split (is_kind kind) (got + 1) sent in
     let left : count (is_kind kind) (drop got sent) ≡ 1 + count (is_kind kind) rs = ap (count (is_kind kind)) flight ∙ rw is refl in
     let behind : count (is_kind kind) (drop (got + 1) sent) ≡ count (is_kind kind) rs = ap (count (is_kind kind)) (drop-more got r sent rs flight) in
     let zero_got : count (is_kind kind) (take got sent) ≡ 0 = omega (arith, now, left, few) in
     record {
       none = rw zero_got refl;
-      one = le-leb 1 (count (is_kind kind) (take (got + 1) sent)) (omega (arith, now, then_, left, behind));
+      one = le-leb 1 (count (is_kind kind) (take (got + 1) sent)) (omega (arith, now, further, left, behind));
     }
 
 -- ---- what is kept of the record at hand
