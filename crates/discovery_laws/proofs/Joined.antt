@@ -14,6 +14,7 @@ use Rattle.global_model.specs.Pauses.{Step, written_by, written_in, AreSteps, Is
 use Rattle.global_model.specs.Tree.{IsToward, parent_of}
 use Rattle.discovery_laws.specs.Known.{back_of, in_flight, is_admitted_at, knows, route_of}
 use Rattle.discovery_laws.specs.Laws.{Laws}
+use Rattle.discovery_laws.specs.Ways.{LeadsTo}
 use Rattle.discovery_laws.proofs.Asked.{IsAsked, asked_first, asked_step, asked_led}
 use Rattle.discovery_laws.proofs.Resting.{rest_flight, knows_at_rest}
 use Rattle.discovery_laws.proofs.Stages.{Stage, Silent, Registering, Admitting, Ready, about_in, is_about, alone_at, IsStaged, IsRegistered}
@@ -23,13 +24,12 @@ pub record IsJoined (G : Facts) : Type 0 where
   pub asked : IsAsked G
   pub registered : (d : ℕ) → IsRegistered (parent_of G) G.born G d
 
-pub joined_step : (laws : Laws) (G : Facts) (step : Step) → IsPause G → MayCome G step → IsTree (after_lines G (written_by G step))
-    → IsJoined G → IsJoined (after_lines G (written_by G step))
-joined_step laws G step pause may tree old =
+pub joined_step : (laws : Laws) (G : Facts) (step : Step) → IsPause G → MayCome G step → IsJoined G → IsJoined (after_lines G (written_by G step))
+joined_step laws G step pause may old =
     let asked : IsAsked (after_lines G (written_by G step)) = asked_step laws G step pause may old.asked in
     record {
       asked = asked;
-      registered = λ d. registered_step laws G step pause may (asked_led G old.asked) (asked_led (after_lines G (written_by G step)) asked) tree d (old.registered d);
+      registered = λ d. registered_step laws G step pause may (asked_led G old.asked) (asked_led (after_lines G (written_by G step)) asked) asked.rooted d (old.registered d);
     }
 
 -- before the first command nothing is known of any enclave
@@ -47,37 +47,13 @@ joined_first laws = record {
   };
 }
 
-pub joined_steps : (laws : Laws) (steps : List Step) (G : Facts) → AreSteps G steps → IsTree (after_lines G (written_in G steps)) → IsJoined G
-    → IsJoined (after_lines G (written_in G steps))
-joined_steps laws [] G are tree old = old
-joined_steps laws (step ∷ steps) G are tree old =
-    let own = written_by G step in
-    let H = after_lines G own in
-    let same = laws.past.after G own (written_in H steps) in
-    let last : IsTree (after_lines H (written_in H steps)) = subst IsTree same tree in
-    subst IsJoined (sym same) (joined_steps laws steps H are.2 last
-    (joined_step laws G step are.0 are.1 (tree_next steps H are.2 last) old))
-  where
-    -- the enclaves are a tree at the next pause, or at the end
-    tree_next : (steps : List Step) (H : Facts) → AreSteps H steps → IsTree (after_lines H (written_in H steps)) → IsTree H
-    tree_next [] H are last = last
-    tree_next (step ∷ steps) H are last = are.0.tree
-
-pub journal_of-joined : (laws : Laws) (commands : List Command) → IsPlaced commands → IsJoined (facts_after (journal_of commands))
-journal_of-joined laws commands placed =
-    let in_steps = laws.journal.steps commands placed in
-    let tree = (laws.journal.flowing commands placed).tree in
-    subst (λ journal. IsJoined (after_lines no_facts journal)) (sym in_steps.written)
-    (joined_steps laws in_steps.steps no_facts in_steps.are
-    (subst (λ journal. IsTree (after_lines no_facts journal)) in_steps.written tree) (joined_first laws))
-
 -- ---- ways back and routes
 
 module _ (G : Facts) (joined : IsJoined G) where
-  pub back_leads : (e d : ℕ) (x : Enclave) → back_of G e d ≡ Some x → IsToward (parent_of G) G.born e d x.0
+  pub back_leads : (e d : ℕ) (x : Enclave) → back_of G e d ≡ Some x → LeadsTo G e d x
   back_leads e d x is = ((joined.registered d).is.backs e x is).toward
 
-  pub route_leads : (e d : ℕ) (x : Enclave) → route_of G e d ≡ Some x → IsToward (parent_of G) G.born e d x.0
+  pub route_leads : (e d : ℕ) (x : Enclave) → route_of G e d ≡ Some x → LeadsTo G e d x
   route_leads e d x is = ((joined.registered d).is.routes e x is).toward
 
 -- ---- rest

@@ -23,3 +23,5 @@ pub mod Pausing
 pub mod Marks
 pub mod Onces
 pub mod Joined
+pub mod Discovered
+pub mod Journals

@@ -17,7 +17,7 @@ use Rattle.discovery_laws.proofs.Flights.{count, count-append}
 use Rattle.discovery_laws.proofs.Moves.{row_more}
 use Rattle.global_model.specs.Tree.{parent_of}
 use Rattle.discovery_laws.proofs.Stages.{IsRegistered}
-use Rattle.discovery_laws.proofs.Unmoved.{AreCalm, IsBounded, IsCalm, bounded_line}
+use Rattle.discovery_laws.proofs.Unmoved.{AreInner, IsBounded, IsInner, bounded_line}
 
 -- ---- marks
 
@@ -123,36 +123,36 @@ some_row rows f e of over a d is = by (eqb a e) refl
 same_got : (G : Facts) (test : Record → Bool) (a b : ℕ) → count test (got_of (G.channel a b)) ≤ count test (got_of (G.channel a b))
 same_got G test a b = omega arith
 
-pub kept_line : RowLaws → (G : Facts) (line : Line) → IsCalm line → IsBounded G → IsKept G (after_line G line)
-kept_line rows G (lines.Born e kind parent ns blocks) calm bounded = absurd calm
-kept_line rows G (lines.Back e of over) calm bounded = record {
+pub kept_line : RowLaws → (G : Facts) (line : Line) → IsInner line → IsBounded G → IsKept G (after_line G line)
+kept_line rows G (lines.Born e kind parent ns blocks) inner bounded = absurd inner
+kept_line rows G (lines.Back e of over) inner bounded = record {
   backs = λ a d is. some_row rows G.backs e.0 of.0 over a d is; routes = λ a d is. is; ready = λ a is. is; got = same_got G }
-kept_line rows G (lines.Route e of over) calm bounded = record {
+kept_line rows G (lines.Route e of over) inner bounded = record {
   backs = λ a d is. is; routes = λ a d is. some_row rows G.routes e.0 of.0 over a d is; ready = λ a is. is; got = same_got G }
-kept_line rows G (lines.Admitted e) calm bounded = record { backs = λ a d is. is; routes = λ a d is. is; ready = ready_more G e; got = same_got G }
-kept_line rows G (lines.Sent x y r) calm bounded = record {
+kept_line rows G (lines.Admitted e) inner bounded = record { backs = λ a d is. is; routes = λ a d is. is; ready = ready_more G e; got = same_got G }
+kept_line rows G (lines.Sent x y r) inner bounded = record {
   backs = λ a d is. is;
   routes = λ a d is. is;
   ready = λ a is. is;
   got = λ test a b. at_pair_kept (λ c c'. count test (got_of c) ≤ count test (got_of c')) x.0 y.0 (with_sent r) G.channel a b
       (rw (take-behind (G.channel a b).got (G.channel a b).sent r (bounded a b)) (omega arith)) (omega arith);
 }
-kept_line rows G (lines.Got x y) calm bounded = absurd calm
-kept_line rows G (lines.Took x y n) calm bounded = record {
+kept_line rows G (lines.Got x y) inner bounded = absurd inner
+kept_line rows G (lines.Took x y n) inner bounded = record {
   backs = λ a d is. is;
   routes = λ a d is. is;
   ready = λ a is. is;
   got = λ test a b. at_pair_kept (λ c c'. count test (got_of c) ≤ count test (got_of c')) x.0 y.0 (with_taken n) G.channel a b
       (omega arith) (omega arith);
 }
-kept_line rows G (lines.Do (commands.Pool blocks)) calm bounded = record { backs = λ a d is. is; routes = λ a d is. is; ready = λ a is. is; got = same_got G }
-kept_line rows G _ calm bounded = record { backs = λ a d is. is; routes = λ a d is. is; ready = λ a is. is; got = same_got G }
+kept_line rows G (lines.Do (commands.Pool blocks)) inner bounded = record { backs = λ a d is. is; routes = λ a d is. is; ready = λ a is. is; got = same_got G }
+kept_line rows G _ inner bounded = record { backs = λ a d is. is; routes = λ a d is. is; ready = λ a is. is; got = same_got G }
 
-pub kept_lines : RowLaws → (G : Facts) (ls : List Line) → AreCalm ls → IsBounded G → IsKept G (after_lines G ls)
-kept_lines rows G [] calm bounded = record { backs = λ a d is. is; routes = λ a d is. is; ready = λ a is. is; got = same_got G }
-kept_lines rows G (l ∷ ls) calm bounded =
-    kept-trans G (after_line G l) (after_lines (after_line G l) ls) (kept_line rows G l calm.0 bounded)
-    (kept_lines rows (after_line G l) ls calm.1 (bounded_line G l bounded calm.0))
+pub kept_lines : RowLaws → (G : Facts) (ls : List Line) → AreInner ls → IsBounded G → IsKept G (after_lines G ls)
+kept_lines rows G [] inner bounded = record { backs = λ a d is. is; routes = λ a d is. is; ready = λ a is. is; got = same_got G }
+kept_lines rows G (l ∷ ls) inner bounded =
+    kept-trans G (after_line G l) (after_lines (after_line G l) ls) (kept_line rows G l inner.0 bounded)
+    (kept_lines rows (after_line G l) ls inner.1 (bounded_line G l bounded inner.0))
 
 pub kept_got : (G : Facts) (x y : Enclave) → IsKept G (after_line G (lines.Got x y))
 kept_got G x y = record {

@@ -28,10 +28,10 @@ use Rattle.discovery_laws.proofs.Asking.{is_here, is_here_body, is_query, is_que
 use Rattle.discovery_laws.proofs.Knowing.{IsOwn}
 use Rattle.discovery_laws.proofs.Led.{IsLed}
 use Rattle.discovery_laws.proofs.Marks.{IsKept, IsMoved, got_of, is_kind, kept_lines, mark, mark_kept, mark_of}
-use Rattle.discovery_laws.proofs.Received.{IsNextOf, aside_record, bounded_got, drop-more, next_flight, MayHear}
+use Rattle.discovery_laws.proofs.Received.{IsNextOf, bounded_got, inner_record, drop-more, next_flight}
 use Rattle.discovery_laws.proofs.Registrations.{moves, pause_bounded}
 use Rattle.discovery_laws.proofs.Stages.{IsRegistered, is_about, is_about_by}
-use Rattle.discovery_laws.proofs.Unmoved.{AreCalm, IsBounded, calm_all}
+use Rattle.discovery_laws.proofs.Unmoved.{AreInner, IsBounded, inner_all}
 
 -- ---- records that are alike
 
@@ -153,16 +153,9 @@ module _ (laws : Laws) (G : Facts) (x y : Enclave) (r : Record) (pause : IsPause
       ∙ ap (λ o. mark_of K y.0 kind o (destination_number r.dest)) from
       ∙ mark_other K y.0 kind x.0 (destination_number r.dest) three four
 
-  calm_lines : is_about (suc y.0) r ≡ false → AreCalm (record_lines (view_of G y) x r)
-  calm_lines other = calm_all (record_lines (view_of G y) x r) (suc y.0) (aside_record (view_of G y) x r (suc y.0) other (by r.body))
-    where
-      by : (body : Body) → MayHear (view_of G y) (suc y.0) body
-      by bodies.Here = inr (λ is. omega (arith, is))
-      by _ = tt
-
-  new_asking : (kind : ℕ) → kind_of r.body ≡ kind → eqb kind 3 ≡ false → eqb kind 4 ≡ false → r.origin.0 ≡ x.0 → is_about (suc y.0) r ≡ false
+  new_asking : (kind : ℕ) → kind_of r.body ≡ kind → eqb kind 3 ≡ false → eqb kind 4 ≡ false → r.origin.0 ≡ x.0
       → count (is_kind kind) (G.channel x.0 y.0).sent ≤ 1 → IsNew G x y r
-  new_asking kind is three four from other few =
+  new_asking kind is three four from few =
       let of_kind : is_kind kind r ≡ true = eq-eqb (kind_of r.body) kind is in
       let more = one_more G x.0 y.0 kind r next.others next.is of_kind few in
       let G1 = after_line G (lines.Got x y) in
@@ -170,7 +163,7 @@ module _ (laws : Laws) (G : Facts) (x y : Enclave) (r : Record) (pause : IsPause
       record {
         before = marks_are kind is three four from G ∙ more.none;
         after = mark_kept G1 (after_lines G1 (record_lines (view_of G y) x r)) y.0 (kind_of r.body) r.origin.0 (destination_number r.dest)
-            (kept_lines laws.row G1 (record_lines (view_of G y) x r) (calm_lines other)
+            (kept_lines laws.row G1 (record_lines (view_of G y) x r) (inner_record (view_of G y) x r)
             (bounded_got G x y r next.others next.is (pause_bounded G pause))) now;
       }
 
@@ -194,10 +187,8 @@ module _ (laws : Laws) (G : Facts) (x y : Enclave) (r : Record) (pause : IsPause
       (ap (is_about_by e.0 r) admit ∙ ap (λ dest. option_map_or (λ (d : Enclave). eqb d.0 e.0) dest false) is ∙ eq-eqb e.0 e.0 refl)
 
   new_body : (body : Body) → r.body ≡ body → IsNew G x y r
-  new_body bodies.Query is = new_asking 1 (ap kind_of is) refl refl (own (ap (λ b. is_query_body b || is_here_body b) is)) (ap (is_about_by (suc y.0) r) is)
-      (few_queries G asked x.0 y.0)
-  new_body bodies.Here is = new_asking 2 (ap kind_of is) refl refl (own (ap (λ b. is_query_body b || is_here_body b) is)) (ap (is_about_by (suc y.0) r) is)
-      (few_heres G asked x.0 y.0)
+  new_body bodies.Query is = new_asking 1 (ap kind_of is) refl refl (own (ap (λ b. is_query_body b || is_here_body b) is)) (few_queries G asked x.0 y.0)
+  new_body bodies.Here is = new_asking 2 (ap kind_of is) refl refl (own (ap (λ b. is_query_body b || is_here_body b) is)) (few_heres G asked x.0 y.0)
   new_body bodies.Register is = new_about r.origin.0 (ap (is_about_by r.origin.0 r) is ∙ eq-eqb r.origin.0 r.origin.0 refl)
   new_body bodies.Admit is = new_admit r.dest refl is
   new_body _ is =

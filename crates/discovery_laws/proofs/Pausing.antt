@@ -28,7 +28,7 @@ use Rattle.discovery_laws.proofs.Registrations.{handled, pause_bounded, register
 
 -- ---- a line by itself, and bytes that are taken
 
-aside_alone : (G : Facts) (line : Line) (d : ℕ) → MayStandAlone G line → IsAside d line
+pub aside_alone : (G : Facts) (line : Line) (d : ℕ) → MayStandAlone G line → IsAside d line
 aside_alone G (lines.Born e kind parent ns blocks) d may = may
 aside_alone G (lines.Got x y) d may = may
 aside_alone G (lines.Sent x y r) d may = absurd may
@@ -91,14 +91,14 @@ bare_registered parent born G d holder bare = record {
 }
 
 -- of an enclave that isn't born nothing stands anywhere
-unborn_enclave : (G : Facts) (d : ℕ) → IsTree G → G.born ≤ d → is_some (G.enclave d) ≡ false
+pub unborn_enclave : (G : Facts) (d : ℕ) → IsTree G → G.born ≤ d → is_some (G.enclave d) ≡ false
 unborn_enclave G d tree le = (tree.enclaves d).known ∙ le-ltb d G.born le
 
 none_holds : (fact : Option EnclaveFact) → is_some fact ≡ false → is_holder fact ≡ false
 none_holds None is = refl
 none_holds (Some fact) is = cc
 
-none_admitted : (fact : Option EnclaveFact) → is_some fact ≡ false → is_admitted fact ≡ false
+pub none_admitted : (fact : Option EnclaveFact) → is_some fact ≡ false → is_admitted fact ≡ false
 none_admitted None is = refl
 none_admitted (Some fact) is = cc
 
@@ -250,21 +250,21 @@ aside_adopt v child d = by (knows_way v)
 
 pub registered_step : Laws → (G : Facts) (step : Step) → IsPause G → MayCome G step → IsLed G
     → (let H : Facts = after_lines G (written_by G step) in
-    IsLed H → IsTree H
+    IsLed H → IsRooted (parent_of H)
     → (d : ℕ) → IsRegistered (parent_of G) G.born G d → IsRegistered (parent_of H) H.born H d)
-registered_step laws G (Written line) pause may led led' tree' d registered =
+registered_step laws G (Written line) pause may led led' rooted' d registered =
     stays laws G (line ∷ []) d pause.tree (pause_bounded G pause) (aside_alone G line d may.1, tt) registered
-registered_step laws G (Takes x y count) pause may led led' tree' d registered =
+registered_step laws G (Takes x y count) pause may led led' rooted' d registered =
     stays laws G (lines.Took x y count ∷ []) d pause.tree (pause_bounded G pause) (tt, tt) registered
-registered_step laws G (Handles x y r) pause may led led' tree' d registered =
-    handled laws G x y r pause may led led' (laws.tree.rooted _ tree') d registered
-registered_step laws G (Hosts ns blocks) pause may led led' tree' d registered =
+registered_step laws G (Handles x y r) pause may led led' rooted' d registered =
+    handled laws G x y r pause may led led' rooted' d registered
+registered_step laws G (Hosts ns blocks) pause may led led' rooted' d registered =
     let P : List Line → Type 0 = λ ls.
         IsRegistered (parent_of (after_lines G (lines.Born host kinds.Host host ns blocks ∷ ls))) (after_lines G (lines.Born host kinds.Host host ns blocks ∷ ls)).born
         (after_lines G (lines.Born host kinds.Host host ns blocks ∷ ls)) d in
     subst P (append-nil (cond ns (lines.Admitted host ∷ []) []))
     (bears laws G host kinds.Host host ns blocks [] [] pause (sym may.1.first) (λ d. tt) (λ d. tt) d registered)
-registered_step laws G (Bears child kind parent ns blocks) pause may led led' tree' d registered =
+registered_step laws G (Bears child kind parent ns blocks) pause may led led' rooted' d registered =
     let P : List Enclave → Type 0 = λ heard.
         let ls : List Line = birth_lines child kind parent blocks ns heard ++ adopt_lines (view_of G parent) child in
         IsRegistered (parent_of (after_lines G ls)) (after_lines G ls).born (after_lines G ls) d in

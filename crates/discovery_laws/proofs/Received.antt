@@ -5,6 +5,7 @@ use Rattle.std.specs.Option.{option_map_or}
 use Rattle.std.proofs.lemmas.Bool.{cases_Bool, eqb-true, eqb-false, eq-eqb, ne_eqb, and_parts}
 use Rattle.xm_num.specs.declared.Enclave.{Enclave}
 use Rattle.xm_num.specs.Rows.{at, less}
+use Rattle.xemem_language.specs.Destinations.{destination_number}
 use Rattle.xemem_language.specs.declared.record.Record.{Record}
 use Rattle.xemem_language.specs.declared.record.Body.{Body}
 use Rattle.xemem_language.specs.declared.record.Body.TheVariants as bodies
@@ -16,7 +17,7 @@ use Rattle.global_model.specs.Facts.{Facts, after_line, with_got}
 use Rattle.global_model.specs.Channels.{arriving, size_of, whole_records}
 use Rattle.discovery_laws.specs.Known.{in_flight}
 use Rattle.discovery_laws.proofs.Stages.{about_in, is_about, is_about_by}
-use Rattle.discovery_laws.proofs.Unmoved.{AreAside, IsAside, IsBounded, IsUnmoved}
+use Rattle.discovery_laws.proofs.Unmoved.{AreAside, AreInner, IsAside, IsBounded, IsUnmoved, inner_all}
 
 -- ---- the next record
 
@@ -183,3 +184,25 @@ aside_record v from r d other may = by (is_stray v r)
     by : (t : Bool) → AreAside d (cond t (drop_lines v) (body_lines v from r r.body))
     by true = (tt, tt)
     by false = aside_body v from r d r.body other other may
+
+-- a number that no record and no view names: of it nothing is said
+beyond : View → Record → ℕ
+beyond v r = suc (v.me.0 + r.origin.0 + destination_number r.dest)
+
+-- what is made of a record bears no enclave and gets no record
+pub inner_record : (v : View) (from : Enclave) (r : Record) → AreInner (record_lines v from r)
+unfolding beyond
+inner_record v from r = inner_all (record_lines v from r) (beyond v r) (aside_record v from r (beyond v r) (by r.body) (hears r.body))
+  where
+    dest_apart : (dest : Option Enclave) (more : ℕ) → option_map_or (λ (e : Enclave). eqb e.0 (suc (more + destination_number dest))) dest false ≡ false
+    dest_apart None more = refl
+    dest_apart (Some e) more = ne_eqb e.0 (suc (more + e.0)) (λ is. omega (arith, is))
+
+    by : (body : Body) → is_about_by (suc (v.me.0 + r.origin.0 + destination_number r.dest)) r body ≡ false
+    by bodies.Register = ne_eqb r.origin.0 (suc (v.me.0 + r.origin.0 + destination_number r.dest)) (λ is. omega (arith, is))
+    by bodies.Admit = dest_apart r.dest (v.me.0 + r.origin.0)
+    by _ = refl
+
+    hears : (body : Body) → MayHear v (suc (v.me.0 + r.origin.0 + destination_number r.dest)) body
+    hears bodies.Here = inr (λ is. omega (arith, is))
+    hears _ = tt

@@ -250,35 +250,35 @@ unmoved_line rows G (lines.Do (commands.Pool blocks)) d bounded aside = record {
 unmoved_line rows G _ d bounded aside = record {
   flight = λ a b. refl; backs = λ e. refl; routes = λ e. refl; holders = λ e is. is; knowing = λ e is. is; held = refl; known = refl; admitted = refl }
 
--- a line that bears no enclave and gets no record
-abbrev pub IsCalm : Line → Type 0
-IsCalm (lines.Born e kind parent ns blocks) = ⊥
-IsCalm (lines.Got x y) = ⊥
-IsCalm line = Unit {0}
+-- a line within a step: it bears no enclave and gets no record
+abbrev pub IsInner : Line → Type 0
+IsInner (lines.Born e kind parent ns blocks) = ⊥
+IsInner (lines.Got x y) = ⊥
+IsInner line = Unit {0}
 
-abbrev pub AreCalm : List Line → Type 0
-AreCalm journal = AllByRecursion IsCalm journal
+abbrev pub AreInner : List Line → Type 0
+AreInner journal = AllByRecursion IsInner journal
 
-pub calm_aside : (line : Line) (d : ℕ) → IsAside d line → IsCalm line
-calm_aside (lines.Born e kind parent ns blocks) d aside = aside
-calm_aside (lines.Got x y) d aside = aside
-calm_aside _ d aside = tt
+pub inner_aside : (line : Line) (d : ℕ) → IsAside d line → IsInner line
+inner_aside (lines.Born e kind parent ns blocks) d aside = aside
+inner_aside (lines.Got x y) d aside = aside
+inner_aside _ d aside = tt
 
-pub calm_all : (ls : List Line) (d : ℕ) → AreAside d ls → AreCalm ls
-calm_all [] d aside = tt
-calm_all (l ∷ ls) d aside = (calm_aside l d aside.0, calm_all ls d aside.1)
+pub inner_all : (ls : List Line) (d : ℕ) → AreAside d ls → AreInner ls
+inner_all [] d aside = tt
+inner_all (l ∷ ls) d aside = (inner_aside l d aside.0, inner_all ls d aside.1)
 
-pub bounded_line : (G : Facts) (line : Line) → IsBounded G → IsCalm line → IsBounded (after_line G line)
-bounded_line G (lines.Born e kind parent ns blocks) bounded calm = absurd calm
-bounded_line G (lines.Got x y) bounded calm = absurd calm
-bounded_line G (lines.Sent x y r) bounded calm = bounded_sent G x y r bounded
-bounded_line G (lines.Took x y count) bounded calm = λ a b. by a b (eqb a x.0 && eqb b y.0)
+pub bounded_line : (G : Facts) (line : Line) → IsBounded G → IsInner line → IsBounded (after_line G line)
+bounded_line G (lines.Born e kind parent ns blocks) bounded inner = absurd inner
+bounded_line G (lines.Got x y) bounded inner = absurd inner
+bounded_line G (lines.Sent x y r) bounded inner = bounded_sent G x y r bounded
+bounded_line G (lines.Took x y count) bounded inner = λ a b. by a b (eqb a x.0 && eqb b y.0)
   where
     by : (a b : ℕ) (t : Bool) → (cond t (with_taken count (G.channel a b)) (G.channel a b)).got ≤ length (cond t (with_taken count (G.channel a b)) (G.channel a b)).sent
     by a b true = bounded a b
     by a b false = bounded a b
-bounded_line G (lines.Do (commands.Pool blocks)) bounded calm = bounded
-bounded_line G _ bounded calm = bounded
+bounded_line G (lines.Do (commands.Pool blocks)) bounded inner = bounded
+bounded_line G _ bounded inner = bounded
 
 -- ---- several lines
 
@@ -290,5 +290,5 @@ pub unmoved_lines : RowLaws → (G : Facts) (ls : List Line) (d : ℕ) → IsBou
 unmoved_lines rows G [] d bounded aside = record { same = unmoved-refl G d; bounded = bounded }
 unmoved_lines rows G (l ∷ ls) d bounded aside =
     let one = unmoved_line rows G l d bounded aside.0 in
-    let more = unmoved_lines rows (after_line G l) ls d (bounded_line G l bounded (calm_aside l d aside.0)) aside.1 in
+    let more = unmoved_lines rows (after_line G l) ls d (bounded_line G l bounded (inner_aside l d aside.0)) aside.1 in
     record { same = unmoved-trans G (after_line G l) (after_lines (after_line G l) ls) d one more.same; bounded = more.bounded }

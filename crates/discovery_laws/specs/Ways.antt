@@ -7,11 +7,15 @@ use Rattle.global_model.specs.Facts.{Facts}
 use Rattle.global_model.specs.Tree.{IsToward, parent_of}
 use Rattle.discovery_laws.specs.Known.{holds}
 
+-- x is the next enclave from e on the path to d
+abbrev pub LeadsTo : Facts → ℕ → ℕ → Enclave → Type 0
+LeadsTo G e d x = IsToward (parent_of G) G.born e d x.0
+
 -- an enclave holds the name server, and x is the next one from e on the path to it
 pub record LeadsToHolder (G : Facts) (e : ℕ) (x : Enclave) : Type 0 where
   pub holder : ℕ
   pub holds : holds G holder ≡ true
-  pub toward : IsToward (parent_of G) G.born e holder x.0
+  pub toward : LeadsTo G e holder x
 
 -- a line by which the enclave learns its way
 abbrev pub is_way_line : ℕ → Line → Bool

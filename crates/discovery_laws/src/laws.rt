@@ -6,10 +6,10 @@ ghost use Rattle.global_model.specs.Due.{journal_of};
 ghost use Rattle.global_model.specs.Facts.{facts_after, is_living_enclave};
 ghost use Rattle.global_model.specs.Place.{IsPlaced};
 ghost use Rattle.global_model.specs.Rest.{IsAtRest};
-ghost use Rattle.global_model.specs.Tree.{IsToward, parent_of};
 ghost use Rattle.discovery_laws.specs.Known.{back_of, holds, is_admitted_at, knows, route_of, way_of};
 ghost use Rattle.discovery_laws.specs.Laws.{Laws};
-ghost use Rattle.discovery_laws.specs.Ways.{LeadsToHolder, ways_in};
+ghost use Rattle.discovery_laws.specs.Ways.{LeadsTo, LeadsToHolder, ways_in};
+ghost use Rattle.discovery_laws.specs.Once.{IsOnce};
 
 use global_model::{
     journals_are_carried, journals_are_in_steps, journals_grow, pasts_grow, trees_have_paths,
@@ -40,11 +40,9 @@ pub fn ways_lead()
     ensures holder { (commands : List Commands) → IsPlaced commands → (a b : ℕ)
         → holds (facts_after (journal_of commands)) a ≡ true → holds (facts_after (journal_of commands)) b ≡ true → a ≡ b }
     ensures backs { (commands : List Commands) → IsPlaced commands → (e d : ℕ) (x : Enclaves)
-        → back_of (facts_after (journal_of commands)) e d ≡ Some x
-        → IsToward (parent_of (facts_after (journal_of commands))) (facts_after (journal_of commands)).born e d x.0 }
+        → back_of (facts_after (journal_of commands)) e d ≡ Some x → LeadsTo (facts_after (journal_of commands)) e d x }
     ensures routes { (commands : List Commands) → IsPlaced commands → (e d : ℕ) (x : Enclaves)
-        → route_of (facts_after (journal_of commands)) e d ≡ Some x
-        → IsToward (parent_of (facts_after (journal_of commands))) (facts_after (journal_of commands)).born e d x.0 }
+        → route_of (facts_after (journal_of commands)) e d ≡ Some x → LeadsTo (facts_after (journal_of commands)) e d x }
 {
     laws();
 }
@@ -52,6 +50,13 @@ pub fn ways_lead()
 /// An enclave learns its way once: a journal has at most one line by which it does.
 pub fn ways_come_once()
     ensures { (commands : List Commands) → IsPlaced commands → (e : ℕ) → ways_in e (journal_of commands) ≤ 1 }
+{
+    laws();
+}
+
+/// No enclave gets two records of one kind with the same origin, destination and call.
+pub fn records_come_once()
+    ensures { (commands : List Commands) → IsPlaced commands → IsOnce (journal_of commands) }
 {
     laws();
 }

@@ -5,4 +5,4 @@
 
 mod laws;
 
-pub use laws::{rest_is_admitted, ways_come_once, ways_lead};
+pub use laws::{records_come_once, rest_is_admitted, ways_come_once, ways_lead};

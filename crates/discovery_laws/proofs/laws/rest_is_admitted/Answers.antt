@@ -1,7 +1,8 @@
 use Rattle.global_model.specs.Due.{journal_of}
 use Rattle.global_model.specs.Facts.{facts_after}
 use Rattle.discovery_laws.proofs.Resting.{knows_at_rest}
-use Rattle.discovery_laws.proofs.Joined.{journal_of-joined, admitted_at_rest}
+use Rattle.discovery_laws.proofs.Joined.{admitted_at_rest}
+use Rattle.discovery_laws.proofs.Journals.{journal_of-joined}
 use Rattle.discovery_laws.proofs.laws.rest_is_admitted.Goals as goal
 
 pub returns-clause-knows : goal.returns-clause-knows

@@ -1,7 +1,8 @@
 use Rattle.global_model.specs.Due.{journal_of}
 use Rattle.global_model.specs.Facts.{facts_after}
 use Rattle.discovery_laws.proofs.Asked.{asked_leads}
-use Rattle.discovery_laws.proofs.Joined.{journal_of-joined, back_leads, route_leads}
+use Rattle.discovery_laws.proofs.Joined.{back_leads, route_leads}
+use Rattle.discovery_laws.proofs.Journals.{journal_of-joined}
 use Rattle.discovery_laws.proofs.laws.ways_lead.Goals as goal
 
 pub returns-clause-way : goal.returns-clause-way
