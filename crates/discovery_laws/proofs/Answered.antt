@@ -1,4 +1,4 @@
--- A record that is got is the first under way, and what its receiver makes of it by who asks and who knows.
+-- What the receiver of a record makes of it, by who asks and who knows.
 use Rattle.std.proofs.Common.{◌≡◌, ◌≢◌, ◌+◌, ◌-◌, ◌<◌, ◌≤◌, ℕ, zero, suc, List, [], ◌∷◌, Bool, true, false, cond, not, ◌&&◌, ◌||◌, eqb, leb, drop, length, map, inl, inr, is_some, Option, None, Some, refl, sym, ap, ◌∙◌, subst, arith}
 use Rattle.std.specs.Prelude.{◌++◌, ◌⊎◌}
 use Rattle.std.specs.Cmp.{unsigned_tied}
@@ -29,35 +29,6 @@ use Rattle.discovery_laws.proofs.Knowing.{IsOwn, IsKnown, known_sent, known_got,
 use Rattle.discovery_laws.proofs.Newborn.{near_born, near_turned, near_apart}
 use Rattle.discovery_laws.proofs.Calm.{counted_knowing, counted_owed, IsAsking, IsCalm, AreCalm, calm_line, calm_lines, asking_sent}
 
--- ---- the record that is got is the first under way
-
-pub record IsFirst (rs : List Record) (n : ℕ) (r : Record) : Type 0 where
-  pub behind : List Record
-  pub is : drop n rs ≡ r ∷ behind
-
--- what is whole is a front of what was sent
-whole_first : (rs : List Record) (bytes n : ℕ) (r : Record) (others : List Record) → drop n (whole_records bytes rs) ≡ r ∷ others → IsFirst rs n r
-whole_first [] bytes zero r others is = absurd (cc)
-whole_first [] bytes (suc n) r others is = absurd (cc)
-whole_first (s ∷ rs) bytes n r others is = by (leb (size_of s) bytes) n (whole_first rs (bytes - size_of s)) is
-  where
-    by : (t : Bool) (n : ℕ) → ((n : ℕ) (r : Record) (others : List Record) → drop n (whole_records (bytes - size_of s) rs) ≡ r ∷ others → IsFirst rs n r)
-        → drop n (cond t (s ∷ whole_records (bytes - size_of s) rs) []) ≡ r ∷ others → IsFirst (s ∷ rs) n r
-    by true zero more found = record { behind = rs; is = let same : s ≡ r = cc in ap (λ q. q ∷ rs) same }
-    by true (suc n) more found = let later = more n r others found in record { behind = later.behind; is = later.is }
-    by false zero more found = absurd (cc)
-    by false (suc n) more found = absurd (cc)
-
-pub handled_first : (G : Facts) (x y : Enclave) (r : Record) → MayHandle G x y r
-    → IsFirst (G.channel x.0 y.0).sent (G.channel x.0 y.0).got r
-handled_first G x y r may = whole_first (G.channel x.0 y.0).sent (G.channel x.0 y.0).taken (G.channel x.0 y.0).got r may.others may.next
-
-pub first_has : (P : Record → Type 0) (rs : List Record) (n : ℕ) (r : Record) (behind : List Record) → AllByRecursion P rs → drop n rs ≡ r ∷ behind → P r
-first_has P [] zero r behind all is = absurd (cc)
-first_has P [] (suc n) r behind all is = absurd (cc)
-first_has P (s ∷ rs) zero r behind all is = let same : s ≡ r = cc in subst P same all.0
-first_has P (s ∷ rs) (suc n) r behind all is = first_has P rs n r behind all.1 is
-
 -- ---- strays
 
 knows_none : (v : View) (e : Enclave) → v.heard ≡ [] → knows_dead v e ≡ false
@@ -83,9 +54,6 @@ pub knows_way_is : (G : Facts) (y : Enclave) → knows_way (view_of G y) ≡ kno
 knows_way_is G y = ap (λ b. b || is_some (way_of G y.0)) (holder_is (G.enclave y.0))
 
 -- ---- records that neither ask for the way nor tell it
-
-is_neither : Body → Bool
-is_neither body = is_query_body body || is_here_body body
 
 calm_either : (t : Bool) (ls ms : List Line) → AreCalm ls → AreCalm ms → AreCalm (cond t ls ms)
 calm_either true ls ms left right = left

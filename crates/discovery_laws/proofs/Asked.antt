@@ -33,7 +33,8 @@ use Rattle.discovery_laws.proofs.Knowing.{IsOwn, IsKnown, known_sent}
 use Rattle.discovery_laws.proofs.Newborn.{near_apart}
 use Rattle.discovery_laws.proofs.Boots.{asked_host, asked_boot}
 use Rattle.discovery_laws.proofs.Calm.{IsAsking, AreCalm, calm_alone, calm_line, calm_lines}
-use Rattle.discovery_laws.proofs.Answered.{none_owed, got, handled_first, first_has, stray_is, knows_way_is, calm_record, handles_calm, handles_query, handles_here}
+use Rattle.discovery_laws.proofs.Underway.{first_has, next_flight}
+use Rattle.discovery_laws.proofs.Answered.{none_owed, got, stray_is, knows_way_is, calm_record, handles_calm, handles_query, handles_here}
 
 -- at a pause no answer is owed
 abbrev pub IsAsked : Facts → Type 0
@@ -49,7 +50,7 @@ module _ (laws : Laws) (G : Facts) (x y : Enclave) (r : Record) (behind : List R
   after = after_line G (lines.Got x y)
 
   own : IsOwn x.0 r
-  own = first_has (IsOwn x.0) (G.channel x.0 y.0).sent (G.channel x.0 y.0).got r behind (old.known.own x.0 y.0) next
+  own = first_has (IsOwn x.0) G x.0 y.0 r behind (old.known.own x.0 y.0) next
 
   -- a query and a here don't come back to their origin
   no_stray : (is_query r || is_here r) ≡ true → is_stray v r ≡ false
@@ -88,8 +89,8 @@ asked_step laws G (Hosts ns blocks) pause may old = asked_host laws G pause old 
 asked_step laws G (Bears child kind parent ns blocks) pause may old = asked_boot laws G pause old child parent kind ns blocks may.1
 asked_step laws G (Takes x y n) pause may old = calm_line laws.tree none_owed G (lines.Took x y n) tt old
 asked_step laws G (Handles x y r) pause may old =
-    let first = handled_first G x y r may in
-    asked_record laws G x y r first.behind first.is pause.tree may.near old r.body refl
+    let first = next_flight G x.0 y.0 r may.others may.next in
+    asked_record laws G x y r first.others first.is pause.tree may.near old r.body refl
 
 -- nobody asks, and nobody knows the way, before the first command
 pub asked_first : (laws : Laws) → IsAsked no_facts
@@ -126,22 +127,6 @@ asked_first laws = record {
         let none : is_neighbour no_facts a b ≡ false = λ i. no_child (not (eqb a 0)) i || no_child (not (eqb b 0)) i in
         let clash : true ≡ false = sym near ∙ none in
         absurd (cc)
-
--- ---- whole journals
-
-pub asked_steps : (laws : Laws) (steps : List Step) (G : Facts) → AreSteps G steps → IsAsked G → IsAsked (after_lines G (written_in G steps))
-asked_steps laws [] G are old = old
-asked_steps laws (step ∷ steps) G are old =
-    let own = written_by G step in
-    let H = after_lines G own in
-    subst IsAsked (sym (laws.past.after G own (written_in H steps)))
-    (asked_steps laws steps H are.2 (asked_step laws G step are.0 are.1 old))
-
-pub journal_of-asked : (laws : Laws) (commands : List Command) → IsPlaced commands → IsAsked (facts_after (journal_of commands))
-journal_of-asked laws commands placed =
-    let in_steps = laws.journal.steps commands placed in
-    subst (λ journal. IsAsked (after_lines no_facts journal)) (sym in_steps.written)
-    (asked_steps laws in_steps.steps no_facts in_steps.are (asked_first laws))
 
 -- what is known of the way to the name server
 pub asked_led : (G : Facts) → IsAsked G → IsLed G

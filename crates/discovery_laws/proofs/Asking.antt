@@ -16,7 +16,8 @@ use Rattle.global_model.specs.Channels.{is_neighbour}
 use Rattle.global_model.specs.Tree.{parent_of}
 use Rattle.discovery_laws.specs.Known.{askers_of, holds, in_flight, knows, way_of}
 use Rattle.discovery_laws.proofs.Effects.{number_at, way_learns, way_clears, asked_leaves, asked_keeps}
-use Rattle.discovery_laws.proofs.Flights.{one_if, count, count-append, add, add-turned, pair_has, sent_more, flies_more, sent_within, got_sent, got_within, flies_less}
+use Rattle.discovery_laws.proofs.Flights.{one_if, count, count-append, add, add-turned, pair_has, sent_more, flies_more, got_sent, flies_less}
+use Rattle.discovery_laws.proofs.Underway.{IsBounded, bounded_sent, bounded_got}
 
 abbrev pub is_query_body : Body → Bool
 is_query_body bodies.Query = true
@@ -55,7 +56,7 @@ heres_flying G a b = count is_here (in_flight G a b)
 -- What holds in the middle of a step, where `owed a b` is 1 where a is still to answer, or to remember, that b asked, and
 -- `knowing` are those that know the way or are about to learn it.
 pub record IsCounted (owed : ℕ → ℕ → ℕ) (knowing : ℕ → Bool) (G : Facts) : Type 0 where
-  pub within : (a b : ℕ) → (G.channel a b).got ≤ length (G.channel a b).sent
+  pub within : IsBounded G
   pub ascends : (e : ℕ) → IsAscending (askers_of G e)
   pub keyed : (e k : ℕ) (x : Enclave) → at (askers_of G e) k ≡ Some x → k ≡ place (parent_of G e) x.0
   pub still : (e k : ℕ) → knows G e ≡ true → at (askers_of G e) k ≡ None
@@ -135,19 +136,19 @@ pub counted_sent : (owed left : ℕ → ℕ → ℕ) (knowing : ℕ → Bool) (G
     → (is_query r ≡ true → queries_sent G x.0 y.0 ≡ 0)
     → IsCounted owed knowing G → IsCounted left knowing (after_line G (lines.Sent x y r))
 counted_sent owed left knowing G x y r pays first old = record {
-  within = λ a b. sent_within G x y r a b old.within;
+  within = bounded_sent G x y r old.within;
   ascends = old.ascends;
   keyed = old.keyed;
   still = old.still;
   asks = λ a b. pair_has (λ a b t c. count is_query c.sent ≤ 1) x.0 y.0 (with_sent r) G.channel a b (by (is_query r) refl) (old.asks a b);
   once = λ a b.
       let heres = sent_more is_here G x y r a b in
-      let queries = flies_more is_query G x y r b a (old.within x.0 y.0) in
+      let queries = flies_more is_query G x y r b a old.within in
       let turned = add-turned (is_query r) x.0 y.0 b a in
       omega (arith, heres, queries, turned, pays a b, old.once a b);
   asked = λ a b near.
-      let heres = flies_more is_here G x y r b a (old.within x.0 y.0) in
-      let queries = flies_more is_query G x y r a b (old.within x.0 y.0) in
+      let heres = flies_more is_here G x y r b a old.within in
+      let queries = flies_more is_query G x y r a b old.within in
       let turned = add-turned (is_query r) x.0 y.0 a b in
       omega (arith, heres, queries, turned, pays b a, old.asked a b near);
 }
@@ -169,13 +170,13 @@ pub counted_got : (owed more : ℕ → ℕ → ℕ) (knowing later : ℕ → Boo
     → ((a : ℕ) → one_if (knowing a) ≤ one_if (later a)) → (is_here r ≡ true → later y.0 ≡ true)
     → IsCounted owed knowing G → IsCounted more later (after_line G (lines.Got x y))
 counted_got owed more knowing later G x y r behind next owes grows told old = record {
-  within = λ a b. got_within G x y r behind next a b old.within;
+  within = bounded_got G x y r behind next old.within;
   ascends = old.ascends;
   keyed = old.keyed;
   still = old.still;
-  asks = λ a b. rw (got_sent G x y r behind next a b) (old.asks a b);
+  asks = λ a b. rw (got_sent G x y a b) (old.asks a b);
   once = λ a b.
-      let heres : heres_sent (after_line G (lines.Got x y)) a b ≡ heres_sent G a b = ap (count is_here) (got_sent G x y r behind next a b) in
+      let heres : heres_sent (after_line G (lines.Got x y)) a b ≡ heres_sent G a b = ap (count is_here) (got_sent G x y a b) in
       let queries = flies_less G x y r behind next is_query b a in
       let turned = add-turned (is_query r) x.0 y.0 b a in
       omega (arith, heres, queries, turned, owes a b, old.once a b);

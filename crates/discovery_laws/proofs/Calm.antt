@@ -15,7 +15,7 @@ use Rattle.global_model.specs.Tree.{IsRooted, parent_of}
 use Rattle.discovery_laws.specs.Known.{holds, knows}
 use Rattle.discovery_laws.specs.Laws.{TreeLaws}
 use Rattle.discovery_laws.proofs.Flights.{one_if, add, pair_has}
-use Rattle.discovery_laws.proofs.Effects.{LeavesWays, admitted_leaves, back_leaves, route_leaves}
+use Rattle.discovery_laws.proofs.Effects.{kept_by, holder_kept, parent_kept, has_kept, LeavesWays, admitted_leaves, back_leaves, route_leaves}
 use Rattle.discovery_laws.proofs.Asking.{is_query, is_here, number_has, IsAlike, IsSame, same_knows, IsCounted, counted_same, counted_sent}
 use Rattle.discovery_laws.proofs.Knowing.{IsKnown, known_same, known_sent}
 
@@ -51,23 +51,6 @@ pub record IsAsking (owed : ℕ → ℕ → ℕ) (G : Facts) : Type 0 where
   pub rooted : IsRooted (parent_of G)
 
 -- ---- lines that leave all of it
-
-parent_kept : (fact : Option EnclaveFact) → (fact_of (as_admitted fact)).parent.0 ≡ (fact_of fact).parent.0
-parent_kept None = refl
-parent_kept (Some fact) = refl
-
-holder_kept : (fact : Option EnclaveFact) → is_holder (as_admitted fact) ≡ is_holder fact
-holder_kept None = refl
-holder_kept (Some fact) = refl
-
-has_kept : (p : ℕ) (fact : Option EnclaveFact) → has_parent p (as_admitted fact) ≡ has_parent p fact
-has_kept p None = refl
-has_kept p (Some fact) = refl
-
--- a function of an enclave's fact that an admission leaves
-kept_by : {A : Type 0} (f : Option EnclaveFact → A) → ((fact : Option EnclaveFact) → f (as_admitted fact) ≡ f fact)
-    → (G : Facts) (e : Enclave) (a : ℕ) → f ((after_line G (lines.Admitted e)).enclave a) ≡ f (G.enclave a)
-kept_by f kept G e a = number_has (λ a fact. f fact ≡ f (G.enclave a)) e.0 (as_admitted (G.enclave e.0)) G.enclave a (kept (G.enclave e.0)) (λ other. refl)
 
 child_kept : (G : Facts) (e : Enclave) (a b : ℕ) → is_child_of (after_line G (lines.Admitted e)) a b ≡ is_child_of G a b
 child_kept G e a b = ap (λ has. not (eqb a 0) && has) (kept_by (has_parent b) (has_kept b) G e a)

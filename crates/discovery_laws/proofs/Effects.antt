@@ -1,11 +1,11 @@
 -- What lines change of what an enclave knows of ways and of who asked it.
-use Rattle.std.proofs.Common.{◌≡◌, ℕ, List, [], Bool, true, false, cond, eqb, Option, Some, refl, sym, subst}
+use Rattle.std.proofs.Common.{◌≡◌, ℕ, List, [], Bool, true, false, cond, eqb, Option, None, Some, refl, sym, subst}
 use Rattle.std.proofs.lemmas.Bool.{eqb-true}
 use Rattle.xm_num.specs.declared.Enclave.{Enclave}
 use Rattle.xm_num.specs.Rows.{put}
 use Rattle.xemem_language.specs.declared.line.Line.TheVariants as lines
 use Rattle.enclave_rules.specs.View.{place_among}
-use Rattle.global_model.specs.Facts.{Facts, after_line, fact_of}
+use Rattle.global_model.specs.Facts.{EnclaveFact, Facts, after_line, as_admitted, fact_of, has_parent, is_holder}
 use Rattle.discovery_laws.specs.Known.{askers_of, way_of}
 
 -- what holds of the new value at a number, and of all others as before
@@ -45,3 +45,23 @@ module _ (G : Facts) (e d over : Enclave) where
 
   pub admitted_leaves : LeavesWays G (after_line G (lines.Admitted e))
   admitted_leaves = record { way = λ a. refl; askers = λ a. refl }
+
+-- ---- an admission leaves the rest of an enclave's fact
+
+pub parent_kept : (fact : Option EnclaveFact) → (fact_of (as_admitted fact)).parent.0 ≡ (fact_of fact).parent.0
+parent_kept None = refl
+parent_kept (Some fact) = refl
+
+pub holder_kept : (fact : Option EnclaveFact) → is_holder (as_admitted fact) ≡ is_holder fact
+holder_kept None = refl
+holder_kept (Some fact) = refl
+
+pub has_kept : (p : ℕ) (fact : Option EnclaveFact) → has_parent p (as_admitted fact) ≡ has_parent p fact
+has_kept p None = refl
+has_kept p (Some fact) = refl
+
+-- a function of an enclave's fact that an admission leaves
+pub kept_by : {A : Type 0} (f : Option EnclaveFact → A) → ((fact : Option EnclaveFact) → f (as_admitted fact) ≡ f fact)
+    → (G : Facts) (e : Enclave) (a : ℕ) → f ((after_line G (lines.Admitted e)).enclave a) ≡ f (G.enclave a)
+kept_by f kept G e a = number_at (λ a fact. f fact ≡ f (G.enclave a)) e.0 (as_admitted (G.enclave e.0)) G.enclave (after_line G (lines.Admitted e)).enclave
+    (λ j. refl) a (kept (G.enclave e.0)) (λ other. refl)

@@ -1,12 +1,12 @@
--- How many records of a kind were sent over a channel, and how many of them weren't got yet.
-use Rattle.std.proofs.Common.{◌≡◌, ◌+◌, ◌≤◌, ℕ, zero, suc, List, [], ◌∷◌, ◌++◌, drop, length, Bool, true, false, cond, ◌&&◌, eqb, refl, sym, ap, ◌∙◌, subst, arith, length-append}
-use Rattle.std.specs.List.{AllByRecursion}
+-- How many records of a kind were sent over a channel, and how many of them are under way.
+use Rattle.std.proofs.Common.{◌≡◌, ◌+◌, ℕ, List, [], ◌∷◌, ◌++◌, Bool, true, false, cond, ◌&&◌, eqb, refl, sym, ap, ◌∙◌, subst, arith}
 use Rattle.std.proofs.lemmas.Bool.{eqb-true, eq-eqb, and_parts}
 use Rattle.xm_num.specs.declared.Enclave.{Enclave}
 use Rattle.xemem_language.specs.declared.record.Record.{Record}
 use Rattle.xemem_language.specs.declared.line.Line.TheVariants as lines
-use Rattle.global_model.specs.Facts.{Facts, ChannelFact, after_line, at_pair, with_sent, with_got}
+use Rattle.global_model.specs.Facts.{Facts, after_line, at_pair, with_got, with_sent}
 use Rattle.discovery_laws.specs.Known.{in_flight}
+use Rattle.discovery_laws.proofs.Underway.{IsBounded, flight_sent, flight_got}
 
 abbrev pub one_if : Bool → ℕ
 one_if true = 1
@@ -20,30 +20,6 @@ count test (r ∷ rs) = one_if (test r) + count test rs
 pub count-append : (test : Record → Bool) (rs ss : List Record) → count test (rs ++ ss) ≡ count test rs + count test ss
 count-append test [] ss = omega arith
 count-append test (r ∷ rs) ss = let more = count-append test rs ss in omega (arith, more)
-
-pub count-drop : (test : Record → Bool) (n : ℕ) (rs : List Record) → count test (drop n rs) ≤ count test rs
-count-drop test zero rs = omega arith
-count-drop test (suc n) [] = omega arith
-count-drop test (suc n) (r ∷ rs) = let more = count-drop test n rs in omega (arith, more)
-
-pub drop-append : (n : ℕ) (rs ss : List Record) → n ≤ length rs → drop n (rs ++ ss) ≡ drop n rs ++ ss
-drop-append zero rs ss le = refl
-drop-append (suc n) [] ss le = absurd (omega (arith, le))
-drop-append (suc n) (r ∷ rs) ss le = drop-append n rs ss (omega (arith, le))
-
--- behind the first of those that are left
-pub record IsBehind (n : ℕ) (rs behind : List Record) : Type 0 where
-  pub some : n + 1 ≤ length rs
-  pub left : drop (n + 1) rs ≡ behind
-
-pub behind_first : (n : ℕ) (r : Record) (rs behind : List Record) → drop n rs ≡ r ∷ behind → IsBehind n rs behind
-behind_first zero r [] behind is = cc
-behind_first zero r (s ∷ rs) behind is = record { some = omega arith; left = cc }
-behind_first (suc n) r [] behind is = cc
-behind_first (suc n) r (s ∷ rs) behind is =
-    let more = behind_first n r rs behind is in
-    let next : suc n + 1 ≡ suc (n + 1) = omega arith in
-    record { some = omega (arith, more.some); left = rw next more.left }
 
 -- one at that pair, where the test passes
 abbrev pub add : Bool → ℕ → ℕ → ℕ → ℕ → ℕ
@@ -90,57 +66,48 @@ module _ (test : Record → Bool) (G : Facts) (x y : Enclave) (r : Record) where
       away true = omega arith
       away false = omega arith
 
-  -- and is under way, where no more were got than sent
-  pub flies_more : (a b : ℕ) → (G.channel x.0 y.0).got ≤ length (G.channel x.0 y.0).sent
+  -- and is under way
+  pub flies_more : (a b : ℕ) → IsBounded G
       → count test (in_flight (after_line G (lines.Sent x y r)) a b) ≡ count test (in_flight G a b) + add (test r) x.0 y.0 a b
-  flies_more a b within = pair_has (λ a b t c. count test (drop c.got c.sent) ≡ count test (in_flight G a b) + one_if (test r && t))
-      x.0 y.0 (with_sent r) G.channel a b (by (test r) refl) (away (test r))
+  flies_more a b bounded = ap (count test) (flight_sent G x y r a b bounded) ∙ by (eqb a x.0 && eqb b y.0) (test r) refl
     where
-      by : (t : Bool) → test r ≡ t → count test (drop (G.channel x.0 y.0).got ((G.channel x.0 y.0).sent ++ r ∷ []))
-          ≡ count test (in_flight G x.0 y.0) + one_if (t && true)
-      by t is = ap (count test) (drop-append (G.channel x.0 y.0).got (G.channel x.0 y.0).sent (r ∷ []) within)
-          ∙ count-append test (in_flight G x.0 y.0) (r ∷ []) ∙ rw is (last t)
-        where
-          last : (t : Bool) → count test (in_flight G x.0 y.0) + (one_if t + 0) ≡ count test (in_flight G x.0 y.0) + one_if (t && true)
-          last true = omega arith
-          last false = omega arith
-
-      away : (t : Bool) → count test (in_flight G a b) ≡ count test (in_flight G a b) + one_if (t && false)
-      away true = omega arith
-      away false = omega arith
-
-pub sent_within : (G : Facts) (x y : Enclave) (r : Record) (a b : ℕ) → ((a b : ℕ) → (G.channel a b).got ≤ length (G.channel a b).sent)
-    → ((after_line G (lines.Sent x y r)).channel a b).got ≤ length ((after_line G (lines.Sent x y r)).channel a b).sent
-sent_within G x y r a b within = pair_has (λ a b t c. c.got ≤ length c.sent) x.0 y.0 (with_sent r) G.channel a b
-    (omega (arith, within x.0 y.0, length-append (G.channel x.0 y.0).sent (r ∷ []))) (within a b)
+      by : (t passes : Bool) → test r ≡ passes → count test (cond t (in_flight G a b ++ r ∷ []) (in_flight G a b))
+          ≡ count test (in_flight G a b) + one_if (passes && t)
+      by true true is = let more = count-append test (in_flight G a b) (r ∷ []) in let one = ap one_if is in omega (arith, more, one)
+      by true false is = let more = count-append test (in_flight G a b) (r ∷ []) in let none = ap one_if is in omega (arith, more, none)
+      by false true is = omega arith
+      by false false is = omega arith
 
 -- ---- the first record under way is got
 
-module _ (G : Facts) (x y : Enclave) (r : Record) (behind : List Record) (first : in_flight G x.0 y.0 ≡ r ∷ behind) where
-  pub got_sent : (a b : ℕ) → ((after_line G (lines.Got x y)).channel a b).sent ≡ (G.channel a b).sent
-  got_sent a b = pair_has (λ a b t c. c.sent ≡ (G.channel a b).sent) x.0 y.0 with_got G.channel a b refl refl
+pub got_sent : (G : Facts) (x y : Enclave) (a b : ℕ) → ((after_line G (lines.Got x y)).channel a b).sent ≡ (G.channel a b).sent
+got_sent G x y a b = pair_has (λ a b t c. c.sent ≡ (G.channel a b).sent) x.0 y.0 with_got G.channel a b refl refl
 
-  pub got_within : (a b : ℕ) → ((a b : ℕ) → (G.channel a b).got ≤ length (G.channel a b).sent)
-      → ((after_line G (lines.Got x y)).channel a b).got ≤ length ((after_line G (lines.Got x y)).channel a b).sent
-  got_within a b within =
-      let next = behind_first (G.channel x.0 y.0).got r (G.channel x.0 y.0).sent behind first in
-      pair_has (λ a b t c. c.got ≤ length c.sent) x.0 y.0 with_got G.channel a b next.some (within a b)
-
-  pub flies_less : (test : Record → Bool) (a b : ℕ)
-      → count test (in_flight (after_line G (lines.Got x y)) a b) + add (test r) x.0 y.0 a b ≡ count test (in_flight G a b)
-  flies_less test a b = pair_has (λ a b t c. count test (drop c.got c.sent) + one_if (test r && t) ≡ count test (in_flight G a b))
-      x.0 y.0 with_got G.channel a b (by (test r) refl) (away (test r))
-    where
-      by : (t : Bool) → test r ≡ t → count test (drop ((G.channel x.0 y.0).got + 1) (G.channel x.0 y.0).sent) + one_if (t && true)
-          ≡ count test (in_flight G x.0 y.0)
-      by t is =
-          let next = behind_first (G.channel x.0 y.0).got r (G.channel x.0 y.0).sent behind first in
-          rw (next.left, first, is) (last t)
-        where
-          last : (t : Bool) → count test behind + one_if (t && true) ≡ one_if t + count test behind
-          last true = omega arith
-          last false = omega arith
-
-      away : (t : Bool) → count test (in_flight G a b) + one_if (t && false) ≡ count test (in_flight G a b)
-      away true = omega arith
-      away false = omega arith
+pub flies_less : (G : Facts) (x y : Enclave) (r : Record) (behind : List Record) → in_flight G x.0 y.0 ≡ r ∷ behind
+    → (test : Record → Bool) (a b : ℕ)
+    → count test (in_flight (after_line G (lines.Got x y)) a b) + add (test r) x.0 y.0 a b ≡ count test (in_flight G a b)
+flies_less G x y r behind first test a b = by (eqb a x.0 && eqb b y.0) refl (test r) refl
+  where
+    by : (t : Bool) → (eqb a x.0 && eqb b y.0) ≡ t → (passes : Bool) → test r ≡ passes
+        → count test (in_flight (after_line G (lines.Got x y)) a b) + one_if (passes && t) ≡ count test (in_flight G a b)
+    by true is passes test_is =
+        let both = and_parts (eqb a x.0) (eqb b y.0) is in
+        let here : in_flight G a b ≡ r ∷ behind = (λ i. in_flight G (eqb-true a x.0 both.0 i) (eqb-true b y.0 both.1 i)) ∙ first in
+        let now : count test (in_flight (after_line G (lines.Got x y)) a b) ≡ count test behind
+        = ap (count test) (flight_got G x y r behind a b first ∙ ap (λ t. cond t behind (in_flight G a b)) is) in
+        let before : count test (in_flight G a b) ≡ one_if (test r) + count test behind = ap (count test) here in
+        let one : one_if (test r) ≡ one_if (passes && true) = ap one_if test_is ∙ last passes in
+        omega (arith, now, before, one)
+      where
+        last : (t : Bool) → one_if t ≡ one_if (t && true)
+        last true = refl
+        last false = refl
+    by false is passes test_is =
+        let now : count test (in_flight (after_line G (lines.Got x y)) a b) ≡ count test (in_flight G a b)
+        = ap (count test) (flight_got G x y r behind a b first ∙ ap (λ t. cond t behind (in_flight G a b)) is) in
+        let none : one_if (passes && false) ≡ 0 = last passes in
+        omega (arith, now, none)
+      where
+        last : (t : Bool) → one_if (t && false) ≡ 0
+        last true = refl
+        last false = refl

@@ -11,6 +11,7 @@ use Rattle.global_model.specs.Tree.{IsRooted, IsToward, parent_of}
 use Rattle.discovery_laws.specs.Known.{holds, in_flight, knows, way_of}
 use Rattle.discovery_laws.specs.Laws.{TreeLaws}
 use Rattle.discovery_laws.proofs.Led.{IsHeld}
+use Rattle.discovery_laws.proofs.Underway.{IsBounded}
 use Rattle.discovery_laws.proofs.Flights.{one_if, count, add, pair_has, sent_more, flies_more, got_sent, flies_less}
 use Rattle.discovery_laws.proofs.Effects.{number_at, way_learns, asked_leaves}
 use Rattle.discovery_laws.proofs.Asking.{is_query, is_here, heres_flying, IsAlike, same_knows, same_flight}
@@ -51,7 +52,7 @@ known_same laws G H same rooted old = record {
 
 -- ---- records
 
-pub known_sent : (G : Facts) (x y : Enclave) (r : Record) → ((a b : ℕ) → (G.channel a b).got ≤ length (G.channel a b).sent)
+pub known_sent : (G : Facts) (x y : Enclave) (r : Record) → IsBounded G
     → IsOwn x.0 r → (is_here r ≡ true → knows G x.0 ≡ true) → IsKnown G → IsKnown (after_line G (lines.Sent x y r))
 known_sent G x y r within own knowing old = record {
   quiet = old.quiet;
@@ -68,12 +69,12 @@ known_sent G x y r within own knowing old = record {
     by : (a b : ℕ) (here : Bool) → is_here r ≡ here → (t : Bool) → (eqb a x.0 && eqb b y.0) ≡ t
         → 1 ≤ heres_flying (after_line G (lines.Sent x y r)) a b → knows G a ≡ true
     by a b false is t at some =
-        let more = flies_more is_here G x y r a b (within x.0 y.0) in
+        let more = flies_more is_here G x y r a b within in
         let none : add (is_here r) x.0 y.0 a b ≡ 0 = rw is refl in
         old.told a b (omega (arith, more, none, some))
     by a b true is true at some = ap (knows G) (eqb-true a x.0 (and_parts (eqb a x.0) (eqb b y.0) at).0) ∙ knowing is
     by a b true is false at some =
-        let more = flies_more is_here G x y r a b (within x.0 y.0) in
+        let more = flies_more is_here G x y r a b within in
         let none : add (is_here r) x.0 y.0 a b ≡ 0 = rw (is, at) refl in
         old.told a b (omega (arith, more, none, some))
 
@@ -81,7 +82,7 @@ pub known_got : (G : Facts) (x y : Enclave) (r : Record) (behind : List Record) 
     → IsKnown G → IsKnown (after_line G (lines.Got x y))
 known_got G x y r behind next old = record {
   quiet = old.quiet;
-  own = λ a b. rw (got_sent G x y r behind next a b) (old.own a b);
+  own = λ a b. rw (got_sent G x y a b) (old.own a b);
   told = λ a b some. let less = flies_less G x y r behind next is_here a b in old.told a b (omega (arith, less, some));
   over = old.over;
   server = old.server;

@@ -9,10 +9,6 @@ use Rattle.global_model.specs.Facts.{Facts, is_admitted, is_holder}
 abbrev pub way_of : Facts → ℕ → Option Enclave
 way_of G e = G.way e
 
--- the neighbour that asked the enclave for the way and stands at that place, and wasn't answered
-abbrev pub asker_of : Facts → ℕ → ℕ → Option Enclave
-asker_of G e place = at (G.askers e) place
-
 -- those that asked it for the way and weren't answered, by their places
 abbrev pub askers_of : Facts → ℕ → List (ℕ × Enclave)
 askers_of G e = G.askers e

@@ -5,7 +5,7 @@ use Rattle.std.specs.Option.{option_map_or}
 use Rattle.std.proofs.lemmas.Bool.{eqb-false, eqb-true, and_parts, leb-false}
 use Rattle.xm_num.specs.declared.Enclave.{Enclave}
 use Rattle.xm_num.specs.declared.Pid.{Pid}
-use Rattle.xm_num.specs.declared.Vpn.{Vpn}
+use Rattle.xm_num.specs.declared.Want.{Want}
 use Rattle.xm_num.specs.declared.Kind.{Kind}
 use Rattle.xm_num.specs.declared.Cause.{Cause}
 use Rattle.xm_num.specs.declared.Cause.TheVariants as causes
@@ -251,15 +251,21 @@ proc_in_steps : (e : Enclave) (uid gid : ℕ) (past : List Line) → IsSound (fa
 proc_in_steps e uid gid past sound =
     let G = facts_at past in
     with_refusal (commands.Proc e uid gid) past sound tt sound
-    (λ none.
-    let lives = is_living_enclave (G.enclave e.0) in
-    let first = no_condition causes.NoEnclave (not lives) (when causes.TooMany (leb 1024 G.starts) ∷ []) none in
-    one_in_steps G (Written (lines.Proc e (record { 0 = G.started e.0 + 1 }) uid gid)) (pause_sound G sound)
-    (sound.flowing.arrived, (not_false lives first.0, refl)))
+    (λ none. one_in_steps G (Written (lines.Proc e (record { 0 = G.started e.0 + 1 }) uid gid)) (pause_sound G sound)
+    (sound.flowing.arrived, (none, refl)))
 
-aside_touched : (e : Enclave) (p : Pid) (page : Vpn) (mapping : Option Mapping) → EachIs IsAside (touched_lines e p page mapping)
-aside_touched e p page None = tt
-aside_touched e p page (Some found) = (record { proper = λ near. tt; alone = λ G. tt }, tt)
+touch_in_steps : (e : Enclave) (p : Pid) (addr : ℕ) (want : Want) (past : List Line) → IsSound (facts_at past)
+    → IsInSteps (facts_at past) (step_lines (facts_at past) (commands.Touch e p addr want))
+touch_in_steps e p addr want past sound = with_refusal (commands.Touch e p addr want) past sound tt sound
+    (λ none. by none (space_of (facts_at past) e.0 p.0 (addr / 4096)) refl)
+  where
+    by : refusal_of (facts_at past) (commands.Touch e p addr want) ≡ None → (o : Option Mapping)
+        → space_of (facts_at past) e.0 p.0 (addr / 4096) ≡ o
+        → IsInSteps (facts_at past) (touched_lines e p (record { 0 = addr / 4096 }) o)
+    by none None is = none_in_steps (facts_at past)
+    by none (Some found) is = one_in_steps (facts_at past) (Written (lines.Touched e p (record { 0 = addr / 4096 }) found.frame))
+        (pause_sound (facts_at past) sound)
+        (sound.flowing.arrived, record { addr = addr; want = want; access = found.access; number = refl; mapped = is; allowed = none })
 
 -- a command whose acts stand by themselves
 shows_in_steps : (c : Command) (past : List Line) → IsSound (facts_at past) → MayStandAlone (facts_at past) (lines.Do c)
@@ -288,11 +294,8 @@ command_in_steps before (commands.Alloc e p at pages) past sound counted may ran
     let frames = take pages (unused_frames G e.0) in
     with_refusal (commands.Alloc e p at pages) past sound tt sound
     (λ none. one_in_steps G (Written (lines.Alloc e p at frames)) (pause_sound G sound)
-    (sound.flowing.arrived, record { count = pages; is = refl }))
-command_in_steps before (commands.Touch e p addr want) past sound counted may range =
-    let G = facts_at past in
-    shows_in_steps (commands.Touch e p addr want) past sound tt sound
-    (aside_touched e p (record { 0 = addr / 4096 }) (space_of G e.0 p.0 (addr / 4096)))
+    (sound.flowing.arrived, record { count = pages; lowest = refl; allowed = none }))
+command_in_steps before (commands.Touch e p addr want) past sound counted may range = touch_in_steps e p addr want past sound
 command_in_steps before (commands.Deliver x y count) past sound counted may range =
     let c = commands.Deliver x y count in
     let G = facts_at past in

@@ -1,10 +1,15 @@
 -- A journal as steps, between which there are pauses: a line by itself, a birth with all that follows it, the bytes that are taken,
 -- and a record that is got with what its receiver makes of it. So a law that holds at the first pause, and is kept by each step,
 -- holds at every pause, whatever the commands were.
-use Rattle.std.specs.Prelude.{◌≡◌, ◌+◌, ◌<◌, ◌≤◌, ℕ, List, [], ◌∷◌, ◌++◌, length, take, Bool, true, false}
+use Rattle.std.specs.Prelude.{◌≡◌, ◌+◌, ◌/◌, Some, None, ◌<◌, ◌≤◌, ℕ, List, [], ◌∷◌, ◌++◌, length, take, Bool, true, false}
 use Rattle.xm_num.specs.declared.Enclave.{Enclave}
 use Rattle.xm_num.specs.declared.Kind.{Kind}
 use Rattle.xm_num.specs.declared.Block.{Block}
+use Rattle.xm_num.specs.declared.Access.{Access}
+use Rattle.xm_num.specs.declared.Frame.{Frame}
+use Rattle.xm_num.specs.declared.Pid.{Pid}
+use Rattle.xm_num.specs.declared.Vpn.{Vpn}
+use Rattle.xm_num.specs.declared.Want.{Want}
 use Rattle.xemem_language.specs.declared.command.Command.TheVariants as commands
 use Rattle.xemem_language.specs.declared.line.Line.{Line}
 use Rattle.xemem_language.specs.declared.line.Line.TheVariants as lines
@@ -13,7 +18,8 @@ use Rattle.enclave_rules.specs.Steps.{adopt_lines, birth_lines, host_lines, reco
 use Rattle.global_model.specs.Channels.{arriving, is_neighbour, waiting_bytes}
 use Rattle.global_model.specs.Facts.{Facts, after_lines, is_living_enclave, no_channel}
 use Rattle.global_model.specs.Flow.{AreWays, IsFlow, IsTree}
-use Rattle.global_model.specs.Space.{free_blocks, unused_frames}
+use Rattle.global_model.specs.Refusals.{refusal_of}
+use Rattle.global_model.specs.Space.{free_blocks, space_of, unused_frames}
 use Rattle.global_model.specs.Views.{view_of}
 
 pub data Step : Type 0 where
@@ -44,15 +50,31 @@ pub record AreFirst {A : Type 0} (taken those : List A) : Type 0 where
   pub count : ℕ
   pub is : taken ≡ take count those
 
--- A line may stand by itself where it changes neither the tree nor what goes over channels nor what is known of ways; a pool is
--- told of before anything is born, and frames that are allocated are the lowest unused ones.
+-- the lowest unused frames are allocated, so many as the command wants, where it isn't refused
+pub record MayAllocate (G : Facts) (e : Enclave) (p : Pid) (page : Vpn) (frames : List Frame) : Type 0 where
+  pub count : ℕ
+  pub lowest : frames ≡ take count (unused_frames G e.0)
+  pub allowed : refusal_of G (commands.Alloc e p page count) ≡ None
+
+-- the page of the address is mapped to the frame, where the command isn't refused
+pub record MayTouch (G : Facts) (e : Enclave) (p : Pid) (page : Vpn) (frame : Frame) : Type 0 where
+  pub addr : ℕ
+  pub want : Want
+  pub access : Access
+  pub number : page.0 ≡ addr / 4096
+  pub mapped : space_of G e.0 p.0 (addr / 4096) ≡ Some (record { frame = frame; access = access })
+  pub allowed : refusal_of G (commands.Touch e p addr want) ≡ None
+
+-- A line may stand by itself where it changes neither the tree nor what goes over channels nor what is known of ways. A pool is told
+-- of before anything is born, and what a process does is what its command may.
 abbrev pub MayStandAlone : Facts → Line → Type 0
 MayStandAlone G (lines.Do (commands.Pool blocks)) = G.born ≡ 0
 MayStandAlone G (lines.Born e kind parent ns blocks) = ⊥
 MayStandAlone G (lines.Told e of) = ⊥
 MayStandAlone G (lines.Admitted e) = ⊥
-MayStandAlone G (lines.Proc e p uid gid) = (is_living_enclave (G.enclave e.0) ≡ true) × (p.0 ≡ G.started e.0 + 1)
-MayStandAlone G (lines.Alloc e p at frames) = AreFirst frames (unused_frames G e.0)
+MayStandAlone G (lines.Proc e p uid gid) = (refusal_of G (commands.Proc e uid gid) ≡ None) × (p.0 ≡ G.started e.0 + 1)
+MayStandAlone G (lines.Alloc e p page frames) = MayAllocate G e p page frames
+MayStandAlone G (lines.Touched e p page frame) = MayTouch G e p page frame
 MayStandAlone G (lines.Sent x y r) = ⊥
 MayStandAlone G (lines.Took x y count) = ⊥
 MayStandAlone G (lines.Got x y) = ⊥
