@@ -26,13 +26,14 @@ use Rattle.discovery_laws.specs.Laws.{Laws}
 use Rattle.discovery_laws.specs.Once.{IsFirstNew, OnceAt, IsOnce, first_onto, is_alike, records_got}
 use Rattle.xemem_language.specs.Destinations.{destination_number}
 use Rattle.xemem_wire.specs.Table.{kind_of}
+use Rattle.discovery_laws.proofs.Underway.{IsNextOf, bounded_got, next_flight}
 use Rattle.discovery_laws.proofs.Asked.{IsAsked, asked_first, asked_led, asked_step}
 use Rattle.discovery_laws.proofs.Joined.{IsJoined}
 use Rattle.discovery_laws.proofs.Led.{IsLed}
 use Rattle.discovery_laws.proofs.Marks.{IsKept, kept-trans, kept_got, kept_lines, mark, mark_kept}
 use Rattle.discovery_laws.proofs.Onces.{IsNew, alike_mark, new_record}
 use Rattle.discovery_laws.proofs.Pausing.{aside_alone, none_admitted, registered_step, unborn_enclave}
-use Rattle.discovery_laws.proofs.Received.{IsNextOf, bounded_got, inner_record, next_flight}
+use Rattle.discovery_laws.proofs.Received.{inner_record}
 use Rattle.discovery_laws.proofs.Registrations.{pause_bounded}
 use Rattle.discovery_laws.proofs.Stages.{IsRegistered, IsStaged, Silent}
 use Rattle.discovery_laws.proofs.Unmoved.{AreInner, IsInner, inner_aside}

@@ -13,11 +13,12 @@ use Rattle.xemem_wire.specs.Table.{kind_of}
 use Rattle.global_model.specs.Facts.{Facts, ChannelFact, EnclaveFact, after_line, after_lines, at_number, as_admitted, is_admitted, with_got, with_sent, with_taken}
 use Rattle.discovery_laws.specs.Known.{back_of, in_flight, is_admitted_at, route_of}
 use Rattle.discovery_laws.specs.Laws.{RowLaws}
+use Rattle.discovery_laws.proofs.Underway.{IsBounded}
 use Rattle.discovery_laws.proofs.Flights.{count, count-append}
 use Rattle.discovery_laws.proofs.Moves.{row_more}
 use Rattle.global_model.specs.Tree.{parent_of}
 use Rattle.discovery_laws.proofs.Stages.{IsRegistered}
-use Rattle.discovery_laws.proofs.Unmoved.{AreInner, IsBounded, IsInner, bounded_line}
+use Rattle.discovery_laws.proofs.Unmoved.{AreInner, IsInner, bounded_line}
 
 -- ---- marks
 

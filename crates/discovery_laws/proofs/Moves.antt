@@ -13,8 +13,9 @@ use Rattle.global_model.specs.Facts.{Facts, EnclaveFact, after_line, at_number, 
 use Rattle.global_model.specs.Views.{view_of}
 use Rattle.discovery_laws.specs.Known.{in_flight}
 use Rattle.discovery_laws.specs.Laws.{RowLaws}
+use Rattle.discovery_laws.proofs.Underway.{IsBounded}
 use Rattle.discovery_laws.proofs.Stages.{about_in, alone_at, is_about}
-use Rattle.discovery_laws.proofs.Unmoved.{IsBounded, about_sent}
+use Rattle.discovery_laws.proofs.Unmoved.{about_sent}
 use Rattle.discovery_laws.proofs.Received.{about_got}
 
 -- ---- records of d under way

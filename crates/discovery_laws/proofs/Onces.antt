@@ -22,16 +22,17 @@ use Rattle.global_model.specs.Views.{view_of}
 use Rattle.discovery_laws.specs.Known.{back_of, in_flight, is_admitted_at, route_of}
 use Rattle.discovery_laws.specs.Laws.{Laws}
 use Rattle.discovery_laws.specs.Once.{is_alike}
+use Rattle.discovery_laws.proofs.Underway.{IsBounded, IsNextOf, bounded_got, drop-more, first_has, next_flight}
 use Rattle.discovery_laws.proofs.Flights.{count, count-append, one_if}
 use Rattle.discovery_laws.proofs.Asked.{IsAsked, asked_led}
 use Rattle.discovery_laws.proofs.Asking.{is_here, is_here_body, is_query, is_query_body}
 use Rattle.discovery_laws.proofs.Knowing.{IsOwn}
 use Rattle.discovery_laws.proofs.Led.{IsLed}
 use Rattle.discovery_laws.proofs.Marks.{IsKept, IsMoved, got_of, is_kind, kept_lines, mark, mark_kept, mark_of}
-use Rattle.discovery_laws.proofs.Received.{IsNextOf, bounded_got, inner_record, drop-more, next_flight}
+use Rattle.discovery_laws.proofs.Received.{inner_record}
 use Rattle.discovery_laws.proofs.Registrations.{moves, pause_bounded}
 use Rattle.discovery_laws.proofs.Stages.{IsRegistered, is_about, is_about_by}
-use Rattle.discovery_laws.proofs.Unmoved.{AreInner, IsBounded, inner_all}
+use Rattle.discovery_laws.proofs.Unmoved.{AreInner, inner_all}
 
 -- ---- records that are alike
 
@@ -48,16 +49,6 @@ alike_mark G y r q is =
     ∙ ap (λ d. mark_of G y (kind_of q.body) q.origin.0 d) (eqb-true (destination_number r.dest) (destination_number q.dest) two.1)
 
 -- ---- a valid record
-
--- what is under way was sent
-all-dropped : (P : Record → Type 0) (n : ℕ) (rs : List Record) → AllByRecursion P rs → AllByRecursion P (drop n rs)
-all-dropped P zero rs all = all
-all-dropped P (suc n) [] all = tt
-all-dropped P (suc n) (r ∷ rs) all = all-dropped P n rs all.1
-
-first_has : (P : Record → Type 0) (G : Facts) (x y : ℕ) (r : Record) (rs : List Record) → AllByRecursion P (G.channel x y).sent
-    → in_flight G x y ≡ r ∷ rs → P r
-first_has P G x y r rs all is = (subst (AllByRecursion P) is (all-dropped P (G.channel x y).got (G.channel x y).sent all)).0
 
 record IsProperKind (r : Record) : Type 0 where
   built : is_built (kind_of r.body) ≡ true

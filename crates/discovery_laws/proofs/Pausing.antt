@@ -20,8 +20,9 @@ use Rattle.global_model.specs.Tree.{IsRooted, parent_of}
 use Rattle.global_model.specs.Views.{view_of}
 use Rattle.discovery_laws.specs.Known.{back_of, holds, is_admitted_at, knows, route_of, way_of}
 use Rattle.discovery_laws.specs.Laws.{Laws}
+use Rattle.discovery_laws.proofs.Underway.{IsBounded}
 use Rattle.discovery_laws.proofs.Stages.{Stage, Silent, Registering, Admitting, Ready, IsRegistered, IsSilent, IsStaged, about_in}
-use Rattle.discovery_laws.proofs.Unmoved.{holds_admitted, AreAside, IsAside, IsBounded, IsUnmoved, staged_stays, unmoved-trans, unmoved_lines}
+use Rattle.discovery_laws.proofs.Unmoved.{holds_admitted, AreAside, IsAside, IsUnmoved, staged_stays, unmoved-trans, unmoved_lines}
 use Rattle.discovery_laws.proofs.Led.{IsLed}
 use Rattle.discovery_laws.proofs.Trees.{AreBarren, IsBarren, IsGrown, grown_barren, grown_born, grown-trans}
 use Rattle.discovery_laws.proofs.Registrations.{handled, pause_bounded, registered_grown}

@@ -13,9 +13,8 @@ use Rattle.global_model.specs.Tree.{AreNear, IsRooted, IsToward, distance, hop, 
 use Rattle.global_model.specs.Views.{view_of}
 use Rattle.discovery_laws.specs.Known.{back_of, holds, in_flight, is_admitted_at, knows, route_of, way_of}
 use Rattle.discovery_laws.specs.Laws.{Laws}
+use Rattle.discovery_laws.proofs.Underway.{IsBounded, bounded_got}
 use Rattle.discovery_laws.proofs.Stages.{Stage, Silent, Registering, Admitting, Ready, Answers, MayAnswer, IsBack, IsRoute, IsRegistering, IsAdmitting, IsReady, IsRegistered, IsSilent, IsStaged, about_in, alone_at, is_about, number, under_way}
-use Rattle.discovery_laws.proofs.Unmoved.{IsBounded}
-use Rattle.discovery_laws.proofs.Received.{bounded_got}
 use Rattle.discovery_laws.proofs.Moves.{no_stray, none_left, one_sent, row_cases, row_here, row_more, view_admitted, view_holder, IsThere, is_there}
 use Rattle.discovery_laws.proofs.Marks.{IsMoved}
 use Rattle.discovery_laws.proofs.Led.{IsLed}

@@ -17,9 +17,10 @@ use Rattle.global_model.specs.Tree.{IsRooted, parent_of}
 use Rattle.global_model.specs.Views.{view_of}
 use Rattle.discovery_laws.specs.Known.{holds, in_flight, knows}
 use Rattle.discovery_laws.specs.Laws.{Laws}
+use Rattle.discovery_laws.proofs.Underway.{IsBounded, IsNextOf, bounded_got, next_flight}
 use Rattle.discovery_laws.proofs.Stages.{Stage, Silent, Registering, Admitting, Ready, IsRegistered, IsStaged, about_in, is_about, number, under_way}
-use Rattle.discovery_laws.proofs.Unmoved.{AreAside, IsBounded, IsUnmoved, staged_stays, unmoved-trans, unmoved_lines}
-use Rattle.discovery_laws.proofs.Received.{IsNextOf, MayHear, aside_record, bounded_got, next_flight, unmoved_got}
+use Rattle.discovery_laws.proofs.Unmoved.{AreAside, IsUnmoved, staged_stays, unmoved-trans, unmoved_lines}
+use Rattle.discovery_laws.proofs.Received.{MayHear, aside_record, unmoved_got}
 use Rattle.discovery_laws.proofs.Moves.{about_first, alone_taken, view_holder}
 use Rattle.discovery_laws.proofs.Marks.{IsMoved}
 use Rattle.discovery_laws.proofs.Led.{IsLed}

@@ -16,6 +16,7 @@ use Rattle.global_model.specs.Tree.{IsRooted, IsToward, distance, parent_of}
 use Rattle.global_model.specs.Views.{view_of}
 use Rattle.discovery_laws.specs.Known.{back_of, holds}
 use Rattle.discovery_laws.specs.Laws.{Laws}
+use Rattle.discovery_laws.proofs.Effects.{kept_by, parent_kept}
 use Rattle.discovery_laws.proofs.Stages.{Stage, Silent, Registering, Admitting, Ready, MayAnswer, MayReach, IsAt, IsStaged}
 
 -- ---- the tree stays
@@ -24,10 +25,6 @@ use Rattle.discovery_laws.proofs.Stages.{Stage, Silent, Registering, Admitting, 
 pub record IsGrown (G H : Facts) : Type 0 where
   pub parents : (e : ℕ) → 0 < e → e < G.born → parent_of H e ≡ parent_of G e
   pub born : G.born ≤ H.born
-
-parent_admitted : (fact : Option EnclaveFact) → (fact_of (as_admitted fact)).parent.0 ≡ (fact_of fact).parent.0
-parent_admitted None = refl
-parent_admitted (Some fact) = refl
 
 record IsSame (G H : Facts) : Type 0 where
   parents : (e : ℕ) → parent_of H e ≡ parent_of G e
@@ -43,12 +40,7 @@ AreBarren journal = AllByRecursion IsBarren journal
 
 same_line : (G : Facts) (line : Line) → IsBarren line → IsSame G (after_line G line)
 same_line G (lines.Born e kind parent ns blocks) barren = absurd barren
-same_line G (lines.Admitted e) barren = record { parents = λ a. by a (eqb a e.0) refl; born = refl }
-  where
-    by : (a : ℕ) (t : Bool) → eqb a e.0 ≡ t
-        → (fact_of (cond t (as_admitted (G.enclave e.0)) (G.enclave a))).parent.0 ≡ (fact_of (G.enclave a)).parent.0
-    by a true is = parent_admitted (G.enclave e.0) ∙ ap (λ k. (fact_of (G.enclave k)).parent.0) (sym (eqb-true a e.0 is))
-    by a false is = refl
+same_line G (lines.Admitted e) barren = record { parents = kept_by (λ fact. (fact_of fact).parent.0) parent_kept G e; born = refl }
 same_line G (lines.Do (commands.Pool blocks)) barren = record { parents = λ e. refl; born = refl }
 same_line G _ barren = record { parents = λ e. refl; born = refl }
 

@@ -12,13 +12,11 @@ use Rattle.xemem_language.specs.declared.command.Command.TheVariants as commands
 use Rattle.global_model.specs.Facts.{Facts, EnclaveFact, after_line, after_lines, at_number, at_pair, as_admitted, is_admitted, is_holder, with_sent, with_taken}
 use Rattle.discovery_laws.specs.Known.{back_of, holds, in_flight, is_admitted_at, knows, route_of, way_of}
 use Rattle.discovery_laws.specs.Laws.{RowLaws}
+use Rattle.discovery_laws.proofs.Effects.{holder_kept, kept_by}
+use Rattle.discovery_laws.proofs.Underway.{IsBounded, bounded_sent, flight_sent}
 use Rattle.discovery_laws.proofs.Stages.{about_in, is_about, Stage, Answers, IsBack, IsRoute, IsRegistering, IsAdmitting, IsSilent, IsReady, IsAt, IsStaged, Silent, Registering, Admitting, Ready}
 
 -- ---- what a registration rests on
-
--- no more records were got of a channel than were sent
-abbrev pub IsBounded : Facts → Type 0
-IsBounded G = (x y : ℕ) → (G.channel x y).got ≤ length (G.channel x y).sent
 
 -- the same is known of d everywhere, and no enclave knows less of the way than before
 pub record IsUnmoved (G H : Facts) (d : ℕ) : Type 0 where
@@ -102,28 +100,6 @@ IsAside d line = Unit {0}
 abbrev pub AreAside : ℕ → List Line → Type 0
 AreAside d journal = AllByRecursion (IsAside d) journal
 
--- what was sent is under way until it is got
-drop-behind : {A : Type 0} (n : ℕ) (xs : List A) (x : A) → n ≤ length xs → drop n (xs ++ x ∷ []) ≡ drop n xs ++ x ∷ []
-drop-behind zero xs x le = refl
-drop-behind (suc n) [] x le = absurd (omega (arith, le))
-drop-behind (suc n) (w ∷ xs) x le = drop-behind n xs x (omega (arith, le))
-
-pub flight_sent : (G : Facts) (x y : Enclave) (r : Record) (a b : ℕ) → IsBounded G
-    → in_flight (after_line G (lines.Sent x y r)) a b ≡ cond (eqb a x.0 && eqb b y.0) (in_flight G a b ++ r ∷ []) (in_flight G a b)
-flight_sent G x y r a b bounded = by (eqb a x.0 && eqb b y.0)
-  where
-    by : (t : Bool) → drop (cond t (with_sent r (G.channel a b)) (G.channel a b)).got (cond t (with_sent r (G.channel a b)) (G.channel a b)).sent
-        ≡ cond t (in_flight G a b ++ r ∷ []) (in_flight G a b)
-    by true = drop-behind (G.channel a b).got (G.channel a b).sent r (bounded a b)
-    by false = refl
-
-bounded_sent : (G : Facts) (x y : Enclave) (r : Record) → IsBounded G → IsBounded (after_line G (lines.Sent x y r))
-bounded_sent G x y r bounded a b = by (eqb a x.0 && eqb b y.0)
-  where
-    by : (t : Bool) → (cond t (with_sent r (G.channel a b)) (G.channel a b)).got ≤ length (cond t (with_sent r (G.channel a b)) (G.channel a b)).sent
-    by true = omega (arith, bounded a b, length-append (G.channel a b).sent (r ∷ []))
-    by false = bounded a b
-
 pub about_sent : (G : Facts) (x y : Enclave) (r : Record) (d a b : ℕ) → IsBounded G
     → about_in (after_line G (lines.Sent x y r)) d a b
     ≡ cond (eqb a x.0 && eqb b y.0) (about_in G d a b ++ filter (is_about d) (r ∷ [])) (about_in G d a b)
@@ -177,17 +153,8 @@ unmoved_way G e over d apart = record {
   admitted = refl;
 }
 
--- an admission leaves who holds the name server
-held_admitted : (fact : Option EnclaveFact) → is_holder (as_admitted fact) ≡ is_holder fact
-held_admitted None = refl
-held_admitted (Some fact) = refl
-
 pub holds_admitted : (G : Facts) (e : Enclave) (a : ℕ) → holds (after_line G (lines.Admitted e)) a ≡ holds G a
-holds_admitted G e a = by (eqb a e.0) refl
-  where
-    by : (t : Bool) → eqb a e.0 ≡ t → is_holder (cond t (as_admitted (G.enclave e.0)) (G.enclave a)) ≡ is_holder (G.enclave a)
-    by true is = held_admitted (G.enclave e.0) ∙ ap (λ k. is_holder (G.enclave k)) (sym (eqb-true a e.0 is))
-    by false is = refl
+holds_admitted = kept_by is_holder holder_kept
 
 unmoved_admitted : (G : Facts) (e : Enclave) (d : ℕ) → e.0 ≢ d → IsUnmoved G (after_line G (lines.Admitted e)) d
 unmoved_admitted G e d apart = record {
