@@ -14,8 +14,8 @@ use Rattle.global_model.specs.Pauses.{Step, written_by, written_in, AreSteps, Is
 use Rattle.global_model.specs.Tree.{IsToward, parent_of}
 use Rattle.discovery_laws.specs.Known.{back_of, in_flight, is_admitted_at, knows, route_of}
 use Rattle.discovery_laws.specs.Laws.{Laws}
-use Rattle.discovery_laws.specs.Ways.{LeadsTo}
-use Rattle.discovery_laws.proofs.Asked.{IsAsked, asked_first, asked_step, asked_led}
+use Rattle.discovery_laws.specs.Ways.{IsLeading}
+use Rattle.discovery_laws.proofs.Asked.{IsAsked, asked_first, asked_leads, asked_led, asked_step}
 use Rattle.discovery_laws.proofs.Resting.{rest_flight, knows_at_rest}
 use Rattle.discovery_laws.proofs.Stages.{Stage, Silent, Registering, Admitting, Ready, about_in, is_about, alone_at, IsStaged, IsRegistered}
 use Rattle.discovery_laws.proofs.Pausing.{registered_step}
@@ -47,14 +47,15 @@ joined_first laws = record {
   };
 }
 
--- ---- ways back and routes
+-- ---- where ways lead
 
-module _ (G : Facts) (joined : IsJoined G) where
-  pub back_leads : (e d : ℕ) (x : Enclave) → back_of G e d ≡ Some x → LeadsTo G e d x
-  back_leads e d x is = ((joined.registered d).is.backs e x is).toward
-
-  pub route_leads : (e d : ℕ) (x : Enclave) → route_of G e d ≡ Some x → LeadsTo G e d x
-  route_leads e d x is = ((joined.registered d).is.routes e x is).toward
+pub joined_leads : (G : Facts) → IsJoined G → IsLeading G
+joined_leads G joined = record {
+  holder = joined.asked.known.one;
+  way = asked_leads G joined.asked;
+  backs = λ e d x is. ((joined.registered d).is.backs e x is).toward;
+  routes = λ e d x is. ((joined.registered d).is.routes e x is).toward;
+}
 
 -- ---- rest
 

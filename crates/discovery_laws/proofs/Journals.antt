@@ -89,6 +89,17 @@ from_the_start laws commands placed =
 pub journal_of-once : (laws : Laws) (commands : List Command) → IsPlaced commands → IsOnce (journal_of commands)
 journal_of-once laws commands placed = (from_the_start laws commands placed).once
 
+-- ---- pauses
+
+-- after any steps that may come
+pub steps_joined : (laws : Laws) (steps : List Step) → AreSteps no_facts steps → IsJoined (after_lines no_facts (written_in no_facts steps))
+steps_joined laws steps are = subst IsJoined (laws.past.facts (written_in no_facts steps) []) (all_steps laws steps [] are first_discovered).end.joined
+  where
+    first_discovered : IsDiscovered []
+    first_discovered = record { joined = joined_first laws; got = λ y. tt }
+
 -- where every command has ended
 pub journal_of-joined : (laws : Laws) (commands : List Command) → IsPlaced commands → IsJoined (facts_after (journal_of commands))
-journal_of-joined laws commands placed = subst IsJoined (laws.past.facts (journal_of commands) []) (from_the_start laws commands placed).end.joined
+journal_of-joined laws commands placed =
+    let in_steps = laws.journal.steps commands placed in
+    subst (λ journal. IsJoined (facts_after journal)) (sym in_steps.written) (steps_joined laws in_steps.steps in_steps.are)

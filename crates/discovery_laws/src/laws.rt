@@ -1,14 +1,14 @@
 // Laws of discovery: each is the contract of a function that does nothing, which a crate above calls to have it.
-ghost use Rattle.std.specs.Prelude.{◌≡◌, ◌≤◌, ℕ, List, true, Some};
-ghost use Rattle.xm_num.specs.declared.Enclave.{Enclave as Enclaves};
+ghost use Rattle.std.specs.Prelude.{◌≡◌, ◌≤◌, ℕ, List, true};
 ghost use Rattle.xemem_language.specs.declared.command.Command.{Command as Commands};
 ghost use Rattle.global_model.specs.Due.{journal_of};
-ghost use Rattle.global_model.specs.Facts.{facts_after, is_living_enclave};
+ghost use Rattle.global_model.specs.Facts.{after_lines, facts_after, is_living_enclave, no_facts};
+ghost use Rattle.global_model.specs.Pauses.{AreSteps, Step, written_in};
 ghost use Rattle.global_model.specs.Place.{IsPlaced};
 ghost use Rattle.global_model.specs.Rest.{IsAtRest};
-ghost use Rattle.discovery_laws.specs.Known.{back_of, holds, is_admitted_at, knows, route_of, way_of};
+ghost use Rattle.discovery_laws.specs.Known.{is_admitted_at, knows};
 ghost use Rattle.discovery_laws.specs.Laws.{Laws};
-ghost use Rattle.discovery_laws.specs.Ways.{LeadsTo, LeadsToHolder, ways_in};
+ghost use Rattle.discovery_laws.specs.Ways.{IsLeading, ways_in};
 ghost use Rattle.discovery_laws.specs.Once.{IsOnce};
 
 use global_model::{
@@ -33,16 +33,11 @@ fn laws()
 }
 
 /// An enclave's way goes to the next enclave on the path to the one that holds the name server, of which there is one. A way back and
-/// a route go to the next enclave on the path to the enclave that they are to.
+/// a route go to the next enclave on the path to the enclave that they are to. So it is wherever a command has ended, and at every pause
+/// between the steps of a journal.
 pub fn ways_lead()
-    ensures way { (commands : List Commands) → IsPlaced commands → (e : ℕ) (x : Enclaves)
-        → way_of (facts_after (journal_of commands)) e ≡ Some x → LeadsToHolder (facts_after (journal_of commands)) e x }
-    ensures holder { (commands : List Commands) → IsPlaced commands → (a b : ℕ)
-        → holds (facts_after (journal_of commands)) a ≡ true → holds (facts_after (journal_of commands)) b ≡ true → a ≡ b }
-    ensures backs { (commands : List Commands) → IsPlaced commands → (e d : ℕ) (x : Enclaves)
-        → back_of (facts_after (journal_of commands)) e d ≡ Some x → LeadsTo (facts_after (journal_of commands)) e d x }
-    ensures routes { (commands : List Commands) → IsPlaced commands → (e d : ℕ) (x : Enclaves)
-        → route_of (facts_after (journal_of commands)) e d ≡ Some x → LeadsTo (facts_after (journal_of commands)) e d x }
+    ensures ended { (commands : List Commands) → IsPlaced commands → IsLeading (facts_after (journal_of commands)) }
+    ensures pauses { (steps : List Step) → AreSteps no_facts steps → IsLeading (after_lines no_facts (written_in no_facts steps)) }
 {
     laws();
 }
