@@ -1,40 +1,41 @@
 -- Every journal is one in steps.
-use Rattle.std.proofs.Common.{◌≡◌, ◌+◌, ◌/◌, ◌≤◌, ℕ, zero, suc, min, List, [], ◌∷◌, ◌++◌, length, take, map, Bool, true, false, cond, not, ◌&&◌, eqb, ltb, leb, Option, None, Some, refl, sym, ap, ◌∙◌, subst, arith, append-nil, append_assoc}
+use Rattle.std.proofs.Common.{◌≡◌, ◌+◌, ◌/◌, ◌<◌, ◌≤◌, ℕ, zero, suc, min, List, [], ◌∷◌, ◌++◌, length, take, map, Bool, true, false, cond, not, ◌&&◌, eqb, ltb, leb, is_some, Option, None, Some, refl, sym, ap, ◌∙◌, subst, arith, append-nil, append_assoc}
 use Rattle.std.specs.List.{range_with_len}
 use Rattle.std.specs.Option.{option_map_or}
 use Rattle.std.proofs.lemmas.Bool.{eqb-false, eqb-true, and_parts, leb-false}
 use Rattle.xm_num.specs.declared.Enclave.{Enclave}
 use Rattle.xm_num.specs.declared.Pid.{Pid}
+use Rattle.xm_num.specs.declared.Vpn.{Vpn}
 use Rattle.xm_num.specs.declared.Want.{Want}
 use Rattle.xm_num.specs.declared.Kind.{Kind}
 use Rattle.xm_num.specs.declared.Cause.{Cause}
-use Rattle.xm_num.specs.declared.Cause.TheVariants as causes
 use Rattle.xemem_language.specs.declared.record.Record.{Record}
 use Rattle.xemem_language.specs.declared.command.Command.{Command}
 use Rattle.xemem_language.specs.declared.command.Command.TheVariants as commands
 use Rattle.xemem_language.specs.declared.line.Line.{Line}
 use Rattle.xemem_language.specs.declared.line.Line.TheVariants as lines
 use Rattle.xemem_language.specs.Ranges.{IsInRange}
-use Rattle.enclave_rules.specs.Steps.{record_lines}
-use Rattle.global_model.specs.Facts.{Facts, after_lines, facts_at, no_facts, is_living_enclave}
-use Rattle.global_model.specs.Channels.{arriving, is_neighbour, waiting_bytes}
+use Rattle.enclave_rules.specs.Steps.{handled_lines}
+use Rattle.global_model.specs.Facts.{Facts, after_line, after_lines, no_facts, is_living_enclave}
+use Rattle.global_model.specs.Apt.{IsApt, IsNear, IsTaking, NothingArrives}
+use Rattle.global_model.specs.Channels.{arriving, is_neighbour, was_born, waiting_bytes}
 use Rattle.global_model.specs.Views.{view_of}
 use Rattle.global_model.specs.Space.{Mapping, space_of, free_blocks, unused_frames}
-use Rattle.global_model.specs.Refusals.{when, refusal_of}
+use Rattle.global_model.specs.Refusals.{conditions_of, refusal_of}
 use Rattle.global_model.specs.Place.{may_stand, IsPlacedAfter, IsPlaced}
 use Rattle.global_model.specs.Due.{next_enclave, touched_lines, got_lines, took_lines, deliver_lines, next_rest, first_waiting, settle_end, settle_from, acts_of, step_lines, journal_from, journal_of}
-use Rattle.global_model.specs.Journals.{onto}
-use Rattle.global_model.specs.Pauses.{Step, Written, Hosts, Bears, Takes, Handles, written_by, written_in, MayStandAlone, AllArrived, MayCome, IsPause, AreSteps, IsInSteps}
-use Rattle.global_model.proofs.Pasts.{facts_at-onto, after_lines-append}
-use Rattle.global_model.proofs.Refused.{no_condition, not_false}
+use Rattle.global_model.specs.Pauses.{Step, Written, Hosts, Bears, Takes, Handles, written_by, written_in, AreFirst, MayStandAlone, MayCome, IsPause, AreSteps, IsInSteps}
+use Rattle.global_model.proofs.Pasts.{after_lines-append}
+use Rattle.global_model.proofs.Refused.{all_unmet, not_false}
 use Rattle.global_model.proofs.Tree.{near-turned}
-use Rattle.global_model.proofs.Ways.{ways_near, near_more}
+use Rattle.global_model.proofs.Ways.{ways_near}
 use Rattle.global_model.proofs.Tells.{MayTell, tells_end, tells_bytes, tells_routes, tells_states}
 use Rattle.global_model.proofs.Writes.{EachIs}
-use Rattle.global_model.proofs.Arriving.{at_pair_has, at_pair_same, IsSound, sound_arriving, IsArriving, IsProper, IsUpTo, proper_lines, got_record}
+use Rattle.global_model.proofs.Sound.{IsSound, sound_line, sound_start}
+use Rattle.global_model.proofs.Turns.{at_pair_same, IsTurn, begin_turn, end_turn, other_turn, lives_in, IsClose, IsProper, IsUpTo, proper_lines, got_step}
 use Rattle.global_model.proofs.Waiting.{IsWaiting, first_waits, rest_waits}
-use Rattle.global_model.proofs.Deliveries.{nothing_arrives, took_arriving, deliver_up_to, settle_at}
-use Rattle.global_model.proofs.Carried.{IsCounted, IsRun, run_step, no_sound, linked_by, not_built}
+use Rattle.global_model.proofs.Deliveries.{took, IsTook, deliver_up_to, settle_at}
+use Rattle.global_model.proofs.Commands.{IsReady, IsRun, begun, run_step, ready_start}
 
 -- ---- steps one after the other
 
@@ -72,264 +73,238 @@ in_steps-append G ls ms first more =
 
 -- ---- pauses
 
--- where records arrive there is a pause
-pause_arriving : (near : ℕ → ℕ → Bool) (x y : ℕ) (rs : List Record) (G : Facts) → IsArriving near x y rs G → IsPause G
-pause_arriving near x y rs G old = record {
-  tree = old.tree;
-  ways = ways_near G (near_more near (is_neighbour G) G (λ a b is. old.same a b ∙ is) old.known);
-  flows = old.flows;
-  apart = λ a b far. old.apart a b (sym (old.same a b) ∙ far);
-}
-
-none_arriving : (near : ℕ → ℕ → Bool) (x y : ℕ) (G : Facts) → IsArriving near x y [] G → AllArrived G
-none_arriving near x y G old a b = old.arrives a b ∙ at_pair_has (λ rs. rs ≡ []) x y (λ none. []) (λ x y. []) a b (λ is_x is_y. refl) refl
-
 pause_sound : (G : Facts) → IsSound G → IsPause G
-pause_sound G sound = pause_arriving (is_neighbour G) 0 0 [] G (sound_arriving 0 0 G sound)
+pause_sound G sound = record { tree = sound.tree; ways = ways_near G sound.near; flows = sound.flows; apart = sound.apart }
 
 -- ---- lines by themselves
 
 -- the line changes no tree, channel or way, whatever the facts are
 record IsAside (line : Line) : Type 0 where
-  proper : (near : ℕ → ℕ → Bool) → IsProper near line
+  proper : (near : ℕ → ℕ → Bool) (lives : ℕ → Bool) → IsProper near lives line
   alone : (G : Facts) → MayStandAlone G line
 
 tells_aside : MayTell IsAside
 tells_aside = record {
-  bytes = λ x y at bytes some most. record { proper = λ near. tt; alone = λ G. tt };
-  settled = λ made. record { proper = λ near. tt; alone = λ G. tt };
-  waiting = λ made. record { proper = λ near. tt; alone = λ G. tt };
-  own = λ e. record { proper = λ near. tt; alone = λ G. tt };
-  none = λ e. record { proper = λ near. tt; alone = λ G. tt };
-  way = λ e over. record { proper = λ near. tt; alone = λ G. tt };
-  route = λ e d over. record { proper = λ near. tt; alone = λ G. tt };
-  free = λ b. record { proper = λ near. tt; alone = λ G. tt };
-  lent = λ b e. record { proper = λ near. tt; alone = λ G. tt };
-  held = λ b e. record { proper = λ near. tt; alone = λ G. tt };
+  bytes = λ x y at bytes some most. record { proper = λ near lives. tt; alone = λ G. tt };
+  own = λ e. record { proper = λ near lives. tt; alone = λ G. tt };
+  none = λ e. record { proper = λ near lives. tt; alone = λ G. tt };
+  way = λ e over. record { proper = λ near lives. tt; alone = λ G. tt };
+  route = λ e d over. record { proper = λ near lives. tt; alone = λ G. tt };
+  free = λ b. record { proper = λ near lives. tt; alone = λ G. tt };
+  lent = λ b e. record { proper = λ near lives. tt; alone = λ G. tt };
+  held = λ b e. record { proper = λ near lives. tt; alone = λ G. tt };
 }
 
-told_in_steps : (near : ℕ → ℕ → Bool) (ls past : List Line) → EachIs IsAside ls → IsArriving near 0 0 [] (facts_at past)
-    → IsInSteps (facts_at past) ls
-told_in_steps near [] past told old = none_in_steps (facts_at past)
-told_in_steps near (l ∷ ls) past told old =
-    let G = facts_at past in
-    let one = proper_lines near 0 0 [] (l ∷ []) past (told.0.proper near, tt) old in
-    let first : IsInSteps G (l ∷ []) = one_in_steps G (Written l) (pause_arriving near 0 0 [] G old)
-    (none_arriving near 0 0 G old, told.0.alone G) in
-    in_steps-append G (l ∷ []) ls first (told_in_steps near ls (l ∷ past) told.1 one.arrives)
+module _ (near : ℕ → ℕ → Bool) (lives : ℕ → Bool) where
+  told_in_steps : (ls : List Line) (G : Facts) → EachIs IsAside ls → IsTurn near lives 0 0 [] G → IsInSteps G ls
+  told_in_steps [] G told turn = none_in_steps G
+  told_in_steps (l ∷ ls) G told turn =
+      let one = proper_lines near lives 0 0 [] (l ∷ []) G (told.0.proper near lives, tt) turn in
+      let first : IsInSteps G (l ∷ []) = one_in_steps G (Written l) (pause_sound G turn.sound) (end_turn near lives 0 0 G turn, told.0.alone G) in
+      in_steps-append G (l ∷ []) ls first (told_in_steps ls (after_line G l) told.1 one.turn)
 
-told_sound : (ls past : List Line) → EachIs IsAside ls → IsSound (facts_at past) → IsInSteps (facts_at past) ls
-told_sound ls past told sound = told_in_steps (is_neighbour (facts_at past)) ls past told (sound_arriving 0 0 (facts_at past) sound)
+  -- ---- deliveries
 
--- ---- deliveries
+  got_in_steps : (x y : Enclave) → IsClose near lives y x → (rs : List Record) (G : Facts) → IsTurn near lives x.0 y.0 rs G
+      → IsInSteps G (got_lines G x y rs)
+  got_in_steps x y close [] G turn = none_in_steps G
+  got_in_steps x y close (r ∷ rs) G turn =
+      let own = handled_lines (view_of G y) x r in
+      let first : IsInSteps G own = one_in_steps G (Handles x y r) (pause_sound G turn.sound) (record {
+        living = turn.alive y.0 ∙ close.living;
+        near = near-turned G x.0 y.0 ∙ turn.same y.0 x.0 ∙ close.beside;
+        others = rs;
+        next = turn.arrives x.0 y.0 ∙ at_pair_same x.0 y.0 (λ none. r ∷ rs) (λ x y. []);
+      }) in
+      let one : IsUpTo near lives x.0 y.0 rs G own = got_step near lives x y close r rs G turn in
+      in_steps-append G own (got_lines (after_lines G own) x y rs) first (got_in_steps x y close rs (after_lines G own) one.turn)
 
-got_in_steps : (near : ℕ → ℕ → Bool) (x y : Enclave) (rs : List Record) (past : List Line) → near y.0 x.0 ≡ true → near x.0 y.0 ≡ true
-    → IsArriving near x.0 y.0 rs (facts_at past) → IsInSteps (facts_at past) (got_lines (facts_at past) x y rs)
-got_in_steps near x y [] past back there old = none_in_steps (facts_at past)
-got_in_steps near x y (r ∷ rs) past back there old =
-    let G = facts_at past in
-    let own = lines.Got x y ∷ record_lines (view_of G y) x r in
-    let first : IsInSteps G own = one_in_steps G (Handles x y r) (pause_arriving near x.0 y.0 (r ∷ rs) G old) (record {
-      near = old.same x.0 y.0 ∙ there;
-      others = rs;
-      next = old.arrives x.0 y.0 ∙ at_pair_same x.0 y.0 (λ none. r ∷ rs) (λ x y. []);
-    }) in
-    let one : IsUpTo near x.0 y.0 rs past own = got_record near x y r rs past back there old in
-    let more : IsInSteps (facts_at (onto own past)) (got_lines (facts_at (onto own past)) x y rs)
-    = got_in_steps near x y rs (onto own past) back there one.arrives in
-    in_steps-append G own (got_lines (after_lines G own) x y rs) first
-    (subst (λ H. IsInSteps H (got_lines H x y rs)) (facts_at-onto own past) more)
+  took_in_steps : (x y : Enclave) (n : ℕ) (G : Facts) → IsClose near lives y x → 1 ≤ n → n ≤ length (waiting_bytes G x.0 y.0)
+      → IsTurn near lives x.0 y.0 [] G → IsInSteps G (took_lines G x y n)
+  took_in_steps x y n G close one within turn =
+      let H = after_line G (lines.Took x y n) in
+      let rs = arriving (H.channel x.0 y.0) in
+      let start : IsTook near lives x y n G = took near lives x y n G close one within turn in
+      let first : IsInSteps G (lines.Took x y n ∷ []) = one_in_steps G (Takes x y n) (pause_sound G turn.sound) start.apt in
+      in_steps-append G (lines.Took x y n ∷ []) (got_lines H x y rs) first (got_in_steps x y close rs H start.turn)
 
-took_in_steps : (near : ℕ → ℕ → Bool) (x y : Enclave) (n : ℕ) (past : List Line) → 1 ≤ n → n ≤ length (waiting_bytes (facts_at past) x.0 y.0)
-    → near x.0 y.0 ≡ true → near y.0 x.0 ≡ true → IsArriving near x.0 y.0 [] (facts_at past)
-    → IsInSteps (facts_at past) (took_lines (facts_at past) x y n)
-took_in_steps near x y n past one within there back old =
-    let G = facts_at past in
-    let H = facts_at (lines.Took x y n ∷ past) in
-    let rs = arriving (H.channel x.0 y.0) in
-    let first : IsInSteps G (lines.Took x y n ∷ []) = one_in_steps G (Takes x y n) (pause_arriving near x.0 y.0 [] G old)
-    (none_arriving near x.0 y.0 G old, record { near = old.same x.0 y.0 ∙ there; some = one; within = within }) in
-    in_steps-append G (lines.Took x y n ∷ []) (got_lines H x y rs) first
-    (got_in_steps near x y rs (lines.Took x y n ∷ past) back there (took_arriving near x y n past within there old))
+  deliver_in_steps : (x y : Enclave) (count : ℕ) (G : Facts) → 1 ≤ count → IsNear G y x → IsTurn near lives 0 0 [] G
+      → IsInSteps G (deliver_lines G x y count)
+  deliver_in_steps x y count G some between turn = by (eqb (length (waiting_bytes G x.0 y.0)) 0) refl
+    where
+      by : (t : Bool) → eqb (length (waiting_bytes G x.0 y.0)) 0 ≡ t
+          → IsInSteps G (cond t (lines.Idle x y ∷ []) (took_lines G x y (min count (length (waiting_bytes G x.0 y.0)))))
+      by true is = told_in_steps (lines.Idle x y ∷ []) G (record { proper = λ near lives. tt; alone = λ G. tt }, tt) turn
+      by false is =
+          let waiting = length (waiting_bytes G x.0 y.0) in
+          let not_none : waiting ≡ 0 → ⊥ = eqb-false waiting 0 is in
+          let close : IsClose near lives y x = record { living = sym (turn.alive y.0) ∙ between.living; beside = sym (turn.same y.0 x.0) ∙ between.near } in
+          took_in_steps x y (min count waiting) G close (omega (arith, some, not_none)) (omega arith) (other_turn near lives 0 0 x.0 y.0 G turn)
 
-deliver_in_steps : (near : ℕ → ℕ → Bool) (x y : Enclave) (count : ℕ) (past : List Line) → 1 ≤ count
-    → is_neighbour (facts_at past) x.0 y.0 ≡ true → IsArriving near 0 0 [] (facts_at past)
-    → IsInSteps (facts_at past) (deliver_lines (facts_at past) x y count)
-deliver_in_steps near x y count past some neighbours old = by (eqb waiting 0) refl
-  where
-    waiting : ℕ
-    waiting = length (waiting_bytes (facts_at past) x.0 y.0)
+  end_in_steps : (made : ℕ) (G : Facts) → IsTurn near lives 0 0 [] G → IsInSteps G (settle_end G made ∷ [])
+  end_in_steps made G turn = told_in_steps (settle_end G made ∷ []) G
+      (tells_end IsAside (λ made. record { proper = λ near lives. tt; alone = λ G. tt }) (λ made. record { proper = λ near lives. tt; alone = λ G. tt }) G made, tt) turn
 
-    by : (t : Bool) → eqb waiting 0 ≡ t
-        → IsInSteps (facts_at past) (cond t (lines.Idle x y ∷ []) (took_lines (facts_at past) x y (min count waiting)))
-    by true is = told_in_steps near (lines.Idle x y ∷ []) past (record { proper = λ near. tt; alone = λ G. tt }, tt) old
-    by false is =
-        let G = facts_at past in
-        let not_none : waiting ≡ 0 → ⊥ = eqb-false waiting 0 is in
-        let there : near x.0 y.0 ≡ true = sym (old.same x.0 y.0) ∙ neighbours in
-        let back : near y.0 x.0 ≡ true = sym (old.same y.0 x.0) ∙ near-turned G y.0 x.0 ∙ neighbours in
-        took_in_steps near x y (min count waiting) past (omega (arith, some, not_none)) (omega arith) there back
-        (nothing_arrives near 0 0 x.0 y.0 G old)
-
-end_in_steps : (near : ℕ → ℕ → Bool) (made : ℕ) (past : List Line) → IsArriving near 0 0 [] (facts_at past)
-    → IsInSteps (facts_at past) (settle_end (facts_at past) made ∷ [])
-end_in_steps near made past old = told_in_steps near (settle_end (facts_at past) made ∷ []) past
-    (tells_end IsAside tells_aside (facts_at past) made, tt) old
-
-settle_in_steps : (near : ℕ → ℕ → Bool) (left made : ℕ) (past : List Line) → IsArriving near 0 0 [] (facts_at past)
-    → IsInSteps (facts_at past) (settle_from left made (facts_at past))
-settle_in_steps near zero made past old = end_in_steps near made past old
-settle_in_steps near (suc left) made past old = by (first_waiting (facts_at past)) refl (settle_in_steps near left (made + 1))
-  where
-    by : (o : Option (Enclave × Enclave)) → first_waiting (facts_at past) ≡ o
-        → ((later : List Line) → IsArriving near 0 0 [] (facts_at later)
-        → IsInSteps (facts_at later) (settle_from left (made + 1) (facts_at later)))
-        → IsInSteps (facts_at past) (settle_at left made (facts_at past) o)
-    by None is more = end_in_steps near made past old
-    by (Some channel) is more =
-        let G = facts_at past in
-        let x = channel.0 in
-        let y = channel.1 in
-        let found : IsWaiting G x y = first_waits G x y old.tree is in
-        let rest = rest_waits G x y found.some in
-        let own = deliver_lines G x y (next_rest G x y) in
-        let one : IsUpTo near 0 0 [] past own = deliver_up_to near x y (next_rest G x y) past rest.some found.near old in
-        let after : IsInSteps (facts_at (onto own past)) (settle_from left (made + 1) (facts_at (onto own past)))
-        = more (onto own past) one.arrives in
-        in_steps-append G own (settle_from left (made + 1) (after_lines G own))
-        (deliver_in_steps near x y (next_rest G x y) past rest.some found.near old)
-        (subst (λ H. IsInSteps H (settle_from left (made + 1) H)) (facts_at-onto own past) after)
+  settle_in_steps : (left made : ℕ) (G : Facts) → IsTurn near lives 0 0 [] G → IsInSteps G (settle_from left made G)
+  settle_in_steps zero made G turn = end_in_steps made G turn
+  settle_in_steps (suc left) made G turn = by (first_waiting G) refl (settle_in_steps left (made + 1))
+    where
+      by : (o : Option (Enclave × Enclave)) → first_waiting G ≡ o
+          → ((H : Facts) → IsTurn near lives 0 0 [] H → IsInSteps H (settle_from left (made + 1) H))
+          → IsInSteps G (settle_at left made G o)
+      by None is more = end_in_steps made G turn
+      by (Some channel) is more =
+          let x = channel.0 in
+          let y = channel.1 in
+          let found : IsWaiting G x y = first_waits G x y turn.sound.tree is in
+          let rest = rest_waits G x y found.some in
+          let own = deliver_lines G x y (next_rest G x y) in
+          let between : IsNear G y x = record { living = found.living; near = near-turned G y.0 x.0 ∙ found.near } in
+          let one : IsUpTo near lives 0 0 [] G own = deliver_up_to near lives x y (next_rest G x y) G rest.some between turn in
+          in_steps-append G own (settle_from left (made + 1) (after_lines G own))
+          (deliver_in_steps x y (next_rest G x y) G rest.some between turn) (more (after_lines G own) one.turn)
 
 -- ---- commands
 
--- a command's line stands alone, and so does its refusal; else its acts are in steps
-with_refusal : (c : Command) (past : List Line) → IsSound (facts_at past) → MayStandAlone (facts_at past) (lines.Do c)
-    → IsSound (facts_at (lines.Do c ∷ past))
-    → (refusal_of (facts_at past) c ≡ None → IsInSteps (facts_at (lines.Do c ∷ past)) (acts_of (facts_at past) c))
-    → IsInSteps (facts_at past) (step_lines (facts_at past) c)
-with_refusal c past before alone sound acts = in_steps-append (facts_at past) (lines.Do c ∷ []) _ first (by (refusal_of (facts_at past) c) refl)
-  where
-    first : IsInSteps (facts_at past) (lines.Do c ∷ [])
-    first = one_in_steps (facts_at past) (Written (lines.Do c)) (pause_sound (facts_at past) before) (before.flowing.arrived, alone)
-
-    by : (o : Option Cause) → refusal_of (facts_at past) c ≡ o
-        → IsInSteps (facts_at (lines.Do c ∷ past)) (option_map_or (λ cause. lines.Refused cause ∷ []) o (acts_of (facts_at past) c))
-    by None is = acts is
-    by (Some cause) is = told_sound (lines.Refused cause ∷ []) (lines.Do c ∷ past) (record { proper = λ near. tt; alone = λ G. tt }, tt) sound
+told_sound : (ls : List Line) (G : Facts) → EachIs IsAside ls → IsSound G → NothingArrives G → IsInSteps G ls
+told_sound ls G told sound none = told_in_steps (is_neighbour G) (lives_in G) ls G told (begin_turn 0 0 G sound none)
 
 -- the name server is taken once
 not_taken : (ns server : Bool) → (ns && server) ≡ false → ns ≡ true → server ≡ false
 not_taken true server none has = none
 not_taken false server none has = cc
 
-boot_in_steps : (kind : Kind) (parent : Enclave) (blocks : ℕ) (ns : Bool) (past : List Line) → IsSound (facts_at past)
-    → IsInSteps (facts_at past) (step_lines (facts_at past) (commands.Boot kind parent blocks ns))
-boot_in_steps kind parent blocks ns past sound =
-    let c = commands.Boot kind parent blocks ns in
-    let G = facts_at past in
-    let lent = take blocks (free_blocks G) in
-    with_refusal c past sound tt sound
-    (λ none.
-    let lives = is_living_enclave (G.enclave parent.0) in
-    let fourth = when causes.NoBlocks (ltb (length (free_blocks G)) blocks) ∷ [] in
-    let third = when causes.NameServerTaken (ns && G.server) ∷ fourth in
-    let first = no_condition causes.NoEnclave (not lives) (when causes.TooMany (leb 256 G.born) ∷ third) none in
-    let second = no_condition causes.TooMany (leb 256 G.born) third first.1 in
-    one_in_steps G (Bears (next_enclave G) kind parent ns lent) (pause_sound G sound) (
-      sound.flowing.arrived,
-      record {
+-- a command, where every whole record was got before it and is after its line
+module _ (G : Facts) (sound : IsSound G) (got : NothingArrives G) where
+  alone_in_steps : (line : Line) → MayStandAlone G line → IsInSteps G (line ∷ [])
+  alone_in_steps line alone = one_in_steps G (Written line) (pause_sound G sound) (got, alone)
+
+  -- its line stands alone, and so does its refusal; else its acts are in steps
+  with_refusal : (c : Command) → MayStandAlone G (lines.Do c) → IsSound (begun G c) → NothingArrives (begun G c)
+      → (refusal_of G c ≡ None → IsInSteps (begun G c) (acts_of (begun G c) c)) → IsInSteps G (step_lines G c)
+  with_refusal c alone after none acts = in_steps-append G (lines.Do c ∷ []) _ (alone_in_steps (lines.Do c) alone) (by (refusal_of G c) refl)
+    where
+      by : (o : Option Cause) → refusal_of G c ≡ o
+          → IsInSteps (begun G c) (option_map_or (λ cause. lines.Refused cause ∷ []) o (acts_of (begun G c) c))
+      by None is = acts is
+      by (Some cause) is = told_sound (lines.Refused cause ∷ []) (begun G c) (record { proper = λ near lives. tt; alone = λ G. tt }, tt) after none
+
+  boot_in_steps : (kind : Kind) (parent : Enclave) (count : ℕ) (ns : Bool) → IsInSteps G (step_lines G (commands.Boot kind parent count ns))
+  boot_in_steps kind parent count ns =
+      let c = commands.Boot kind parent count ns in
+      let B = begun G c in
+      let after : IsSound B = sound_line G (lines.Do c) sound tt in
+      with_refusal c tt after got (λ none.
+      let unmet = all_unmet (conditions_of G c) none in
+      one_in_steps B (Bears (next_enclave B) kind parent ns (take count (free_blocks B))) (pause_sound B after) (got, record {
         next = refl;
-        room = leb-false 256 G.born second.0;
-        living = not_false lives first.0;
-        server = not_taken ns G.server (no_condition causes.NameServerTaken (ns && G.server) fourth second.1).0;
-        lent = record { count = blocks; is = refl };
-      },
-    ))
+        room = leb-false 256 B.born unmet.1.0;
+        living = not_false _ unmet.0;
+        server = not_taken ns B.server unmet.1.1.0;
+        lent = record { count = count; is = refl };
+      }))
 
-proc_in_steps : (e : Enclave) (uid gid : ℕ) (past : List Line) → IsSound (facts_at past)
-    → IsInSteps (facts_at past) (step_lines (facts_at past) (commands.Proc e uid gid))
-proc_in_steps e uid gid past sound =
-    let G = facts_at past in
-    with_refusal (commands.Proc e uid gid) past sound tt sound
-    (λ none. one_in_steps G (Written (lines.Proc e (record { 0 = G.started e.0 + 1 }) uid gid)) (pause_sound G sound)
-    (sound.flowing.arrived, (none, refl)))
+  host_in_steps : (count : ℕ) (ns : Bool) → G.born ≡ 0 → IsInSteps G (step_lines G (commands.Host count ns))
+  host_in_steps count ns first =
+      let c = commands.Host count ns in
+      let B = begun G c in
+      let after : IsSound B = sound_line G (lines.Do c) sound tt in
+      with_refusal c tt after got (λ none. one_in_steps B (Hosts ns (take count (free_blocks B))) (pause_sound B after)
+      (got, record { first = first; lent = record { count = count; is = refl } }))
 
-touch_in_steps : (e : Enclave) (p : Pid) (addr : ℕ) (want : Want) (past : List Line) → IsSound (facts_at past)
-    → IsInSteps (facts_at past) (step_lines (facts_at past) (commands.Touch e p addr want))
-touch_in_steps e p addr want past sound = with_refusal (commands.Touch e p addr want) past sound tt sound
-    (λ none. by none (space_of (facts_at past) e.0 p.0 (addr / 4096)) refl)
-  where
-    by : refusal_of (facts_at past) (commands.Touch e p addr want) ≡ None → (o : Option Mapping)
-        → space_of (facts_at past) e.0 p.0 (addr / 4096) ≡ o
-        → IsInSteps (facts_at past) (touched_lines e p (record { 0 = addr / 4096 }) o)
-    by none None is = none_in_steps (facts_at past)
-    by none (Some found) is = one_in_steps (facts_at past) (Written (lines.Touched e p (record { 0 = addr / 4096 }) found.frame))
-        (pause_sound (facts_at past) sound)
-        (sound.flowing.arrived, record { addr = addr; want = want; access = found.access; number = refl; mapped = is; allowed = none })
+  proc_in_steps : (e : Enclave) (uid gid : ℕ) → IsInSteps G (step_lines G (commands.Proc e uid gid))
+  proc_in_steps e uid gid =
+      let c = commands.Proc e uid gid in
+      let B = begun G c in
+      let after : IsSound B = sound_line G (lines.Do c) sound tt in
+      with_refusal c tt after got (λ none. one_in_steps B (Written (lines.Proc e (record { 0 = (B.memory e.0).started + 1 }) uid gid)) (pause_sound B after)
+      (got, (none, refl)))
 
--- a command whose acts stand by themselves
-shows_in_steps : (c : Command) (past : List Line) → IsSound (facts_at past) → MayStandAlone (facts_at past) (lines.Do c)
-    → IsSound (facts_at (lines.Do c ∷ past)) → EachIs IsAside (acts_of (facts_at past) c)
-    → IsInSteps (facts_at past) (step_lines (facts_at past) c)
-shows_in_steps c past before alone sound aside = with_refusal c past before alone sound
-    (λ none. told_sound (acts_of (facts_at past) c) (lines.Do c ∷ past) aside sound)
+  alloc_in_steps : (e : Enclave) (p : Pid) (page : Vpn) (count : ℕ) → IsInSteps G (step_lines G (commands.Alloc e p page count))
+  alloc_in_steps e p page count =
+      let c = commands.Alloc e p page count in
+      let B = begun G c in
+      let after : IsSound B = sound_line G (lines.Do c) sound tt in
+      with_refusal c tt after got (λ none. one_in_steps B (Written (lines.Alloc e p page (take count (unused_frames B e.0)))) (pause_sound B after)
+      (got, record { count = count; lowest = refl; allowed = none }))
 
-command_in_steps : (before : ℕ) (c : Command) (past : List Line) → IsSound (facts_at past) → IsCounted before (facts_at past).born
-    → may_stand before c ≡ true → IsInRange c → IsInSteps (facts_at past) (step_lines (facts_at past) c)
-command_in_steps before (commands.Pool blocks) past sound counted may range =
-    let G = facts_at past in
+  touch_in_steps : (e : Enclave) (p : Pid) (addr : ℕ) (want : Want) → IsInSteps G (step_lines G (commands.Touch e p addr want))
+  touch_in_steps e p addr want =
+      let c = commands.Touch e p addr want in
+      let B = begun G c in
+      let after : IsSound B = sound_line G (lines.Do c) sound tt in
+      with_refusal c tt after got (λ none. by none after (space_of B e.0 p.0 (addr / 4096)) refl)
+    where
+      by : refusal_of G (commands.Touch e p addr want) ≡ None → IsSound (begun G (commands.Touch e p addr want)) → (o : Option Mapping)
+          → space_of (begun G (commands.Touch e p addr want)) e.0 p.0 (addr / 4096) ≡ o
+          → IsInSteps (begun G (commands.Touch e p addr want)) (touched_lines e p (record { 0 = addr / 4096 }) o)
+      by none after None is = none_in_steps (begun G (commands.Touch e p addr want))
+      by none after (Some found) is = one_in_steps (begun G (commands.Touch e p addr want)) (Written (lines.Touched e p (record { 0 = addr / 4096 }) found.frame))
+          (pause_sound (begun G (commands.Touch e p addr want)) after)
+          (got, record { addr = addr; want = want; access = found.access; number = refl; mapped = is; allowed = none })
+
+  deliver_in_turn : (x y : Enclave) (count : ℕ) → 1 ≤ count → IsInSteps G (step_lines G (commands.Deliver x y count))
+  deliver_in_turn x y count some =
+      let c = commands.Deliver x y count in
+      let B = begun G c in
+      let after : IsSound B = sound_line G (lines.Do c) sound tt in
+      with_refusal c tt after got (λ none.
+      let unmet = all_unmet (conditions_of G c) none in
+      let known = and_parts (is_living_enclave (G.enclave y.0)) (was_born G x.0) (not_false _ unmet.0) in
+      let between : IsNear B y x = record { living = known.0; near = near-turned G y.0 x.0 ∙ not_false _ unmet.1.0 } in
+      deliver_in_steps (is_neighbour B) (lives_in B) x y count B some between (begin_turn 0 0 B after got))
+
+  settle_in_turn : (most : ℕ) → IsInSteps G (step_lines G (commands.Settle most))
+  settle_in_turn most =
+      let c = commands.Settle most in
+      let B = begun G c in
+      let after : IsSound B = sound_line G (lines.Do c) sound tt in
+      with_refusal c tt after got (λ none. settle_in_steps (is_neighbour B) (lives_in B) most 0 B (begin_turn 0 0 B after got))
+
+  -- a command whose acts stand by themselves
+  shows_in_steps : (c : Command) → MayStandAlone G (lines.Do c) → IsSound (begun G c) → NothingArrives (begun G c)
+      → EachIs IsAside (acts_of (begun G c) c) → IsInSteps G (step_lines G c)
+  shows_in_steps c alone after none aside = with_refusal c alone after none (λ allowed. told_sound (acts_of (begun G c) c) (begun G c) aside after none)
+
+not_built : (b : Bool) → (b && false) ≡ true → ⊥
+not_built true is = cc
+not_built false is = cc
+
+command_in_steps : (before : ℕ) (G : Facts) → IsReady before G → (c : Command) → may_stand before c ≡ true → IsInRange c → IsInSteps G (step_lines G c)
+command_in_steps before G ready (commands.Pool blocks) may range =
     let first : before ≡ 0 = eqb-true before 0 (and_parts _ _ may).0 in
-    one_in_steps G (Written (lines.Do (commands.Pool blocks))) (pause_sound G sound)
-    (sound.flowing.arrived, counted (omega (arith, first)))
-command_in_steps before (commands.Host blocks ns) past sound counted may range =
-    let G = facts_at past in
+    alone_in_steps G ready.sound ready.got (lines.Do (commands.Pool blocks)) (ready.unborn (omega (arith, first)))
+command_in_steps before G ready (commands.Host count ns) may range =
     let second : before ≡ 1 = eqb-true before 1 (and_parts _ _ may).0 in
-    with_refusal (commands.Host blocks ns) past sound tt sound
-    (λ none. one_in_steps G (Hosts ns (take blocks (free_blocks G))) (pause_sound G sound)
-    (sound.flowing.arrived, record { first = counted (omega (arith, second)); lent = record { count = blocks; is = refl } }))
-command_in_steps before (commands.Boot kind parent blocks ns) past sound counted may range = boot_in_steps kind parent blocks ns past sound
-command_in_steps before (commands.Proc e uid gid) past sound counted may range = proc_in_steps e uid gid past sound
-command_in_steps before (commands.Alloc e p at pages) past sound counted may range =
-    let G = facts_at past in
-    let frames = take pages (unused_frames G e.0) in
-    with_refusal (commands.Alloc e p at pages) past sound tt sound
-    (λ none. one_in_steps G (Written (lines.Alloc e p at frames)) (pause_sound G sound)
-    (sound.flowing.arrived, record { count = pages; lowest = refl; allowed = none }))
-command_in_steps before (commands.Touch e p addr want) past sound counted may range = touch_in_steps e p addr want past sound
-command_in_steps before (commands.Deliver x y count) past sound counted may range =
-    let c = commands.Deliver x y count in
-    let G = facts_at past in
-    with_refusal c past sound tt sound
-    (λ none. deliver_in_steps (is_neighbour G) x y count (lines.Do c ∷ past) range.2.0 (linked_by G x y count none) (sound_arriving 0 0 G sound))
-command_in_steps before (commands.Settle most) past sound counted may range =
-    let c = commands.Settle most in
-    let G = facts_at past in
-    with_refusal c past sound tt sound
-    (λ none. settle_in_steps (is_neighbour G) most 0 (lines.Do c ∷ past) (sound_arriving 0 0 G sound))
-command_in_steps before (commands.ShowRoutes e) past sound counted may range =
-    shows_in_steps (commands.ShowRoutes e) past sound tt sound (tells_routes IsAside tells_aside (view_of (facts_at past) e))
-command_in_steps before (commands.ShowLink x y) past sound counted may range =
-    let waiting = waiting_bytes (facts_at past) x.0 y.0 in
-    shows_in_steps (commands.ShowLink x y) past sound tt sound (tells_bytes IsAside tells_aside x y (length waiting) 0 waiting)
-command_in_steps before commands.ShowPool past sound counted may range =
-    let G = facts_at past in
-    shows_in_steps commands.ShowPool past sound tt sound
+    host_in_steps G ready.sound ready.got count ns (ready.unborn (omega (arith, second)))
+command_in_steps before G ready (commands.Boot kind parent count ns) may range = boot_in_steps G ready.sound ready.got kind parent count ns
+command_in_steps before G ready (commands.Proc e uid gid) may range = proc_in_steps G ready.sound ready.got e uid gid
+command_in_steps before G ready (commands.Alloc e p page count) may range = alloc_in_steps G ready.sound ready.got e p page count
+command_in_steps before G ready (commands.Touch e p addr want) may range = touch_in_steps G ready.sound ready.got e p addr want
+command_in_steps before G ready (commands.Deliver x y count) may range = deliver_in_turn G ready.sound ready.got x y count range.2.0
+command_in_steps before G ready (commands.Settle most) may range = settle_in_turn G ready.sound ready.got most
+command_in_steps before G ready (commands.ShowRoutes e) may range =
+    let c = commands.ShowRoutes e in
+    shows_in_steps G ready.sound ready.got c tt (sound_line G (lines.Do c) ready.sound tt) ready.got (tells_routes IsAside tells_aside (view_of (begun G c) e))
+command_in_steps before G ready (commands.ShowLink x y) may range =
+    let c = commands.ShowLink x y in
+    let waiting = waiting_bytes (begun G c) x.0 y.0 in
+    shows_in_steps G ready.sound ready.got c tt (sound_line G (lines.Do c) ready.sound tt) ready.got (tells_bytes IsAside tells_aside x y (length waiting) 0 waiting)
+command_in_steps before G ready commands.ShowPool may range =
+    let c = commands.ShowPool in
+    shows_in_steps G ready.sound ready.got c tt (sound_line G (lines.Do c) ready.sound tt) ready.got
     (tells_states IsAside tells_aside 0 (map G.block (range_with_len 0 G.pool)))
-command_in_steps before _ past sound counted may range = absurd (not_built (leb 2 before) may)
+command_in_steps before G ready _ may range = absurd (not_built (leb 2 before) may)
 
 -- ---- whole journals
 
-journal_in_steps : (cs : List Command) (before : ℕ) (past : List Line) → IsSound (facts_at past) → IsCounted before (facts_at past).born
-    → IsPlacedAfter before cs → IsInSteps (facts_at past) (journal_from (facts_at past) cs)
-journal_in_steps [] before past sound counted placed = none_in_steps (facts_at past)
-journal_in_steps (c ∷ cs) before past sound counted placed =
-    let G = facts_at past in
+journal_in_steps : (cs : List Command) (before : ℕ) (G : Facts) → IsReady before G → IsPlacedAfter before cs → IsInSteps G (journal_from G cs)
+journal_in_steps [] before G ready placed = none_in_steps G
+journal_in_steps (c ∷ cs) before G ready placed =
     let ls = step_lines G c in
-    let one : IsRun before past ls = run_step before c past sound counted placed.0 placed.1 in
-    let more : IsInSteps (facts_at (onto ls past)) (journal_from (facts_at (onto ls past)) cs)
-    = journal_in_steps cs (before + 1) (onto ls past) one.sound one.counted placed.2 in
-    in_steps-append G ls (journal_from (after_lines G ls) cs) (command_in_steps before c past sound counted placed.0 placed.1)
-    (subst (λ H. IsInSteps H (journal_from H cs)) (facts_at-onto ls past) more)
+    let one : IsRun (before + 1) G ls = run_step before G ready c placed.0 placed.1 in
+    in_steps-append G ls (journal_from (after_lines G ls) cs) (command_in_steps before G ready c placed.0 placed.1)
+    (journal_in_steps cs (before + 1) (after_lines G ls) one.ready placed.2)
 
 pub journal_of-in_steps : (cs : List Command) → IsPlaced cs → IsInSteps no_facts (journal_of cs)
-journal_of-in_steps cs placed = journal_in_steps cs 0 [] no_sound (λ few. refl) placed
+journal_of-in_steps cs placed = journal_in_steps cs 0 no_facts ready_start placed

@@ -14,9 +14,10 @@ use Rattle.xemem_language.specs.declared.command.Command.TheVariants as commands
 use Rattle.xemem_language.specs.declared.line.Line.{Line}
 use Rattle.xemem_language.specs.declared.line.Line.TheVariants as lines
 use Rattle.xemem_language.specs.declared.record.Record.{Record}
-use Rattle.enclave_rules.specs.Steps.{adopt_lines, birth_lines, host_lines, record_lines}
-use Rattle.global_model.specs.Channels.{arriving, is_neighbour, waiting_bytes}
-use Rattle.global_model.specs.Facts.{Facts, after_lines, is_living_enclave, no_channel}
+use Rattle.enclave_rules.specs.Steps.{adopt_lines, birth_lines, handled_lines, host_lines}
+use Rattle.global_model.specs.Apt.{IsTaking, NothingArrives}
+use Rattle.global_model.specs.Channels.{arriving, is_neighbour}
+use Rattle.global_model.specs.Facts.{Facts, after_lines, lives_at, no_channel}
 use Rattle.global_model.specs.Flow.{AreWays, IsFlow, IsTree}
 use Rattle.global_model.specs.Refusals.{refusal_of}
 use Rattle.global_model.specs.Space.{free_blocks, space_of, unused_frames}
@@ -36,7 +37,7 @@ written_by G (Hosts ns blocks) = host_lines blocks ns
 written_by G (Bears child kind parent ns blocks) =
     birth_lines child kind parent blocks ns (G.heard parent.0) ++ adopt_lines (view_of G parent) child
 written_by G (Takes x y count) = lines.Took x y count ∷ []
-written_by G (Handles x y r) = lines.Got x y ∷ record_lines (view_of G y) x r
+written_by G (Handles x y r) = handled_lines (view_of G y) x r
 
 -- the lines of steps, each by the facts after those before it
 abbrev pub written_in : Facts → List Step → List Line
@@ -72,7 +73,7 @@ MayStandAlone G (lines.Do (commands.Pool blocks)) = G.born ≡ 0
 MayStandAlone G (lines.Born e kind parent ns blocks) = ⊥
 MayStandAlone G (lines.Told e of) = ⊥
 MayStandAlone G (lines.Admitted e) = ⊥
-MayStandAlone G (lines.Proc e p uid gid) = (refusal_of G (commands.Proc e uid gid) ≡ None) × (p.0 ≡ G.started e.0 + 1)
+MayStandAlone G (lines.Proc e p uid gid) = (refusal_of G (commands.Proc e uid gid) ≡ None) × (p.0 ≡ (G.memory e.0).started + 1)
 MayStandAlone G (lines.Alloc e p page frames) = MayAllocate G e p page frames
 MayStandAlone G (lines.Touched e p page frame) = MayTouch G e p page frame
 MayStandAlone G (lines.Sent x y r) = ⊥
@@ -82,11 +83,9 @@ MayStandAlone G (lines.Asked e by) = ⊥
 MayStandAlone G (lines.Way e over) = ⊥
 MayStandAlone G (lines.Back e of over) = ⊥
 MayStandAlone G (lines.Route e of over) = ⊥
+MayStandAlone G (lines.Killed x cut) = ⊥
+MayStandAlone G (lines.End x y torn) = ⊥
 MayStandAlone G line = Unit {0}
-
--- every whole record was got
-abbrev pub AllArrived : Facts → Type 0
-AllArrived G = (x y : ℕ) → arriving (G.channel x y) ≡ []
 
 -- the host is the first to be born
 pub record MayHost (G : Facts) (blocks : List Block) : Type 0 where
@@ -97,27 +96,22 @@ pub record MayHost (G : Facts) (blocks : List Block) : Type 0 where
 pub record MayBear (G : Facts) (child parent : Enclave) (ns : Bool) (blocks : List Block) : Type 0 where
   pub next : child.0 ≡ G.born
   pub room : G.born < 256
-  pub living : is_living_enclave (G.enclave parent.0) ≡ true
+  pub living : lives_at G parent.0 ≡ true
   pub server : ns ≡ true → G.server ≡ false
   pub lent : AreFirst blocks (free_blocks G)
 
--- bytes that wait are taken, of a neighbour's channel
-pub record MayTake (G : Facts) (x y : Enclave) (count : ℕ) : Type 0 where
-  pub near : is_neighbour G x.0 y.0 ≡ true
-  pub some : 1 ≤ count
-  pub within : count ≤ length (waiting_bytes G x.0 y.0)
-
--- the record is the next that is whole and wasn't got
+-- the record is the next that is whole at a living neighbour and wasn't got
 pub record MayHandle (G : Facts) (x y : Enclave) (r : Record) : Type 0 where
+  pub living : lives_at G y.0 ≡ true
   pub near : is_neighbour G x.0 y.0 ≡ true
   pub others : List Record
   pub next : arriving (G.channel x.0 y.0) ≡ r ∷ others
 
 abbrev pub MayCome : Facts → Step → Type 0
-MayCome G (Written line) = AllArrived G × MayStandAlone G line
-MayCome G (Hosts ns blocks) = AllArrived G × MayHost G blocks
-MayCome G (Bears child kind parent ns blocks) = AllArrived G × MayBear G child parent ns blocks
-MayCome G (Takes x y count) = AllArrived G × MayTake G x y count
+MayCome G (Written line) = NothingArrives G × MayStandAlone G line
+MayCome G (Hosts ns blocks) = NothingArrives G × MayHost G blocks
+MayCome G (Bears child kind parent ns blocks) = NothingArrives G × MayBear G child parent ns blocks
+MayCome G (Takes x y count) = IsTaking G x y count
 MayCome G (Handles x y r) = MayHandle G x y r
 
 -- ---- steps

@@ -7,21 +7,25 @@ ghost use Rattle.xm_num.specs.declared.Cause.TheVariants as causes;
 ghost use Rattle.xemem_language.specs.declared.command.Command.{Command as Commands};
 ghost use Rattle.xemem_language.specs.declared.command.Command.TheVariants as command;
 ghost use Rattle.xemem_language.specs.declared.line.Line.{Line as JournalLine};
+ghost use Rattle.xemem_language.specs.declared.line.Line.TheVariants as line;
 ghost use Rattle.xemem_language.specs.declared.record.Record.{Record as WireRecord};
 ghost use Rattle.xemem_wire.specs.Spelling.{spellings_of};
-ghost use Rattle.enclave_rules.specs.View.{View, own_lines, seen_lines, unborn_view, AreOf};
+ghost use Rattle.enclave_rules.specs.Core.{is_guest};
+ghost use Rattle.enclave_rules.specs.View.{View, own_lines, unborn_view, AreOf, AreAbout};
 ghost use Rattle.enclave_rules.specs.Steps.{refusal, host_lines, first_blocks, lines_of_records};
 ghost use Rattle.global_model.specs.Place.{IsPlaced};
-ghost use Rattle.global_model.specs.Facts.{Facts, after_lines, facts_at, facts_after, is_living_enclave, no_facts};
+ghost use Rattle.global_model.specs.Facts.{Facts, after_line, after_lines, facts_at, facts_after, is_living_enclave, no_facts};
 ghost use Rattle.global_model.specs.Channels.{is_neighbour, whole_records};
-ghost use Rattle.global_model.specs.Views.{view_of};
+ghost use Rattle.global_model.specs.Views.{view_of, seen_lines};
+ghost use Rattle.global_model.specs.Handled.{AreHandled, SeenAt};
+ghost use Rattle.global_model.specs.Apt.{AptAt, IsTaking, OwnedAt};
 ghost use Rattle.global_model.specs.Known.{IsAnswered};
-ghost use Rattle.global_model.specs.Due.{got_lines, deliver_lines, next_rest, first_waiting, acts_of, command_lines, journal_of, step_lines};
+ghost use Rattle.global_model.specs.Due.{deliver_lines, next_rest, first_waiting, acts_of, command_lines, journal_of, step_lines};
 ghost use Rattle.global_model.specs.Refusals.{Condition, when, first_cause};
 ghost use Rattle.global_model.specs.Plain.{ArePlain, AreActs, IsQuiet, IsBirth};
 ghost use Rattle.global_model.specs.Flow.{IsFlowing, IsTree};
 ghost use Rattle.global_model.specs.Tree.{IsRooted, AreNear, IsPath, IsToward, is_above, path, hop, distance, parent_of};
-ghost use Rattle.global_model.specs.Journals.{do_commands, onto};
+ghost use Rattle.global_model.specs.Journals.{do_commands, onto, Follows};
 ghost use Rattle.global_model.specs.Carriage.{IsCarried};
 ghost use Rattle.global_model.specs.Rest.{EndsSettle, IsRested};
 ghost use Rattle.global_model.specs.Pauses.{IsInSteps};
@@ -58,6 +62,13 @@ pub fn acts_are_plain()
 pub fn refusals_come_first()
     ensures { (cause : Causes) (holds : Bool) (others : List Condition) → first_cause (when cause holds ∷ others) ≡ None
         → (holds ≡ false) × (first_cause others ≡ None) }
+{}
+
+/// Each line of the journal of commands, each of which may stand after those before it, is apt: on its turn, by one who lives, to
+/// neighbours, and valid. At each line the pages of processes are own ones, of frames in blocks that are lent to their enclave.
+pub fn journals_are_apt()
+    ensures apt { (commands : List Commands) → IsPlaced commands → Follows AptAt [] (journal_of commands) }
+    ensures owned { (commands : List Commands) → IsPlaced commands → Follows OwnedAt [] (journal_of commands) }
 {}
 
 /// The journal of commands, each of which may stand after those before it, is carried. Wherever a command has ended the
@@ -115,16 +126,14 @@ pub fn whole_records_stay()
         → drop k (whole_records n rs) ≡ whole_records (n - length (spellings_of (take k rs))) (drop k rs) }
 {}
 
-/// The records that arrive at a living enclave are answered by its view alone. What is written for them changes its view
-/// line by line, and leaves the views of the others as they are.
-pub fn view_step()
-    ensures records { (G : Facts) (x y : Enclaves) (rs : List WireRecord) → is_living_enclave (G.enclave y.0) ≡ true
-        → got_lines G x y rs ≡ lines_of_records (view_of G y) x rs }
-    ensures at { (v : View) (x : Enclaves) (rs : List WireRecord) → AreOf v.me (lines_of_records v x rs) }
-    ensures own { (v : View) (x : Enclaves) (rs : List WireRecord)
-        → seen_lines v (lines_of_records v x rs) ≡ own_lines v (lines_of_records v x rs) }
-    ensures others { (v w : View) (x : Enclaves) (rs : List WireRecord) → w.me.0 ≢ v.me.0
-        → seen_lines w (lines_of_records v x rs) ≡ w }
+/// Lines that are about one enclave, which is no virtual machine, change its view by themselves, and no other's. What an enclave
+/// writes for records is its own.
+pub fn lines_are_seen()
+    ensures own { (G : Facts) (v : View) (lines : List JournalLine) → is_guest v.core.kind ≡ false → AreAbout v.me lines
+        → seen_lines G v lines ≡ own_lines G.hand v lines }
+    ensures others { (G : Facts) (y : Enclaves) (w : View) (lines : List JournalLine) → AreAbout y lines → w.me.0 ≢ y.0
+        → seen_lines G w lines ≡ w }
+    ensures of { (v : View) (x : Enclaves) (rs : List WireRecord) → AreOf v.me (lines_of_records v x rs) }
 {}
 
 /// What a command writes follows from the views of the enclaves that it names. The host is born with the first blocks.
@@ -137,16 +146,22 @@ pub fn views_answer()
     rows::<Page>();
 }
 
-/// An enclave that isn't born knows nothing. What the lines of a command change in the view of a living enclave is what those of
-/// them change that are at it, each by the view and itself alone; a line elsewhere leaves the view as it is.
+/// An enclave that isn't born knows nothing, and none is a virtual machine. After each line the view of a living enclave is as it was
+/// where the line isn't at it, and else a function of the view, the line and what is at hand; so what the lines of a command
+/// change is what each of them changes. The records that arrive are answered by the view alone, record by record.
 pub fn views_follow()
     ensures unborn { (commands : List Commands) → IsPlaced commands → (e : Enclaves)
         → (facts_after (journal_of commands)).born ≤ e.0
         → view_of (facts_after (journal_of commands)) e ≡ unborn_view (facts_after (journal_of commands)).pool e }
+    ensures plain { (commands : List Commands) → IsPlaced commands → (e : Enclaves)
+        → is_guest (view_of (facts_after (journal_of commands)) e).core.kind ≡ false }
+    ensures lines { (commands : List Commands) → IsPlaced commands → Follows SeenAt [] (journal_of commands) }
     ensures seen { (commands : List Commands) (one : Commands) → IsPlaced (commands ++ one ∷ []) → (e : Enclaves)
         → is_living_enclave ((facts_after (journal_of (commands ++ one ∷ []))).enclave e.0) ≡ true
         → view_of (facts_after (journal_of (commands ++ one ∷ []))) e
-        ≡ seen_lines (view_of (facts_after (journal_of commands)) e) (step_lines (facts_after (journal_of commands)) one) }
+        ≡ seen_lines (after_line (facts_after (journal_of commands)) (line.Do one)) (view_of (facts_after (journal_of commands)) e) (command_lines (facts_after (journal_of commands)) one) }
+    ensures handled { (commands : List Commands) → IsPlaced commands → (x y : Enclaves) (n : ℕ)
+        → IsTaking (facts_after (journal_of commands)) x y n → AreHandled (after_line (facts_after (journal_of commands)) (line.Took x y n)) x y }
 {}
 
 /// A delivery of a settle is that of a `deliver` of the same bytes, which isn't refused. A settle ends with `settled`

@@ -1,5 +1,5 @@
 -- The enclaves and the channels between them, as they are seen, and what a command makes of them.
-use Rattle.std.specs.Prelude.{◌≡◌, None, Some, ◌+◌, ◌-◌, ◌<◌, ℕ, min, List, [], ◌∷◌, ◌++◌, length, take, Bool, false, not, ◌&&◌, ◌||◌, ◌==◌, nat_le, nat_lt, if◌then◌else◌, Option, slice_get, slice_set, slice_index_or}
+use Rattle.std.specs.Prelude.{◌≡◌, None, Some, ◌+◌, ◌-◌, ◌<◌, ℕ, min, List, [], ◌∷◌, ◌++◌, length, take, Bool, false, not, ◌&&◌, ◌||◌, ◌==◌, nat_le, nat_lt, if◌then◌else◌, Option, is_some, slice_get, slice_set, slice_index_or}
 use Rattle.std.specs.Option.{option_map, option_map_or}
 use Rattle.xm_num.specs.declared.Enclave.{Enclave}
 use Rattle.xm_num.specs.declared.Pid.{Pid}
@@ -26,8 +26,9 @@ use Rattle.node_machine.specs.declared.pair.Pair.{Pair}
 use Rattle.node_machine.specs.declared.pair.Hop.{Hop}
 use Rattle.node_machine.specs.declared.pair.Hop.TheVariants as hops
 
--- how many blocks there are; whether an enclave was born with the name server; how many processes were started; the nodes, of
--- which the first is the host; and for each child its parent and the two channels between them, the first for enclave 1
+-- how many blocks there are; whether an enclave was born with the name server; how many processes were started; the nodes of the
+-- enclaves that were born, by their numbers; and for each child its parent and the two channels between them, the first for
+-- enclave 1
 pub record MachineView : Type 0 where
   pub pool : ℕ
   pub server : Bool
@@ -38,6 +39,15 @@ pub record MachineView : Type 0 where
 abbrev pub no_machine : MachineView
 no_machine = record { pool = 0; server = false; starts = 0; nodes = []; pairs = [] }
 
+-- The node of the enclave of that number, where it has one. Each enclave that was born has its node so far; none is gone.
+abbrev pub node_of : List NodeView → ℕ → Option NodeView
+node_of nodes e = slice_get nodes e
+
+-- the enclave lives: it has a node
+abbrev pub has_node : List NodeView → ℕ → Bool
+has_node nodes e = is_some (node_of nodes e)
+
+-- what the node of an enclave has; nothing, where it has none
 abbrev pub node_at : List NodeView → ℕ → NodeView
 node_at nodes e = slice_index_or nodes e (unborn_node 0 host [])
 
@@ -70,16 +80,19 @@ pub record IsPairAt (pairs : List Pair) (i child parent : ℕ) : Type 0 where
   pub child_is : child ≡ i + 1
   pub parent_is : (pair_at pairs i).parent.0 ≡ parent
 
--- which channel goes from x to y
-abbrev pub hop_of : List Pair → ℕ → Enclave → Enclave → Hop
-hop_of pairs born x y =
-    if not (nat_lt y.0 born && nat_lt x.0 born) then hops.NoEnclave
+-- which channel goes from x to y, where the ends are known: y lives, and x was born
+abbrev pub hop_of : List Pair → Bool → Enclave → Enclave → Hop
+hop_of pairs known x y =
+    if not known then hops.NoEnclave
     else (if is_parent pairs x.0 y.0 then hops.Up (x.0 - 1)
     else (if is_parent pairs y.0 x.0 then hops.Down (y.0 - 1)
     else hops.NoLink))
 
+abbrev pub are_known : List NodeView → Enclave → Enclave → Bool
+are_known nodes x y = has_node nodes y.0 && nat_lt x.0 (length nodes)
+
 abbrev pub hop_in : MachineView → Enclave → Enclave → Hop
-hop_in m x y = hop_of m.pairs (length m.nodes) x y
+hop_in m x y = hop_of m.pairs (are_known m.nodes x y) x y
 
 abbrev pub link_of : List Pair → Hop → Channel
 link_of pairs hops.NoEnclave = fresh
@@ -112,11 +125,11 @@ with_link pairs (hops.Down i) link = slice_set pairs i (record (pair_at pairs i)
 abbrev pub carried_over : List Pair → Hop → Record → List Pair
 carried_over pairs hop r = with_link pairs hop (sent (link_of pairs hop) (spelling_of r))
 
--- what the lines send goes over the channels
-abbrev pub carried : ℕ → List Pair → List Line → List Pair
-carried born pairs [] = pairs
-carried born pairs (lines.Sent x y r ∷ journal) = carried born (carried_over pairs (hop_of pairs born x y) r) journal
-carried born pairs (line ∷ journal) = carried born pairs journal
+-- what the lines send goes over the channels; what is sent to an enclave that doesn't live is lost
+abbrev pub carried : List NodeView → List Pair → List Line → List Pair
+carried nodes pairs [] = pairs
+carried nodes pairs (lines.Sent x y r ∷ journal) = carried nodes (carried_over pairs (hop_of pairs (are_known nodes x y) x y) r) journal
+carried nodes pairs (line ∷ journal) = carried nodes pairs journal
 
 -- ---- births
 
@@ -126,8 +139,9 @@ host_by m blocks ns = if nat_lt m.pool blocks then refusal causes.NoBlocks else 
 abbrev pub after_host : MachineView → ℕ → Bool → MachineView
 after_host m blocks ns = if nat_lt m.pool blocks then m else record m { server = ns; nodes = new_host m.pool blocks ns ∷ [] }
 
+-- the lines of a command at an enclave, where it lives
 abbrev pub at_node : MachineView → Enclave → List Line → List Line
-at_node m e journal = if nat_lt e.0 (length m.nodes) then journal else refusal causes.NoEnclave
+at_node m e journal = if has_node m.nodes e.0 then journal else refusal causes.NoEnclave
 
 -- the number of the next enclave
 abbrev pub next_enclave : MachineView → Enclave
@@ -185,7 +199,7 @@ booted_nodes m kind parent blocks ns =
 
 abbrev pub after_boot : MachineView → Kind → Enclave → ℕ → Bool → MachineView
 after_boot m kind parent blocks ns =
-    if not (nat_lt parent.0 (length m.nodes)) then m
+    if not (has_node m.nodes parent.0) then m
     else (if is_full m then m
     else (if ns && m.server then m
     else (if is_short m blocks then m
@@ -198,7 +212,7 @@ start_by m e uid gid = if nat_le 1024 m.starts then refusal causes.TooMany else 
 
 abbrev pub after_start : MachineView → Enclave → ℕ → ℕ → MachineView
 after_start m e uid gid =
-    if not (nat_lt e.0 (length m.nodes)) then m
+    if not (has_node m.nodes e.0) then m
     else (if nat_le 1024 m.starts then m
     else record (with_node m e.0 (wrote (node_at m.nodes e.0) (start_lines (node_at m.nodes e.0).view uid gid))) { starts = m.starts + 1 })
 
@@ -210,7 +224,7 @@ abbrev pub call_by : MachineView → ProcessCall → List Line
 call_by m k = call_lines (node_at m.nodes k.enclave.0).view k.pid k.call
 
 abbrev pub after_call : MachineView → ProcessCall → MachineView
-after_call m k = if nat_lt k.enclave.0 (length m.nodes) then with_node m k.enclave.0 (wrote (node_at m.nodes k.enclave.0) (call_by m k)) else m
+after_call m k = if has_node m.nodes k.enclave.0 then with_node m k.enclave.0 (wrote (node_at m.nodes k.enclave.0) (call_by m k)) else m
 
 -- what is shown of the node of the enclave
 abbrev pub node_shown : MachineView → NodeShow → List Line
@@ -320,7 +334,7 @@ abbrev pub acted : MachineView → Command → MachineView
 acted m command = option_map_or (λ k. after_call m k) (call_of command) (other_acted m command)
 
 abbrev pub with_carried : MachineView → List Line → MachineView
-with_carried m journal = record m { pairs = carried (length m.nodes) m.pairs journal }
+with_carried m journal = record m { pairs = carried m.nodes m.pairs journal }
 
 -- the machine after a command
 abbrev pub after_command : MachineView → Command → MachineView

@@ -126,12 +126,12 @@ impl Channels {
         Ok(())
     }
 
-    /// Which channel goes from one enclave to another, where so many enclaves were born.
-    pub fn hop(&self, born: usize, from: Enclave, to: Enclave) -> Hop
-        ensures hop { result ≡ spec.hop_of self.now born from to }
+    /// Which channel goes from one enclave to another, where these are known: the receiver lives, and the sender was born.
+    pub fn hop(&self, known: bool, from: Enclave, to: Enclave) -> Hop
+        ensures hop { result ≡ spec.hop_of self.now known from to }
         ensures within { spec.IsIn self.now result }
     {
-        hop_of(&self.pairs, born, from, to)
+        hop_of(&self.pairs, known, from, to)
     }
 
     /// The channel itself.

@@ -1,7 +1,7 @@
 -- A child is born as by the facts.
 use Rattle.std.proofs.Common.{◌≡◌, ◌≢◌, ◌+◌, ◌<◌, ◌≤◌, ℕ, zero, suc, List, [], ◌∷◌, ◌++◌, length, take, Bool, true, false, cond, eqb, ltb, leb, not, ◌&&◌, ◌||◌, Option, None, Some, refl, sym, ap, ◌∙◌, subst, inl, inr, arith, length-append}
 use Rattle.std.specs.Prelude.{◌⊎◌, if◌then◌else◌, slice_set, is_some}
-use Rattle.std.proofs.lemmas.Bool.{ltb-true, le-ltb, eq-eqb, ne_eqb, cases_lt, and_parts, false_from_ne_true}
+use Rattle.std.proofs.lemmas.Bool.{le-ltb, eq-eqb, eqb-false, eqb-true, ne_eqb, cases_lt, and_parts, false_from_ne_true}
 use Rattle.std.proofs.lemmas.List.{length-set, get_or_past}
 use Rattle.std.specs.Cmp.{unsigned_tied}
 use Rattle.std.specs.Ordering.{is_eq, nat_cmp}
@@ -17,7 +17,7 @@ use Rattle.xemem_language.specs.declared.command.Command.{Command}
 use Rattle.xemem_language.specs.declared.command.Command.TheVariants as commands
 use Rattle.xemem_language.specs.declared.line.Line.{Line}
 use Rattle.xemem_language.specs.declared.line.Line.TheVariants as lines
-use Rattle.global_model.specs.Facts.{Facts, EnclaveFact, no_channel, has_parent, after_line, after_lines, fact_of}
+use Rattle.global_model.specs.Facts.{Facts, EnclaveFact, no_channel, has_parent, after_line, after_lines, fact_of, lives_at}
 use Rattle.global_model.specs.Channels.{is_child_of}
 use Rattle.global_model.specs.Flow.{IsFlowing}
 use Rattle.enclave_rules.specs.View.{View, own_line, own_lines, is_at, seen_lines, with_child, with_record, as_born, host, unborn_view}
@@ -26,10 +26,10 @@ use Rattle.enclave_rules.specs.Steps.{refusal, query_of, told_lines, child_lines
 use Rattle.global_model.specs.Due.{command_lines}
 use Rattle.enclave_node.specs.Nodes.{NodeView, unborn_node, wrote, new_node, lent, adopted}
 use Rattle.node_machine.specs.declared.pair.Pair.{Pair}
-use Rattle.node_machine.specs.Machine.{MachineView, no_pair, node_at, pair_at, at_node, lines_by, acted, next_enclave, free_of, is_short, booted_lines, booted_nodes, with_carried, after_command}
+use Rattle.node_machine.specs.Machine.{MachineView, has_node, no_pair, node_at, pair_at, at_node, lines_by, acted, next_enclave, free_of, is_short, booted_lines, booted_nodes, with_carried, after_command}
 use Rattle.node_machine.specs.Machine.{enclave}
 use Rattle.node_world.specs.Shown.{IsNodeOf, IsShown}
-use Rattle.node_world.proofs.Lists.{cond_case, set_case, set_field, push_case}
+use Rattle.node_world.proofs.Lists.{cond_case, has-before, has-last, has-set, node_within, push_case, set_case, set_field}
 use Rattle.node_world.proofs.Flows.{IsLinkOf, fresh_link}
 use Rattle.node_world.proofs.Carriage.{IsLinked, AreLinked, ArePlain, plain_append, feed_by, counted_lines}
 use Rattle.node_world.proofs.Acted.{IsActed, HasFeed, IsFedPair, shown_by, linked_of, within_of, fed_of}
@@ -143,7 +143,7 @@ module _ (G : Facts) (flowing : IsFlowing G) (e p : ℕ) (later : G.born ≤ e) 
 
 -- ---- a birth
 
-module _ (G H : Facts) (m : MachineView) (kind : Kind) (parent : Enclave) (blocks : ℕ) (ns : Bool) (step : IsStep G H (commands.Boot kind parent blocks ns)) (h : IsShown G m) (lives : parent.0 < G.born) where
+module _ (G H : Facts) (m : MachineView) (kind : Kind) (parent : Enclave) (blocks : ℕ) (ns : Bool) (step : IsStep G H (commands.Boot kind parent blocks ns)) (h : IsShown G m) (alive : lives_at G parent.0 ≡ true) (lives : parent.0 < G.born) where
   abbrev child : Enclave
   child = next_enclave m
 
@@ -226,28 +226,52 @@ module _ (G H : Facts) (m : MachineView) (kind : Kind) (parent : Enclave) (block
       (λ apart. set_case m.nodes 0 e host_node (unborn_node 0 host []) P some (hosts apart) (λ far. others apart far (omega (arith, two, three, lt)))))
       (λ is. last (is ∙ two ∙ three))
 
-  module _ (is : command_lines G (commands.Boot kind parent blocks ns) ≡ booted_lines m kind parent blocks ns) (born : H.born ≡ G.born + 1) where
-    seen : (e : ℕ) → e < G.born + 1 → view_of H (enclave e) ≡ seen_lines (view_of G (enclave e)) (birth ∷ ls)
-    seen e within = step.views e (omega (arith, born, within)) ∙ ap (seen_lines (view_of G (enclave e))) is
+  -- who lives then: the child, and who lived before
+  before : (e : ℕ) → e ≢ length m.nodes → lives_at K e ≡ lives_at G e
+  before e other = let apart = ne_eqb e (length m.nodes) other in rw apart refl
+
+  born_lives : lives_at K (length m.nodes) ≡ true
+  born_lives = let mine = eq-eqb (length m.nodes) (length m.nodes) refl in rw mine refl
+
+  living_then : (e : ℕ) → has_node nodes e ≡ lives_at K e
+  living_then e = by (eqb e (length m.nodes)) refl
+    where
+      old : List NodeView
+      old = slice_set lent_nodes parent.0 (taking base)
+
+      long : length old ≡ length m.nodes
+      long = length-set lent_nodes parent.0 (taking base) ∙ length-set m.nodes 0 host_node
+
+      by : (b : Bool) → eqb e (length m.nodes) ≡ b → has_node (old ++ child_node ∷ []) e ≡ lives_at K e
+      by true is =
+          let last : e ≡ length m.nodes = eqb-true e (length m.nodes) is in
+          ap (has_node (old ++ child_node ∷ [])) (last ∙ sym long) ∙ has-last old child_node ∙ sym (ap (lives_at K) last ∙ born_lives)
+      by false is =
+          let other = eqb-false e (length m.nodes) is in
+          has-before old child_node e (λ last. other (last ∙ long)) ∙ has-set lent_nodes parent.0 e (taking base) ∙ has-set m.nodes 0 e host_node ∙ h.living e ∙ sym (before e other)
+
+  module _ (is : command_lines G (commands.Boot kind parent blocks ns) ≡ booted_lines m kind parent blocks ns) (living : (e : ℕ) → lives_at H e ≡ lives_at K e) where
+    seen : (e : ℕ) → lives_at K e ≡ true → view_of H (enclave e) ≡ seen_lines (view_of G (enclave e)) (birth ∷ ls)
+    seen e there = step.views e (living e ∙ there) ∙ ap (seen_lines (view_of G (enclave e))) is
 
     -- what an enclave sees that was born before
-    seen_then : (e : ℕ) → e < length m.nodes → view_of H (enclave e) ≡ after_birth child kind parent lending (eqb parent.0 e) (eqb e 0) (view_of G (enclave e))
-    seen_then e within =
+    seen_then : (e : ℕ) → e < length m.nodes → lives_at G e ≡ true → view_of H (enclave e) ≡ after_birth child kind parent lending (eqb parent.0 e) (eqb e 0) (view_of G (enclave e))
+    seen_then e within there =
         let count = h.born in
         let v = view_of G (enclave e) in
         let u = after_birth child kind parent lending (eqb parent.0 e) (eqb e 0) v in
         let me : u.me.0 ≡ e = ap (λ (e : Enclave). e.0) (birth_me child kind parent lending (eqb parent.0 e) (eqb e 0) v) in
-        seen e (omega (arith, count, within)) ∙ ap (λ v. seen_lines v ls) (other_born child kind parent lending ns v (λ same. omega (arith, same, within)))
+        seen e (before e (λ same. omega (arith, same, within)) ∙ there) ∙ ap (λ v. seen_lines v ls) (other_born child kind parent lending ns v (λ same. omega (arith, same, within)))
         ∙ seen_other ls u child.0 (λ same. omega (arith, same, me, within)) about
 
     parent_then : IsNodeOf H parent.0 (taking base)
     parent_then =
-        let old = h.nodes parent.0 lives in
+        let old = h.nodes parent.0 alive in
         let mine = eq-eqb parent.0 parent.0 refl in
         set_case m.nodes 0 parent.0 host_node (unborn_node 0 host []) (λ base. IsNodeOf H parent.0 (taking base)) some
         (λ is_first.
         let test = eq-eqb parent.0 0 is_first in
-        let view : view_of H parent ≡ with_record child parent lending (with_child child kind (view_of G parent)) = seen_then parent.0 inside ∙ rw (mine, test) refl in
+        let view : view_of H parent ≡ with_record child parent lending (with_child child kind (view_of G parent)) = seen_then parent.0 inside alive ∙ rw (mine, test) refl in
         let same : first.view ≡ view_of G parent = ap (λ e. (node_at m.nodes e).view) (sym is_first) ∙ old.view in
         record {
           view = own_adopt node.view (with_child child kind (with_record child parent lending first.view)) child ∙ ap (λ v. with_record child parent lending (with_child child kind v)) same ∙ sym view;
@@ -255,24 +279,24 @@ module _ (G H : Facts) (m : MachineView) (kind : Kind) (parent : Enclave) (block
         })
         (λ far.
         let test = ne_eqb parent.0 0 far in
-        let view : view_of H parent ≡ with_child child kind (view_of G parent) = seen_then parent.0 inside ∙ rw (mine, test) refl in
+        let view : view_of H parent ≡ with_child child kind (view_of G parent) = seen_then parent.0 inside alive ∙ rw (mine, test) refl in
         record { view = own_adopt node.view (with_child child kind node.view) child ∙ ap (with_child child kind) old.view ∙ sym view; going = old.going })
 
     host_then : 0 ≢ parent.0 → IsNodeOf H 0 host_node
     host_then far =
         let count = h.born in let within = some in
-        let old = h.nodes 0 (omega (arith, count, within)) in
+        let there = step.before.tree.root (omega (arith, count, within)) in
+        let old = h.nodes 0 there in
         let test = ne_eqb parent.0 0 (λ same. far (sym same)) in
-        let view : view_of H host ≡ with_record child parent lending (view_of G host) = seen_then 0 some ∙ rw test refl in
+        let view : view_of H host ≡ with_record child parent lending (view_of G host) = seen_then 0 some there ∙ rw test refl in
         record { view = ap (with_record child parent lending) old.view ∙ sym view; going = old.going }
 
-    other_then : (e : ℕ) → e ≢ parent.0 → e ≢ 0 → e < length m.nodes → IsNodeOf H e (node_at m.nodes e)
-    other_then e apart far within =
-        let count = h.born in
-        let old = h.nodes e (omega (arith, count, within)) in
+    other_then : (e : ℕ) → lives_at G e ≡ true → e ≢ parent.0 → e ≢ 0 → e < length m.nodes → IsNodeOf H e (node_at m.nodes e)
+    other_then e there apart far within =
+        let old = h.nodes e there in
         let not_parent = ne_eqb parent.0 e (λ same. apart (sym same)) in
         let not_first = ne_eqb e 0 far in
-        let view : view_of H (enclave e) ≡ view_of G (enclave e) = seen_then e within ∙ rw (not_parent, not_first) refl in
+        let view : view_of H (enclave e) ≡ view_of G (enclave e) = seen_then e within there ∙ rw (not_parent, not_first) refl in
         record { view = old.view ∙ sym view; going = old.going }
 
     child_then : IsNodeOf H (length m.nodes) child_node
@@ -282,19 +306,18 @@ module _ (G H : Facts) (m : MachineView) (kind : Kind) (parent : Enclave) (block
         let apart : eqb e 0 ≡ false = ne_eqb e 0 (λ same. omega (arith, same, within)) in
         let mine : eqb e e ≡ true = eq-eqb e e refl in
         let u = as_born kind parent ns lending (unborn_view 0 child) in
-        let before : view_of G child ≡ unborn_view 0 child = step.unborn child (omega (arith, count)) ∙ rw apart refl in
+        let unborn : view_of G child ≡ unborn_view 0 child = step.unborn child (omega (arith, count)) ∙ rw apart refl in
         let start : own_line (unborn_view 0 child) birth ≡ u = self_born child kind parent lending ns (λ same. omega (arith, same, within)) in
         let here : is_at child birth ≡ true = rw mine refl in
         let one : cond (is_at child birth) (own_line (unborn_view 0 child) birth) (unborn_view 0 child) ≡ u = ap (λ b. cond b (own_line (unborn_view 0 child) birth) (unborn_view 0 child)) here ∙ start in
         let view : view_of H child ≡ own_lines u own =
-        seen e (omega (arith, count)) ∙ ap (λ v. seen_lines v (birth ∷ ls)) before ∙ ap (λ v. seen_lines v ls) one ∙ seen_own ls u about ∙ own_append u own (adopt_lines node.view child) ∙ own_adopt node.view (own_lines u own) child in
+        seen e born_lives ∙ ap (λ v. seen_lines v (birth ∷ ls)) unborn ∙ ap (λ v. seen_lines v ls) one ∙ seen_own ls u about ∙ own_append u own (adopt_lines node.view child) ∙ own_adopt node.view (own_lines u own) child in
         record { view = ap (λ v. own_lines v own) start ∙ sym view; going = refl }
 
-    node_then : (e : ℕ) → e < G.born + 1 → IsNodeOf H e (node_at nodes e)
-    node_then e within =
-        let count = h.born in
-        place (IsNodeOf H e) e (let long = size in omega (arith, long, count, within)) (λ mine. subst (λ k. IsNodeOf H k (taking base)) (sym mine) parent_then)
-        (λ apart is_first. subst (λ k. IsNodeOf H k host_node) (sym is_first) (host_then (λ same. apart (is_first ∙ same)))) (other_then e)
+    node_then : (e : ℕ) → lives_at K e ≡ true → IsNodeOf H e (node_at nodes e)
+    node_then e there =
+        place (IsNodeOf H e) e (node_within nodes e (living_then e ∙ there)) (λ mine. subst (λ k. IsNodeOf H k (taking base)) (sym mine) parent_then)
+        (λ apart is_first. subst (λ k. IsNodeOf H k host_node) (sym is_first) (host_then (λ same. apart (is_first ∙ same)))) (λ apart far lt. other_then e (sym (before e (λ same. omega (arith, same, lt))) ∙ there) apart far lt)
         (λ last. subst (λ k. IsNodeOf H k child_node) (sym last) child_then)
 
   -- ---- channels
@@ -305,7 +328,13 @@ module _ (G H : Facts) (m : MachineView) (kind : Kind) (parent : Enclave) (block
       let k = linked_of G m step.before h i within in
       let other : eqb (i + 1) child.0 ≡ false = ne_eqb (i + 1) child.0 (λ same. omega (arith, same, count, pairs, within)) in
       let same : (fact_of (K.enclave (i + 1))).parent ≡ (fact_of (G.enclave (i + 1))).parent = rw other refl in
-      record { parent = k.parent ∙ sym same; above = k.above; up = k.up; down = k.down }
+      let above = k.above in
+      record {
+        parent = k.parent ∙ sym same;
+        above = above;
+        up = λ there. k.up (sym (before (pair_at m.pairs i).parent.0 (λ is. omega (arith, is, above, count, pairs, within))) ∙ there);
+        down = λ there. k.down (sym (before (i + 1) (λ is. omega (arith, is, count, pairs, within))) ∙ there);
+      }
 
   new_linked : (i : ℕ) → i ≡ length m.pairs → IsLinked K.enclave K.channel i new_pair
   new_linked i last =
@@ -315,8 +344,8 @@ module _ (G H : Facts) (m : MachineView) (kind : Kind) (parent : Enclave) (block
       record {
         parent = rw is refl;
         above = omega (arith, count, pairs, last, lives);
-        up = subst (λ f. IsLinkOf f fresh) (sym quiet.0) fresh_link;
-        down = subst (λ f. IsLinkOf f fresh) (sym quiet.1) fresh_link;
+        up = λ there. subst (λ f. IsLinkOf f fresh) (sym quiet.0) fresh_link;
+        down = λ there. subst (λ f. IsLinkOf f fresh) (sym quiet.1) fresh_link;
       }
 
   linked_then : AreLinked K.enclave K.channel w.pairs
@@ -337,18 +366,20 @@ module _ (G H : Facts) (m : MachineView) (kind : Kind) (parent : Enclave) (block
       (λ mine. parent_feed a far ∙ ap (λ e. at (node_at m.nodes e).feeds a) (sym mine) ∙ old) (λ apart is_first. ap (λ e. at (node_at m.nodes e).feeds a) (sym is_first) ∙ old)
       (λ apart not_first lt. old) (λ last. absurd (omega (arith, last, within)))
 
-  old_pair : (i : ℕ) → i < length m.pairs → IsFedPair K.channel nodes i (pair_at m.pairs i)
+  old_pair : (i : ℕ) → i < length m.pairs → IsFedPair K nodes i (pair_at m.pairs i)
   old_pair i within =
       let count = h.born in let pairs = h.pairs in
       let k = fed_of G m step.before h i within in
       let above = (linked_of G m step.before h i within).above in
       let p = (pair_at m.pairs i).parent.0 in
       record {
-        up = old_feed (i + 1) p (λ same. omega (arith, same, count, pairs, within)) (omega (arith, count, pairs, within, above)) k.up;
-        down = old_feed p (i + 1) (λ same. omega (arith, same, count, pairs, within, above)) (omega (arith, count, pairs, within)) k.down;
+        up = λ there. old_feed (i + 1) p (λ same. omega (arith, same, count, pairs, within)) (omega (arith, count, pairs, within, above))
+            (k.up (sym (before p (λ same. omega (arith, same, count, pairs, within, above))) ∙ there));
+        down = λ there. old_feed p (i + 1) (λ same. omega (arith, same, count, pairs, within, above)) (omega (arith, count, pairs, within))
+            (k.down (sym (before (i + 1) (λ same. omega (arith, same, count, pairs, within))) ∙ there));
       }
 
-  fresh_pair : (i : ℕ) → i ≡ length m.pairs → IsFedPair K.channel nodes i new_pair
+  fresh_pair : (i : ℕ) → i ≡ length m.pairs → IsFedPair K nodes i new_pair
   fresh_pair i last =
       let count = h.born in let pairs = h.pairs in let within = inside in let long = size in
       let next : i + 1 ≡ length m.nodes = omega (arith, count, pairs, last, lives) in
@@ -356,14 +387,14 @@ module _ (G H : Facts) (m : MachineView) (kind : Kind) (parent : Enclave) (block
       let mine : eqb child.0 (i + 1) ≡ true = eq-eqb child.0 (i + 1) (sym next) in
       let up : at (taking base).feeds (i + 1) ≡ Some nothing_taken = step.laws.put base.feeds child.0 (i + 1) nothing_taken ∙ ap (λ b. cond b (Some nothing_taken) (at base.feeds (i + 1))) mine in
       record {
-        up = place (λ n. at n.feeds (i + 1) ≡ Some (feed_by (K.channel (i + 1) parent.0))) parent.0 (omega (arith, long, within)) (λ same. up ∙ ap (λ f. Some (feed_by f)) (sym quiet.0)) (λ apart is_first. absurd (apart refl))
+        up = λ there. place (λ n. at n.feeds (i + 1) ≡ Some (feed_by (K.channel (i + 1) parent.0))) parent.0 (omega (arith, long, within)) (λ same. up ∙ ap (λ f. Some (feed_by f)) (sym quiet.0)) (λ apart is_first. absurd (apart refl))
             (λ apart far lt. absurd (apart refl)) (λ none. absurd (omega (arith, none, within)));
-        down = place (λ n. at n.feeds parent.0 ≡ Some (feed_by (K.channel parent.0 (i + 1)))) (i + 1) (omega (arith, long, next)) (λ none. absurd (omega (arith, none, next, within)))
+        down = λ there. place (λ n. at n.feeds parent.0 ≡ Some (feed_by (K.channel parent.0 (i + 1)))) (i + 1) (omega (arith, long, next)) (λ none. absurd (omega (arith, none, next, within)))
             (λ apart none. absurd (omega (arith, none))) (λ apart far lt. absurd (omega (arith, lt, next))) (λ is. at_one parent.0 nothing_taken ∙ ap (λ f. Some (feed_by f)) (sym quiet.1));
       }
 
-  fed_then : (i : ℕ) → i < length w.pairs → IsFedPair K.channel nodes i (pair_at w.pairs i)
-  fed_then i within = push_case m.pairs i new_pair no_pair (IsFedPair K.channel nodes i) within (old_pair i) (fresh_pair i)
+  fed_then : (i : ℕ) → i < length w.pairs → IsFedPair K nodes i (pair_at w.pairs i)
+  fed_then i within = push_case m.pairs i new_pair no_pair (IsFedPair K nodes i) within (old_pair i) (fresh_pair i)
 
   stranger_then : (e c : ℕ) → K.born ≤ c → at (node_at nodes e).feeds c ≡ None
   stranger_then e c far = by (cases_lt e (length nodes))
@@ -379,8 +410,8 @@ module _ (G H : Facts) (m : MachineView) (kind : Kind) (parent : Enclave) (block
           (λ last. at_other parent.0 nothing_taken c (λ none. omega (arith, none, far, lives)))
       by (inr past) = ap (λ (n : NodeView). at n.feeds c) (get_or_past nodes e (unborn_node 0 host []) past) ∙ at_nil c
 
-  booted_acted : command_lines G (commands.Boot kind parent blocks ns) ≡ booted_lines m kind parent blocks ns → H.born ≡ G.born + 1 → IsActed K H w
-  booted_acted is born =
+  booted_acted : command_lines G (commands.Boot kind parent blocks ns) ≡ booted_lines m kind parent blocks ns → ((e : ℕ) → lives_at H e ≡ lives_at K e) → IsActed K H w
+  booted_acted is living =
       let count = length-append m.pairs (new_pair ∷ []) in let pairs = h.pairs in
       record {
         pool = h.pool;
@@ -388,7 +419,8 @@ module _ (G H : Facts) (m : MachineView) (kind : Kind) (parent : Enclave) (block
         starts = h.starts;
         born = size ∙ ap (λ n. n + 1) h.born;
         pairs = omega (arith, count, pairs, lives);
-        nodes = node_then is born;
+        living = living_then;
+        nodes = node_then is living;
         links = linked_then;
         within = within_of G m step.before h;
         feeds = fed_then;
@@ -401,15 +433,15 @@ module _ (G H : Facts) (m : MachineView) (kind : Kind) (parent : Enclave) (block
   tied_born tells made machine =
       let is : command_lines G (commands.Boot kind parent blocks ns) ≡ birth ∷ ls = sym tells ∙ made in
       let facts : H ≡ after_lines K ls = step.after ∙ ap (after_lines G) is in
-      let born : H.born ≡ G.born + 1 = ap (λ F. F.born) facts ∙ (counted_lines ls K plain).born in
-      let shown = shown_by step.laws K H ls w facts plain step.flowing (booted_acted is born) in
+      let living : (e : ℕ) → lives_at H e ≡ lives_at K e = λ e. ap (λ F. lives_at F e) facts ∙ (counted_lines ls K plain).living e in
+      let shown = shown_by step.laws K H ls w facts plain step.flowing (booted_acted is living) in
       let end : after_command m (commands.Boot kind parent blocks ns) ≡ with_carried w ls = ap (λ n. with_carried n (lines_by m (commands.Boot kind parent blocks ns))) machine ∙ ap (with_carried w) made in
       (tells, subst (IsShown H) (sym end) shown)
 
 -- ---- any boot
 
 pub tied_boot : (G H : Facts) (m : MachineView) (kind : Kind) (parent : Enclave) (blocks : ℕ) (ns : Bool) → IsStep G H (commands.Boot kind parent blocks ns) → IsShown G m → IsTied G H (commands.Boot kind parent blocks ns) m
-tied_boot G H m kind parent blocks ns step h = by (ltb parent.0 G.born) (leb 256 (length m.nodes)) (ns && m.server) (is_short m blocks) refl refl refl refl
+tied_boot G H m kind parent blocks ns step h = by (lives_at G parent.0) (leb 256 (length m.nodes)) (ns && m.server) (is_short m blocks) refl refl refl refl
   where
     c : Command
     c = commands.Boot kind parent blocks ns
@@ -422,27 +454,31 @@ tied_boot G H m kind parent blocks ns step h = by (ltb parent.0 G.born) (leb 256
         else (if ltb (length (free_from 0 first.host.states)) blocks then refusal causes.NoBlocks
         else birth_lines (enclave n) kind parent (take blocks (free_from 0 first.host.states)) ns v.heard ++ adopt_lines v (enclave n)))
 
-    -- the host's view, where the parent was born
-    by_host : (b : Bool) → ltb parent.0 G.born ≡ b → cond b (written G.born G.server (node_at m.nodes 0).view (view_of G parent)) (refusal causes.NoEnclave) ≡ cond b (written G.born G.server (view_of G host) (view_of G parent)) (refusal causes.NoEnclave)
-    by_host true is = let lives = ltb-true parent.0 G.born is in ap (λ v. written G.born G.server v (view_of G parent)) (h.nodes 0 (omega (arith, lives))).view
+    -- a parent that lives was born
+    below : lives_at G parent.0 ≡ true → parent.0 < G.born
+    below is = let born = h.born in let within = node_within m.nodes parent.0 (h.living parent.0 ∙ is) in omega (arith, born, within)
+
+    -- the host's view, where the parent lives
+    by_host : (b : Bool) → lives_at G parent.0 ≡ b → cond b (written G.born G.server (node_at m.nodes 0).view (view_of G parent)) (refusal causes.NoEnclave) ≡ cond b (written G.born G.server (view_of G host) (view_of G parent)) (refusal causes.NoEnclave)
+    by_host true is = let lives = below is in ap (λ v. written G.born G.server v (view_of G parent)) (h.nodes 0 (step.before.tree.root (omega (arith, lives)))).view
     by_host false is = refl
 
     ls : lines_by m c ≡ command_lines G c
     ls = ap (λ n. at_node m parent (written n m.server (node_at m.nodes 0).view (node_at m.nodes parent.0).view)) h.born
         ∙ ap (λ server. at_node m parent (written G.born server (node_at m.nodes 0).view (node_at m.nodes parent.0).view)) h.server
-        ∙ at_is G m h parent (written G.born G.server (node_at m.nodes 0).view) ∙ by_host (ltb parent.0 G.born) refl ∙ sym (step.answered.boot kind parent blocks ns)
+        ∙ at_is G m h parent (written G.born G.server (node_at m.nodes 0).view) ∙ by_host (lives_at G parent.0) refl ∙ sym (step.answered.boot kind parent blocks ns)
 
     still : (cause : Cause) → lines_by m c ≡ refusal cause → acted m c ≡ m → IsTied G H c m
     still cause is same = tied_still G H c m step h refl same ls (subst AreStill (sym (sym ls ∙ is)) (tt, tt))
 
-    born : (b : Bool) → ltb parent.0 G.born ≡ b → ltb parent.0 (length m.nodes) ≡ b
-    born b is = ap (ltb parent.0) h.born ∙ is
+    known : (b : Bool) → lives_at G parent.0 ≡ b → has_node m.nodes parent.0 ≡ b
+    known b is = h.living parent.0 ∙ is
 
-    by : (a b s d : Bool) → ltb parent.0 G.born ≡ a → leb 256 (length m.nodes) ≡ b → (ns && m.server) ≡ s → is_short m blocks ≡ d → IsTied G H c m
-    by false b s d one two three four = let lives = born false one in still causes.NoEnclave (rw lives refl) (rw lives refl)
-    by true true s d one two three four = let lives = born true one in still causes.TooMany (rw (lives, two) refl) (rw (lives, two) refl)
-    by true false true d one two three four = let lives = born true one in still causes.NameServerTaken (rw (lives, two, three) refl) (rw (lives, two, three) refl)
-    by true false false true one two three four = let lives = born true one in still causes.NoBlocks (rw (lives, two, three, four) refl) (rw (lives, two, three, four) refl)
+    by : (a b s d : Bool) → lives_at G parent.0 ≡ a → leb 256 (length m.nodes) ≡ b → (ns && m.server) ≡ s → is_short m blocks ≡ d → IsTied G H c m
+    by false b s d one two three four = let lives = known false one in still causes.NoEnclave (rw lives refl) (rw lives refl)
+    by true true s d one two three four = let lives = known true one in still causes.TooMany (rw (lives, two) refl) (rw (lives, two) refl)
+    by true false true d one two three four = let lives = known true one in still causes.NameServerTaken (rw (lives, two, three) refl) (rw (lives, two, three) refl)
+    by true false false true one two three four = let lives = known true one in still causes.NoBlocks (rw (lives, two, three, four) refl) (rw (lives, two, three, four) refl)
     by true false false false one two three four =
-        let lives = born true one in
-        tied_born G H m kind parent blocks ns step h (ltb-true parent.0 G.born one) ls (rw (lives, two, three, four) refl) (rw (lives, two, three, four) refl)
+        let lives = known true one in
+        tied_born G H m kind parent blocks ns step h one (below one) ls (rw (lives, two, three, four) refl) (rw (lives, two, three, four) refl)

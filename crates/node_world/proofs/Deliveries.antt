@@ -1,7 +1,7 @@
 -- What is delivered by the facts is what the machine delivers.
 use Rattle.std.proofs.Common.{min, ◌≡◌, ◌≢◌, ◌+◌, ◌-◌, ◌<◌, ◌≤◌, ℕ, List, [], ◌∷◌, ◌++◌, length, take, drop, Bool, true, false, cond, eqb, Option, None, Some, refl, sym, ap, ◌∙◌, subst, arith}
 use Rattle.std.specs.Option.{option_map_or}
-use Rattle.std.proofs.lemmas.Bool.{eqb-true, eqb-false, ne_eqb, lt-ltb}
+use Rattle.std.proofs.lemmas.Bool.{eqb-true, eqb-false, ne_eqb}
 use Rattle.std.proofs.lemmas.List.{length-set}
 use Rattle.xm_num.specs.declared.Enclave.{Enclave}
 use Rattle.xm_num.specs.declared.Cause.TheVariants as causes
@@ -16,7 +16,7 @@ use Rattle.xemem_language.specs.declared.command.Command.{Command}
 use Rattle.xemem_language.specs.declared.command.Command.TheVariants as commands
 use Rattle.xemem_language.specs.declared.line.Line.{Line}
 use Rattle.xemem_language.specs.declared.line.Line.TheVariants as lines
-use Rattle.global_model.specs.Facts.{Facts, ChannelFact, with_taken, after_line, after_lines}
+use Rattle.global_model.specs.Facts.{Facts, ChannelFact, with_taken, after_line, after_lines, lives_at}
 use Rattle.enclave_rules.specs.View.{place_among, View, own_lines, seen_lines, host}
 use Rattle.global_model.specs.Channels.{whole_records, arriving}
 use Rattle.global_model.specs.Views.{view_of}
@@ -30,7 +30,7 @@ use Rattle.node_machine.specs.Machine.{MachineView, node_at, pair_at, with_node,
 use Rattle.node_machine.specs.Machine.{enclave}
 use Rattle.node_world.specs.Shown.{IsNodeOf, IsShown}
 use Rattle.node_world.specs.Laws.{WireLaws, ViewLaws}
-use Rattle.node_world.proofs.Lists.{cond_case, same_either, set_case}
+use Rattle.node_world.proofs.Lists.{cond_case, has-set, node_within, same_either, set_case}
 use Rattle.node_world.proofs.Flows.{waiting-length, link_taken, got_is, IsFed, feed_from, feed_fed}
 use Rattle.node_world.proofs.Carriage.{AreWithin, ArePlain, plain_append, feed_by, pair_here, pair_other, pair_case, over, with_link-parent, with_link-length, counted_lines}
 use Rattle.node_world.proofs.Acted.{IsActed, HasFeed, IsFedPair, shown_by, linked_of, fed_of}
@@ -122,9 +122,8 @@ module _ (wire : WireLaws) (views : ViewLaws) (G H : Facts) (m : MachineView) (x
   lines_are =
       let taken_is : T.channel x.0 y.0 ≡ with_taken n f = pair_here x.0 y.0 (with_taken n) G.channel x.0 y.0 refl refl in
       let come : arriving (T.channel x.0 y.0) ≡ d.records = ap arriving taken_is ∙ ap (λ got. drop got (whole_records (f.taken + n) f.sent)) (got_is f (step.before.flows x.0 y.0) (step.before.arrived x.0 y.0)) ∙ sym is_fed.came in
-      let living = (step.before.tree.enclaves y.0).living ∙ lt-ltb y.0 G.born k.yours in
       let view : view_of G y ≡ node.view = sym (h.nodes y.0 k.yours).view in
-      let got : got_lines T x y (arriving (T.channel x.0 y.0)) ≡ busy_lines m x y count hop = ap (got_lines T x y) come ∙ views.records T x y d.records living ∙ ap (λ v. lines_of_records v x d.records) view in
+      let got : got_lines T x y (arriving (T.channel x.0 y.0)) ≡ busy_lines m x y count hop = ap (got_lines T x y) come ∙ views.records T x y d.records k.yours ∙ ap (λ v. lines_of_records v x d.records) view in
       ap (λ bytes. cond (eqb (length bytes) 0) (lines.Idle x y ∷ []) (took_lines G x y (min count (length bytes)))) (sym k.link.waiting)
       ∙ ap (λ ls. cond (is_idle link) (lines.Idle x y ∷ []) (lines.Took x y n ∷ ls)) got
 
@@ -139,12 +138,12 @@ module _ (wire : WireLaws) (views : ViewLaws) (G H : Facts) (m : MachineView) (x
   w = busy_machine m x y count hop
 
   inside : y.0 < length m.nodes
-  inside = let born = h.born in let yours = k.yours in omega (arith, born, yours)
+  inside = node_within m.nodes y.0 (h.living y.0 ∙ k.yours)
 
-  node_after : command_lines G (commands.Deliver x y count) ≡ lines.Took x y n ∷ ls → H.born ≡ G.born → (e : ℕ) → e < G.born → IsNodeOf H e (node_at w.nodes e)
-  node_after is born e within =
-      let view : view_of H (enclave e) ≡ seen_lines (view_of G (enclave e)) (lines.Took x y n ∷ ls) = step.views e (omega (arith, born, within)) ∙ ap (seen_lines (view_of G (enclave e))) is in
-      let old = h.nodes e within in
+  node_after : command_lines G (commands.Deliver x y count) ≡ lines.Took x y n ∷ ls → ((e : ℕ) → lives_at H e ≡ lives_at G e) → (e : ℕ) → lives_at G e ≡ true → IsNodeOf H e (node_at w.nodes e)
+  node_after is living e lives =
+      let view : view_of H (enclave e) ≡ seen_lines (view_of G (enclave e)) (lines.Took x y n ∷ ls) = step.views e (living e ∙ lives) ∙ ap (seen_lines (view_of G (enclave e))) is in
+      let old = h.nodes e lives in
       set_case m.nodes y.0 e after (unborn_node 0 host []) (IsNodeOf H e) inside
       (λ same.
       let mine : (node_at m.nodes e).view ≡ node.view = ap (λ k. (node_at m.nodes k).view) same in
@@ -182,8 +181,8 @@ module _ (wire : WireLaws) (views : ViewLaws) (G H : Facts) (m : MachineView) (x
       let size = waiting-length f link k.link in
       pair_case (λ (g : ChannelFact). g.taken ≤ length (spellings_of g.sent)) x.0 y.0 (with_taken n) G.channel a b (omega (arith, size, fits)) (step.before.flows a b).taken
 
-  busy_acted : command_lines G (commands.Deliver x y count) ≡ lines.Took x y n ∷ ls → H.born ≡ G.born → IsActed T H w
-  busy_acted is born =
+  busy_acted : command_lines G (commands.Deliver x y count) ≡ lines.Took x y n ∷ ls → ((e : ℕ) → lives_at H e ≡ lives_at G e) → IsActed T H w
+  busy_acted is living =
       let count = h.pairs ∙ ap (λ k. k - 1) (sym h.born) in
       record {
         pool = h.pool;
@@ -191,21 +190,22 @@ module _ (wire : WireLaws) (views : ViewLaws) (G H : Facts) (m : MachineView) (x
         starts = h.starts;
         born = length-set m.nodes y.0 after ∙ h.born;
         pairs = with_link-length m.pairs hop (taken link n) ∙ h.pairs;
-        nodes = node_after is born;
-        links = over step.laws G.enclave G.channel m.pairs (linked_of G m step.before h) (length m.nodes) x y (with_taken n) (taken link n) hop k.hop_is count (λ old. link_taken step.laws.links f link n fits old);
+        living = λ e. has-set m.nodes y.0 e after ∙ h.living e;
+        nodes = node_after is living;
+        links = over step.laws G.enclave G.channel m.pairs (linked_of G m step.before h) m.nodes count h.living x y (with_taken n) (taken link n) hop k.hop_is (λ old. link_taken step.laws.links f link n fits old);
         within = within_after;
         feeds = pair_after;
         strangers = stranger_after;
       }
     where
-      pair_after : (i : ℕ) → i < length w.pairs → IsFedPair T.channel w.nodes i (pair_at w.pairs i)
+      pair_after : (i : ℕ) → i < length w.pairs → IsFedPair T w.nodes i (pair_at w.pairs i)
       pair_after i within =
           let size = with_link-length m.pairs hop (taken link n) in
           let old = fed_of G m step.before h i (omega (arith, size, within)) in
           let same : (pair_at m.pairs i).parent ≡ (pair_at w.pairs i).parent = sym (with_link-parent m.pairs hop (taken link n) i) in
           record {
-            up = subst (λ (e : Enclave). HasFeed T.channel w.nodes (i + 1) e.0) same (feed_after (i + 1) (pair_at m.pairs i).parent.0 old.up);
-            down = subst (λ (e : Enclave). HasFeed T.channel w.nodes e.0 (i + 1)) same (feed_after (pair_at m.pairs i).parent.0 (i + 1) old.down);
+            up = subst (λ (e : Enclave). lives_at G e.0 ≡ true → HasFeed T.channel w.nodes (i + 1) e.0) same (λ lives. feed_after (i + 1) (pair_at m.pairs i).parent.0 (old.up lives));
+            down = subst (λ (e : Enclave). lives_at G (i + 1) ≡ true → HasFeed T.channel w.nodes e.0 (i + 1)) same (λ lives. feed_after (pair_at m.pairs i).parent.0 (i + 1) (old.down lives));
           }
 
   -- so the delivery is tied, where the machine makes this of it
@@ -224,8 +224,8 @@ module _ (wire : WireLaws) (views : ViewLaws) (G H : Facts) (m : MachineView) (x
           let busy : command_lines G (commands.Deliver x y count) ≡ lines.Took x y n ∷ ls = all ∙ ap (λ b. cond b (lines.Idle x y ∷ []) (lines.Took x y n ∷ ls)) is in
           let plain : ArePlain ls = plain_records node.view x d.records in
           let facts : H ≡ after_lines T ls = step.after ∙ ap (after_lines G) busy in
-          let born : H.born ≡ G.born = ap (λ F. F.born) facts ∙ (counted_lines ls T plain).born in
-          let shown = shown_by step.laws T H ls w facts plain step.flowing (busy_acted busy born) in
+          let living : (e : ℕ) → lives_at H e ≡ lives_at G e = λ e. ap (λ F. lives_at F e) facts ∙ (counted_lines ls T plain).living e in
+          let shown = shown_by step.laws T H ls w facts plain step.flowing (busy_acted busy living) in
           let end : after_command m (commands.Deliver x y count) ≡ with_carried w ls = ap (λ n. with_carried n (lines_by m (commands.Deliver x y count))) (machine ∙ ap (λ b. cond b m w) is) ∙ ap (with_carried w) (made ∙ sym all ∙ busy) in
           (made ∙ sym all, subst (IsShown H) (sym end) shown)
 

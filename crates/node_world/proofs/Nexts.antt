@@ -13,7 +13,7 @@ use Rattle.xemem_language.specs.declared.record.Record.{Record}
 use Rattle.xemem_wire.specs.Spelling.{spelling_of}
 use Rattle.xemem_language.specs.declared.command.Command.{Command}
 use Rattle.xemem_language.specs.declared.command.Command.TheVariants as commands
-use Rattle.global_model.specs.Facts.{Facts, ChannelFact, is_living_enclave}
+use Rattle.global_model.specs.Facts.{Facts, ChannelFact, lives_at}
 use Rattle.global_model.specs.Channels.{size_of, waiting_bytes as waiting_in}
 use Rattle.global_model.specs.Flow.{IsFlowing}
 use Rattle.global_model.specs.Due.{rest_of_record, next_rest, channels_of, waits, waiting_channels, first_waiting}
@@ -71,9 +71,8 @@ module _ (G : Facts) (m : MachineView) (flowing : IsFlowing G) (h : IsShown G m)
   abbrev pairs : List Pair
   pairs = m.pairs
 
-  waits_is : (x y : Enclave) (link : Channel) → IsLinkOf (G.channel x.0 y.0) link → y.0 < G.born → waits G (x, y) ≡ not (is_idle link)
-  waits_is x y link k born =
-      let lives : is_living_enclave (G.enclave y.0) ≡ true = (flowing.tree.enclaves y.0).living ∙ lt-ltb y.0 G.born born in
+  waits_is : (x y : Enclave) (link : Channel) → IsLinkOf (G.channel x.0 y.0) link → lives_at G y.0 ≡ true → waits G (x, y) ≡ not (is_idle link)
+  waits_is x y link k lives =
       ap (λ b. b && ltb 0 (length (waiting_in G x.0 y.0))) lives ∙ ap (λ bytes. ltb 0 (length bytes)) (sym k.waiting) ∙ some_is (length (waiting_bytes link))
 
   one_pair : (i : ℕ) → i < length pairs → map due (filter (waits G) (channels_of G (i + 1))) ≡ map (delivery_over pairs) (waiting_hops_of i (pair_at pairs i))
@@ -81,10 +80,13 @@ module _ (G : Facts) (m : MachineView) (flowing : IsFlowing G) (h : IsShown G m)
       let count = h.pairs in
       let k = linked_of G m flowing h i within in
       let above = k.above in
-      let up : waits G x ≡ not (is_idle pair.up) = waits_is c pair.parent pair.up k.up (omega (arith, count, within, above)) in
-      let down : waits G y ≡ not (is_idle pair.down) = waits_is pair.parent c pair.down k.down (omega (arith, count, within)) in
-      let one : due x ≡ delivery_over pairs (hops.Up i) = ap (commands.Deliver c pair.parent) (boundary_is (G.channel (i + 1) pair.parent.0) pair.up k.up) in
-      let two : due y ≡ delivery_over pairs (hops.Down i) = ap (commands.Deliver pair.parent c) (boundary_is (G.channel pair.parent.0 (i + 1)) pair.down k.down) in
+      -- both live so far
+      let lives_above = flowing.tree.all_live pair.parent.0 (omega (arith, count, within, above)) in
+      let lives_below = flowing.tree.all_live (i + 1) (omega (arith, count, within)) in
+      let up : waits G x ≡ not (is_idle pair.up) = waits_is c pair.parent pair.up (k.up lives_above) lives_above in
+      let down : waits G y ≡ not (is_idle pair.down) = waits_is pair.parent c pair.down (k.down lives_below) lives_below in
+      let one : due x ≡ delivery_over pairs (hops.Up i) = ap (commands.Deliver c pair.parent) (boundary_is (G.channel (i + 1) pair.parent.0) pair.up (k.up lives_above)) in
+      let two : due y ≡ delivery_over pairs (hops.Down i) = ap (commands.Deliver pair.parent c) (boundary_is (G.channel pair.parent.0 (i + 1)) pair.down (k.down lives_below)) in
       ap (λ (p : Enclave). map due (filter (waits G) ((c, p) ∷ (p, c) ∷ []))) (sym k.parent)
       ∙ ap (λ a. map due (cond a (x ∷ cond (waits G y) (y ∷ []) []) (cond (waits G y) (y ∷ []) []))) up
       ∙ ap (λ b. map due (cond (not (is_idle pair.up)) (x ∷ cond b (y ∷ []) []) (cond b (y ∷ []) []))) down

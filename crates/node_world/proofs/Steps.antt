@@ -42,7 +42,8 @@ start = record {
   starts = refl;
   born = refl;
   pairs = refl;
-  nodes = λ e within. absurd (omega (arith, within));
+  living = λ e. refl;
+  nodes = λ e lives. cc;
   links = λ i within. absurd (omega (arith, within));
   strangers = λ e c far. at_nil c;
 }

@@ -73,10 +73,10 @@ pub record LinkLaws : Type 0 where
 
 -- which channel goes from one enclave to another
 pub record HopLaws : Type 0 where
-  pub up : (pairs : List Pair) (born : ℕ) (x y : Enclave) (i : ℕ) → hop_of pairs born x y ≡ hops.Up i → IsPairAt pairs i x.0 y.0
-  pub down : (pairs : List Pair) (born : ℕ) (x y : Enclave) (i : ℕ) → hop_of pairs born x y ≡ hops.Down i → IsPairAt pairs i y.0 x.0
-  pub to_up : (pairs : List Pair) (born : ℕ) (x y : Enclave) (i : ℕ) → IsPairAt pairs i x.0 y.0 → x.0 < born → y.0 < born → hop_of pairs born x y ≡ hops.Up i
-  pub to_down : (pairs : List Pair) (born : ℕ) (x y : Enclave) (i : ℕ) → AreAbove pairs → IsPairAt pairs i y.0 x.0 → x.0 < born → y.0 < born → hop_of pairs born x y ≡ hops.Down i
+  pub up : (pairs : List Pair) (known : Bool) (x y : Enclave) (i : ℕ) → hop_of pairs known x y ≡ hops.Up i → IsPairAt pairs i x.0 y.0
+  pub down : (pairs : List Pair) (known : Bool) (x y : Enclave) (i : ℕ) → hop_of pairs known x y ≡ hops.Down i → IsPairAt pairs i y.0 x.0
+  pub to_up : (pairs : List Pair) (x y : Enclave) (i : ℕ) → IsPairAt pairs i x.0 y.0 → hop_of pairs true x y ≡ hops.Up i
+  pub to_down : (pairs : List Pair) (x y : Enclave) (i : ℕ) → AreAbove pairs → IsPairAt pairs i y.0 x.0 → hop_of pairs true x y ≡ hops.Down i
 
 -- all of them, and what holds of the journal of commands and of a table after a change
 pub record Laws : Type 0 where
