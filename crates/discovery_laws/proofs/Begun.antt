@@ -14,6 +14,7 @@ use Rattle.global_model.specs.Tree.{AreNear, IsRooted, IsToward, distance, hop, 
 use Rattle.global_model.specs.Views.{view_of}
 use Rattle.discovery_laws.specs.Known.{back_of, holds, in_flight, is_admitted_at, knows, route_of, way_of}
 use Rattle.discovery_laws.specs.Laws.{Laws}
+use Rattle.discovery_laws.proofs.Effects.{way_learns, way_leaves}
 use Rattle.discovery_laws.proofs.Underway.{IsBounded, IsNextOf, bounded_got}
 use Rattle.discovery_laws.proofs.Stages.{Stage, Silent, Registering, Admitting, Ready, Answers, MayAnswer, IsBack, IsRoute, IsRegistering, IsAdmitting, IsReady, IsRegistered, IsSilent, IsStaged, about_in, alone_at, is_about, is_about_by, number, under_way}
 use Rattle.discovery_laws.proofs.Unmoved.{AreAside, IsUnmoved, AreUnmoved, unmoved_lines}
@@ -90,7 +91,12 @@ tell_aside v [] d = tt
 tell_aside v (row ∷ askers) d = (refl, tell_aside v askers d)
 
 fresh_way : (G : Facts) (e over : Enclave) (d : ℕ) → IsFresh G d → IsFresh (after_line G (lines.Way e over)) d
-fresh_way G e over d fresh = record { flight = fresh.flight; backs = fresh.backs; routes = fresh.routes; waits = fresh.waits }
+fresh_way G e over d fresh = record {
+  flight = fresh.flight;
+  backs = λ a x is. fresh.backs a x (ap (λ table. at table d) (sym ((way_leaves G e over).backs a)) ∙ is);
+  routes = λ a x is. fresh.routes a x (ap (λ table. at table d) (sym ((way_leaves G e over).routes a)) ∙ is);
+  waits = fresh.waits;
+}
 
 -- all that is written for the here, told askers and all
 begins : Laws → (G : Facts) (v : View) (d x : Enclave) (askers : List (ℕ × Enclave)) → IsBounded G → IsFresh G d.0
@@ -109,7 +115,7 @@ begins laws G v d x askers bounded fresh = subst P (sym (laws.past.after G2 (tol
         let told : AreUnmoved (after_line G (lines.Way d x)) (after_lines (after_line G (lines.Way d x)) (told_askers v askers)) d.0
         = unmoved_lines laws.row (after_line G (lines.Way d x)) (told_askers v askers) d.0 bounded (tell_aside v askers d.0) in
         let K = after_lines (after_line G (lines.Way d x)) (told_askers v askers) in
-        let way : way_of K d.0 ≡ Some x = told_way (after_line G (lines.Way d x)) v askers d.0 ∙ rw (eq-eqb d.0 d.0 refl) refl in
+        let way : way_of K d.0 ≡ Some x = told_way (after_line G (lines.Way d x)) v askers d.0 ∙ way_learns G d x d.0 ∙ rw (eq-eqb d.0 d.0 refl) refl in
         let held = led.held d.0 x way in
         let known : knows K d.0 ≡ true = or_right (holds K d.0) (is_some (way_of K d.0)) (ap is_some way) in
         record {
