@@ -14,6 +14,7 @@ use Rattle.global_model.specs.Tree.{AreNear, IsRooted, IsToward, distance, hop, 
 use Rattle.global_model.specs.Views.{view_of}
 use Rattle.discovery_laws.specs.Known.{back_of, holds, in_flight, is_admitted_at, knows, route_of, way_of}
 use Rattle.discovery_laws.specs.Laws.{Laws}
+use Rattle.discovery_laws.proofs.Answered.{knows_way_is}
 use Rattle.discovery_laws.proofs.Effects.{way_learns, way_leaves}
 use Rattle.discovery_laws.proofs.Underway.{IsBounded, IsNextOf, bounded_got}
 use Rattle.discovery_laws.proofs.Stages.{Stage, Silent, Registering, Admitting, Ready, Answers, MayAnswer, IsBack, IsRoute, IsRegistering, IsAdmitting, IsReady, IsRegistered, IsSilent, IsStaged, about_in, alone_at, is_about, is_about_by, number, under_way}
@@ -138,7 +139,7 @@ here_handled laws G x y r rs stage bounded staged flight body apt none = subst P
         → IsRegistered (parent_of (after_lines G (lines.Got x y ∷ ls))) (after_lines G (lines.Got x y ∷ ls)).born (after_lines G (lines.Got x y ∷ ls)) y.0
 
     unknown : knows_way (view_of G y) ≡ false
-    unknown = ap (λ t. t || is_some (G.way y.0)) (view_holder (G.enclave y.0)) ∙ none
+    unknown = knows_way_is G y ∙ none
 
     lines_are : record_lines (view_of G y) x r
         ≡ lines.Way y x ∷ told_askers (view_of G y) (less (view_of G y).askers (place_among (view_of G y).parent x)) ++ lines.Sent y x (register_of y) ∷ []

@@ -17,6 +17,7 @@ use Rattle.global_model.specs.Tree.{IsRooted, parent_of}
 use Rattle.global_model.specs.Views.{view_of}
 use Rattle.discovery_laws.specs.Known.{holds, in_flight, knows}
 use Rattle.discovery_laws.specs.Laws.{Laws}
+use Rattle.discovery_laws.proofs.Answered.{knows_way_is}
 use Rattle.discovery_laws.proofs.Underway.{IsBounded, IsNextOf, bounded_got, next_flight}
 use Rattle.discovery_laws.proofs.Stages.{Stage, Silent, Registering, Admitting, Ready, IsRegistered, IsStaged, about_in, is_about, number, under_way}
 use Rattle.discovery_laws.proofs.Unmoved.{AreAside, IsUnmoved, staged_stays, unmoved-trans, unmoved_lines}
@@ -127,7 +128,7 @@ handled laws G x y r pause may led led' rooted' d registered = elim (cases_Bool 
   | inl about ↦ grown (moves laws G x y r rs d registered.stage led tree bounded flight about registered.is).registered
   | inr other ↦ elim (cases_Bool (knows G y.0)) [
       | inl known ↦
-          let way : knows_way (view_of G y) ≡ true = ap (λ t. t || is_some (G.way y.0)) (view_holder (G.enclave y.0)) ∙ known in
+          let way : knows_way (view_of G y) ≡ true = knows_way_is G y ∙ known in
           grown (leaves laws G x y r rs d bounded flight other (aside_record (view_of G y) x r d other (may_hear (inl way) r.body)) registered)
       | inr none ↦ elim (cases_eq y.0 d) [
           | inl is ↦ by is other none registered
