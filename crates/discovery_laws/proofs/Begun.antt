@@ -1,8 +1,8 @@
 -- An enclave that knows no way hears of one, and registers over it.
-use Rattle.std.proofs.Common.{◌≡◌, ◌≢◌, ◌⊎◌, ◌+◌, ◌<◌, ◌≤◌, ℕ, List, [], ◌∷◌, ◌++◌, filter, Bool, true, false, cond, ◌&&◌, ◌||◌, eqb, Option, None, Some, is_some, inl, inr, refl, sym, ap, ◌∙◌, subst, arith}
-use Rattle.std.proofs.lemmas.Bool.{cases_Bool, cases_eq, eqb-true, eq-eqb, ne_eqb, and_parts, or_cases, or_right}
+use Rattle.std.proofs.Common.{◌≡◌, ℕ, List, [], ◌∷◌, ◌++◌, true, false, Some, is_some, inl, refl, sym, ap, ◌∙◌, subst, arith}
+use Rattle.std.proofs.lemmas.Bool.{eq-eqb, or_right}
 use Rattle.xm_num.specs.declared.Enclave.{Enclave}
-use Rattle.xm_num.specs.Rows.{at, less, put}
+use Rattle.xm_num.specs.Rows.{at, less}
 use Rattle.xemem_language.specs.declared.record.Record.{Record}
 use Rattle.xemem_language.specs.declared.record.Body.TheVariants as bodies
 use Rattle.xemem_language.specs.declared.line.Line.{Line}
@@ -10,17 +10,17 @@ use Rattle.xemem_language.specs.declared.line.Line.TheVariants as lines
 use Rattle.enclave_rules.specs.View.{View, place_among}
 use Rattle.enclave_rules.specs.Steps.{body_lines, here_lines, here_of, is_stray, knows_way, record_lines, register_of, told_askers}
 use Rattle.global_model.specs.Facts.{Facts, after_line, after_lines}
-use Rattle.global_model.specs.Tree.{AreNear, IsRooted, IsToward, distance, hop, parent_of}
+use Rattle.global_model.specs.Tree.{IsRooted, IsToward, parent_of}
 use Rattle.global_model.specs.Views.{view_of}
 use Rattle.discovery_laws.specs.Known.{back_of, holds, in_flight, is_admitted_at, knows, route_of, way_of}
 use Rattle.discovery_laws.specs.Laws.{Laws}
 use Rattle.discovery_laws.proofs.Answered.{knows_way_is}
 use Rattle.discovery_laws.proofs.Effects.{way_learns, way_leaves}
-use Rattle.discovery_laws.proofs.Underway.{IsBounded, IsNextOf, bounded_got}
-use Rattle.discovery_laws.proofs.Stages.{Stage, Silent, Registering, Admitting, Ready, Answers, MayAnswer, IsBack, IsRoute, IsRegistering, IsAdmitting, IsReady, IsRegistered, IsSilent, IsStaged, about_in, alone_at, is_about, is_about_by, number, under_way}
+use Rattle.discovery_laws.proofs.Underway.{IsBounded, bounded_got}
+use Rattle.discovery_laws.proofs.Stages.{Stage, Silent, Registering, Admitting, Ready, IsRegistered, IsStaged, about_in, is_about, is_about_by}
 use Rattle.discovery_laws.proofs.Unmoved.{AreAside, IsUnmoved, AreUnmoved, unmoved_lines}
-use Rattle.discovery_laws.proofs.Received.{aside_told, unmoved_got}
-use Rattle.discovery_laws.proofs.Moves.{no_stray, none_left, one_sent, row_cases, row_here, row_more, view_admitted, view_holder, IsThere, is_there}
+use Rattle.discovery_laws.proofs.Received.{unmoved_got}
+use Rattle.discovery_laws.proofs.Moves.{one_sent}
 use Rattle.discovery_laws.proofs.Led.{IsLed}
 use Rattle.discovery_laws.proofs.Registers.{record_is, turned_home}
 

@@ -1,7 +1,6 @@
 -- What an enclave keeps of a record that it got.
-use Rattle.std.proofs.Common.{◌≡◌, ◌≢◌, ◌⊎◌, ◌+◌, ◌<◌, ◌≤◌, ℕ, List, [], ◌∷◌, ◌++◌, zero, suc, length, take, drop, Bool, true, false, cond, leb, ◌&&◌, ◌||◌, eqb, Option, None, Some, is_some, inl, inr, refl, sym, ap, ◌∙◌, subst, arith, if◌then◌else◌}
-use Rattle.std.specs.List.{AllByRecursion}
-use Rattle.std.proofs.lemmas.Bool.{cases_Bool, cases_eq, eqb-true, eq-eqb, ne_eqb, and_parts, le-leb, leb-true}
+use Rattle.std.proofs.Common.{◌≡◌, ◌+◌, ◌≤◌, ℕ, List, [], ◌∷◌, ◌++◌, zero, suc, length, take, Bool, true, false, cond, leb, ◌&&◌, eqb, Option, None, Some, is_some, refl, sym, ap, ◌∙◌, arith, if◌then◌else◌}
+use Rattle.std.proofs.lemmas.Bool.{eqb-true, le-leb, leb-true}
 use Rattle.xm_num.specs.declared.Enclave.{Enclave}
 use Rattle.xm_num.specs.Rows.{at, put}
 use Rattle.xemem_language.specs.Destinations.{destination_number}
@@ -10,13 +9,12 @@ use Rattle.xemem_language.specs.declared.line.Line.{Line}
 use Rattle.xemem_language.specs.declared.line.Line.TheVariants as lines
 use Rattle.xemem_language.specs.declared.command.Command.TheVariants as commands
 use Rattle.xemem_wire.specs.Table.{kind_of}
-use Rattle.global_model.specs.Facts.{Facts, ChannelFact, EnclaveFact, after_line, after_lines, at_number, as_admitted, is_admitted, with_got, with_sent, with_taken}
-use Rattle.discovery_laws.specs.Known.{backs_of, routes_of, back_of, in_flight, is_admitted_at, route_of}
+use Rattle.global_model.specs.Facts.{Facts, ChannelFact, EnclaveFact, after_line, after_lines, as_admitted, is_admitted, with_got, with_sent, with_taken}
+use Rattle.discovery_laws.specs.Known.{backs_of, routes_of, back_of, is_admitted_at, route_of}
 use Rattle.discovery_laws.specs.Laws.{RowLaws}
 use Rattle.discovery_laws.proofs.Effects.{asked_leaves_rows, back_leaves_routes, back_puts, route_leaves_backs, route_puts, way_leaves}
 use Rattle.discovery_laws.proofs.Underway.{IsBounded}
-use Rattle.discovery_laws.proofs.Flights.{count, count-append}
-use Rattle.discovery_laws.proofs.Moves.{row_more}
+use Rattle.discovery_laws.proofs.Flights.{count}
 use Rattle.global_model.specs.Tree.{parent_of}
 use Rattle.discovery_laws.proofs.Stages.{IsRegistered}
 use Rattle.discovery_laws.proofs.Unmoved.{AreInner, IsInner, bounded_line}

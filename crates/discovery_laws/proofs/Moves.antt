@@ -1,5 +1,5 @@
 -- A record of d leaves a channel and goes into another; and what a row of d changes.
-use Rattle.std.proofs.Common.{◌≡◌, ◌≢◌, ◌⊎◌, ◌+◌, ◌<◌, ◌≤◌, ℕ, List, [], ◌∷◌, ◌++◌, filter, Bool, true, false, cond, ◌&&◌, ◌||◌, eqb, Option, None, Some, is_some, inl, inr, refl, sym, ap, ◌∙◌, subst, arith}
+use Rattle.std.proofs.Common.{◌≡◌, ◌≢◌, ◌⊎◌, ℕ, List, [], ◌∷◌, filter, Bool, true, false, cond, ◌&&◌, eqb, Option, None, Some, is_some, inl, inr, refl, sym, ap, ◌∙◌}
 use Rattle.std.specs.List.{list_any}
 use Rattle.std.specs.Option.{option_map_or}
 use Rattle.std.proofs.lemmas.Bool.{eqb-true, eq-eqb, ne_eqb, and_parts}
@@ -7,9 +7,8 @@ use Rattle.xm_num.specs.declared.Enclave.{Enclave}
 use Rattle.xm_num.specs.Rows.{at, put}
 use Rattle.xemem_language.specs.declared.record.Record.{Record}
 use Rattle.xemem_language.specs.declared.line.Line.TheVariants as lines
-use Rattle.enclave_rules.specs.View.{View}
-use Rattle.enclave_rules.specs.Steps.{is_stray, knows_dead}
-use Rattle.global_model.specs.Facts.{Facts, EnclaveFact, after_line, at_number, fact_of, is_admitted, is_holder}
+use Rattle.enclave_rules.specs.Steps.{is_stray}
+use Rattle.global_model.specs.Facts.{Facts, EnclaveFact, after_line, fact_of, is_admitted, is_holder}
 use Rattle.global_model.specs.Views.{view_of}
 use Rattle.discovery_laws.specs.Known.{in_flight}
 use Rattle.discovery_laws.specs.Laws.{RowLaws}

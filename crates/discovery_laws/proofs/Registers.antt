@@ -1,21 +1,21 @@
 -- A register or an admit of d is handled: it comes to the next stage, and is passed on or ends, but isn't dropped.
-use Rattle.std.proofs.Common.{◌≡◌, ◌≢◌, ◌⊎◌, ◌+◌, ◌<◌, ◌≤◌, ℕ, List, [], ◌∷◌, ◌++◌, filter, Bool, true, false, cond, ◌&&◌, ◌||◌, eqb, Option, None, Some, is_some, inl, inr, refl, sym, ap, ◌∙◌, subst, arith}
-use Rattle.std.proofs.lemmas.Bool.{cases_Bool, cases_eq, eqb-true, eq-eqb, ne_eqb, and_parts, false_from_ne_true}
+use Rattle.std.proofs.Common.{◌≡◌, ◌≢◌, ◌<◌, ℕ, List, [], ◌∷◌, filter, Bool, true, false, cond, ◌||◌, eqb, Some, is_some, inl, inr, refl, sym, ap, ◌∙◌, subst, arith}
+use Rattle.std.proofs.lemmas.Bool.{eq-eqb, ne_eqb, false_from_ne_true}
 use Rattle.xm_num.specs.declared.Enclave.{Enclave}
 use Rattle.xm_num.specs.Rows.{at, put}
 use Rattle.xemem_language.specs.declared.record.Record.{Record}
 use Rattle.xemem_language.specs.declared.line.Line.{Line}
 use Rattle.xemem_language.specs.declared.line.Line.TheVariants as lines
 use Rattle.enclave_rules.specs.View.{View}
-use Rattle.enclave_rules.specs.Steps.{admit_of, admit_over, admit_to, body_lines, is_stray, drop_lines, passed_lines, record_lines, register_lines, register_of}
-use Rattle.global_model.specs.Facts.{Facts, after_line, after_lines}
-use Rattle.global_model.specs.Tree.{AreNear, IsRooted, IsToward, distance, hop, parent_of}
+use Rattle.enclave_rules.specs.Steps.{admit_of, body_lines, is_stray, record_lines, register_lines, register_of}
+use Rattle.global_model.specs.Facts.{Facts, after_line}
+use Rattle.global_model.specs.Tree.{AreNear, IsRooted, IsToward, distance, parent_of}
 use Rattle.global_model.specs.Views.{view_of}
-use Rattle.discovery_laws.specs.Known.{backs_of, routes_of, back_of, holds, in_flight, is_admitted_at, knows, route_of, way_of}
+use Rattle.discovery_laws.specs.Known.{backs_of, routes_of, back_of, holds, in_flight, knows, route_of, way_of}
 use Rattle.discovery_laws.specs.Laws.{Laws}
 use Rattle.discovery_laws.proofs.Underway.{IsBounded, bounded_got}
-use Rattle.discovery_laws.proofs.Stages.{Stage, Silent, Registering, Admitting, Ready, Answers, MayAnswer, IsBack, IsRoute, IsRegistering, IsAdmitting, IsReady, IsRegistered, IsSilent, IsStaged, about_in, alone_at, is_about, number, under_way}
-use Rattle.discovery_laws.proofs.Moves.{no_stray, none_left, one_sent, row_cases, row_here, row_more, view_admitted, view_holder, IsThere, is_there}
+use Rattle.discovery_laws.proofs.Stages.{Stage, Registering, Admitting, Answers, MayAnswer, IsBack, IsRoute, IsStaged, about_in, is_about, number}
+use Rattle.discovery_laws.proofs.Moves.{no_stray, none_left, one_sent, row_cases, row_here, row_more, view_holder, IsThere, is_there}
 use Rattle.discovery_laws.proofs.Effects.{back_leaves, back_leaves_routes, back_puts, route_leaves, route_leaves_backs, route_puts}
 use Rattle.discovery_laws.proofs.Unmoved.{answers_stay, back_stays}
 use Rattle.discovery_laws.proofs.Marks.{IsMoved}

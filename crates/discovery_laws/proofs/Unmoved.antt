@@ -1,7 +1,7 @@
 -- Lines that say nothing of d leave its registration where it was.
-use Rattle.std.proofs.Common.{◌≡◌, ◌≢◌, ◌⊎◌, ◌+◌, ◌<◌, ◌≤◌, ℕ, List, [], ◌∷◌, ◌++◌, zero, suc, length-append, append-nil, length, drop, filter, Bool, true, false, cond, ◌&&◌, ◌||◌, eqb, Option, None, Some, is_some, inl, inr, refl, sym, ap, ◌∙◌, subst, arith}
+use Rattle.std.proofs.Common.{◌≡◌, ◌≢◌, ◌≤◌, ℕ, List, [], ◌∷◌, ◌++◌, append-nil, length, drop, filter, Bool, true, false, cond, ◌&&◌, ◌||◌, eqb, Option, Some, is_some, inl, inr, refl, sym, ap, ◌∙◌}
 use Rattle.std.specs.List.{AllByRecursion}
-use Rattle.std.proofs.lemmas.Bool.{cases_Bool, eqb-true, eq-eqb, ne_eqb, and_parts, or_left, or_right, or_cases}
+use Rattle.std.proofs.lemmas.Bool.{eqb-true, ne_eqb}
 use Rattle.std.proofs.lemmas.List.Elements.{filter-append}
 use Rattle.xm_num.specs.declared.Enclave.{Enclave}
 use Rattle.xm_num.specs.Rows.{at, put}
@@ -9,12 +9,12 @@ use Rattle.xemem_language.specs.declared.record.Record.{Record}
 use Rattle.xemem_language.specs.declared.line.Line.{Line}
 use Rattle.xemem_language.specs.declared.line.Line.TheVariants as lines
 use Rattle.xemem_language.specs.declared.command.Command.TheVariants as commands
-use Rattle.global_model.specs.Facts.{Facts, EnclaveFact, after_line, after_lines, at_number, at_pair, as_admitted, is_admitted, is_holder, with_sent, with_taken}
+use Rattle.global_model.specs.Facts.{Facts, after_line, after_lines, is_admitted, is_holder, with_taken}
 use Rattle.discovery_laws.specs.Known.{backs_of, routes_of, back_of, holds, in_flight, is_admitted_at, knows, route_of, way_of}
 use Rattle.discovery_laws.specs.Laws.{RowLaws}
 use Rattle.discovery_laws.proofs.Effects.{asked_leaves, asked_leaves_rows, back_leaves, back_leaves_routes, back_puts, holder_kept, kept_by, route_leaves, route_leaves_backs, route_puts, way_learns, way_leaves}
 use Rattle.discovery_laws.proofs.Underway.{IsBounded, bounded_sent, flight_sent}
-use Rattle.discovery_laws.proofs.Stages.{about_in, is_about, Stage, Answers, IsBack, IsRoute, IsRegistering, IsAdmitting, IsSilent, IsReady, IsAt, IsStaged, Silent, Registering, Admitting, Ready}
+use Rattle.discovery_laws.proofs.Stages.{about_in, is_about, Stage, Answers, IsBack, IsAt, IsStaged, Silent, Registering, Admitting, Ready}
 
 -- ---- what a registration rests on
 
@@ -31,7 +31,15 @@ pub record IsUnmoved (G H : Facts) (d : ℕ) : Type 0 where
 
 pub unmoved-refl : (G : Facts) (d : ℕ) → IsUnmoved G G d
 unmoved-refl G d = record {
-  flight = λ a b. refl; backs = λ e. refl; routes = λ e. refl; holders = λ e is. is; knowing = λ e is. is; held = refl; known = refl; admitted = refl }
+  flight = λ a b. refl;
+  backs = λ e. refl;
+  routes = λ e. refl;
+  holders = λ e is. is;
+  knowing = λ e is. is;
+  held = refl;
+  known = refl;
+  admitted = refl;
+}
 
 pub unmoved-trans : (G H K : Facts) (d : ℕ) → IsUnmoved G H d → IsUnmoved H K d → IsUnmoved G K d
 unmoved-trans G H K d one two = record {
@@ -54,7 +62,10 @@ answers_stay back later d x same (inr is) = inr (ap is_some (same x) ∙ is)
 pub back_stays : (parent : ℕ → ℕ) (born : ℕ) (back later : ℕ → ℕ → Option Enclave) (d : ℕ) (stage : Stage) (e x : ℕ) → ((e : ℕ) → later e d ≡ back e d)
     → IsBack parent born back d stage e x → IsBack parent born later d stage e x
 back_stays parent born back later d stage e x same was = record {
-  toward = was.toward; leads = answers_stay back later d x same was.leads; may = was.may }
+  toward = was.toward;
+  leads = answers_stay back later d x same was.leads;
+  may = was.may;
+}
 
 at_stays : (parent : ℕ → ℕ) (born : ℕ) (G H : Facts) (d : ℕ) (stage : Stage) → IsUnmoved G H d → IsAt parent born G d stage → IsAt parent born H d stage
 at_stays parent born G H d Silent same at = record { known = same.known ∙ at.known ∙ sym same.held; admitted = same.admitted ∙ at.admitted ∙ sym same.held }
