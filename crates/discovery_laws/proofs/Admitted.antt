@@ -1,23 +1,24 @@
 -- The admit of d is handled: it is passed on over the way back, or makes d ready.
-use Rattle.std.proofs.Common.{◌≡◌, ◌≢◌, ◌⊎◌, ◌+◌, ◌<◌, ◌≤◌, ℕ, List, [], ◌∷◌, ◌++◌, filter, Bool, true, false, cond, ltb, ◌&&◌, ◌||◌, eqb, Option, None, Some, is_some, inl, inr, refl, sym, ap, ◌∙◌, subst, arith}
-use Rattle.std.proofs.lemmas.Bool.{cases_Bool, cases_eq, eqb-true, eq-eqb, ne_eqb, and_parts, lt-ltb, false_from_ne_true}
+use Rattle.std.proofs.Common.{◌≡◌, ◌≢◌, ℕ, List, [], ◌∷◌, filter, true, false, ◌||◌, Option, None, Some, is_some, inl, inr, refl, sym, ap, ◌∙◌, subst, arith}
+use Rattle.std.proofs.lemmas.Bool.{cases_eq, eq-eqb, ne_eqb, lt-ltb, false_from_ne_true}
 use Rattle.xm_num.specs.declared.Enclave.{Enclave}
-use Rattle.xm_num.specs.Rows.{at, put}
+use Rattle.xm_num.specs.Rows.{at}
 use Rattle.xemem_language.specs.declared.record.Record.{Record}
 use Rattle.xemem_language.specs.declared.line.Line.{Line}
 use Rattle.xemem_language.specs.declared.line.Line.TheVariants as lines
 use Rattle.enclave_rules.specs.View.{View}
-use Rattle.enclave_rules.specs.Steps.{admit_of, admit_over, admit_to, body_lines, is_stray, drop_lines, passed_lines, record_lines}
-use Rattle.global_model.specs.Facts.{Facts, EnclaveFact, after_line, after_lines, as_admitted, is_admitted}
+use Rattle.enclave_rules.specs.Steps.{admit_of, admit_to, body_lines, is_stray, record_lines}
+use Rattle.global_model.specs.Facts.{Facts, EnclaveFact, after_line, as_admitted, is_admitted}
 use Rattle.global_model.specs.Flow.{IsTree}
-use Rattle.global_model.specs.Tree.{AreNear, IsRooted, IsToward, distance, hop, parent_of}
+use Rattle.global_model.specs.Tree.{IsRooted, IsToward, distance, parent_of}
 use Rattle.global_model.specs.Views.{view_of}
-use Rattle.discovery_laws.specs.Known.{back_of, holds, in_flight, is_admitted_at, knows, route_of, way_of}
+use Rattle.discovery_laws.specs.Known.{routes_of, back_of, holds, in_flight, is_admitted_at, route_of, way_of}
 use Rattle.discovery_laws.specs.Laws.{Laws}
 use Rattle.discovery_laws.proofs.Underway.{IsBounded, bounded_got}
-use Rattle.discovery_laws.proofs.Stages.{Stage, Silent, Registering, Admitting, Ready, Answers, MayAnswer, IsBack, IsRoute, IsRegistering, IsAdmitting, IsReady, IsRegistered, IsSilent, IsStaged, about_in, alone_at, is_about, number, under_way}
-use Rattle.discovery_laws.proofs.Unmoved.{holds_admitted}
-use Rattle.discovery_laws.proofs.Moves.{no_stray, none_left, one_sent, row_cases, row_here, row_more, view_admitted, view_holder, IsThere, is_there}
+use Rattle.discovery_laws.proofs.Stages.{Admitting, Ready, Answers, IsRoute, IsStaged, about_in, is_about, number}
+use Rattle.discovery_laws.proofs.Unmoved.{answers_stay, holds_admitted}
+use Rattle.discovery_laws.proofs.Moves.{no_stray, none_left, one_sent, row_cases, row_here, view_admitted, is_there}
+use Rattle.discovery_laws.proofs.Effects.{route_leaves, route_leaves_backs, route_puts}
 use Rattle.discovery_laws.proofs.Marks.{IsMoved}
 use Rattle.discovery_laws.proofs.Led.{IsLed}
 use Rattle.discovery_laws.proofs.Registers.{record_is}
@@ -44,34 +45,50 @@ module _ (laws : Laws) (G : Facts) (x y : Enclave) (d h : ℕ) (rs : List Record
       let same : distance (parent_of G) over.0 d ≡ distance (parent_of G) x.0 d = ap (λ e. distance (parent_of G) e d) is in
       omega (arith, one, two, same)
 
-  -- the way back becomes the route, over which it is passed on
+  -- the way back becomes the route
+  abbrev routed : Enclave → Facts
+  routed over = after_line (after_line G (lines.Got x y)) (lines.Route y (number d) over)
+
+  backs_routed : (over : Enclave) (e : ℕ) → back_of (routed over) e d ≡ back_of G e d
+  backs_routed over e = ap (λ table. at table d) (route_leaves_backs (after_line G (lines.Got x y)) y (number d) over e)
+
+  pub now_routed : (over : Enclave) → route_of (routed over) y.0 d ≡ Some over
+  now_routed over = row_here laws.row (routes_of G) (routes_of (routed over)) y.0 d over (route_puts (after_line G (lines.Got x y)) y (number d) over)
+
+  routes_routed : (over : Enclave) → IsToward (parent_of G) G.born y.0 d over.0 → (e : ℕ) (z : Enclave) → route_of (routed over) e d ≡ Some z
+      → IsRoute (parent_of G) G.born d (Admitting h y.0 over.0) e z.0
+  routes_routed over toward e z is =
+      let nearer = laws.tree.nearer (parent_of G) G.born y.0 d over.0 rooted toward in
+      elim (row_cases laws.row (routes_of G) (routes_of (routed over)) y.0 d over (route_puts (after_line G (lines.Got x y)) y (number d) over) e z is) [
+        | inl there ↦ rw (there.0, ap (λ (w : Enclave). w.0) (sym there.1)) (record { toward = toward; may = omega (arith, nearer) })
+        | inr there ↦
+            let was = staged.routes e z there in
+            let may = was.may in
+            record { toward = was.toward; may = omega (arith, may, nearer) }
+      ]
+
+  -- and the admit is passed on over it
   pub passed_over : (over : Enclave) → back_of G y.0 d ≡ Some over
-      → IsStaged (parent_of G) G.born
-      (after_line (after_line (after_line G (lines.Got x y)) (lines.Route y (number d) over)) (lines.Sent y over (admit_of (number h) (number d)))) d
-      (Admitting h y.0 over.0)
+      → IsStaged (parent_of G) G.born (after_line (routed over) (lines.Sent y over (admit_of (number h) (number d)))) d (Admitting h y.0 over.0)
   passed_over over found =
       let P = parent_of G in
       let at = staged.at in
       let back = staged.backs y.0 over found in
-      let toward = back.toward in
-      let nearer = laws.tree.nearer P G.born y.0 d over.0 rooted toward in
+      let nearer = laws.tree.nearer P G.born y.0 d over.0 rooted back.toward in
+      let later = back_of (after_line (routed over) (lines.Sent y over (admit_of (number h) (number d)))) in
+      let way = (route_leaves (after_line G (lines.Got x y)) y (number d) over).way d in
       record {
-        flight = λ a b. one_sent (after_line (after_line G (lines.Got x y)) (lines.Route y (number d) over)) y over (admit_of (number h) (number d)) d a b
-            still_bounded (eq-eqb d d refl) (got_admit a b);
-        backs = λ e z is. let was = staged.backs e z is in record { toward = was.toward; leads = was.leads; may = tt };
-        routes = λ e z is. elim (row_cases laws.row G.routes y.0 d over e z is) [
-          | inl there ↦ rw (there.0, ap (λ (w : Enclave). w.0) (sym there.1)) (record { toward = toward; may = omega (arith, nearer) })
-          | inr there ↦
-              let was = staged.routes e z there in
-              let may = was.may in
-              record { toward = was.toward; may = omega (arith, may, nearer) }
-        ];
+        flight = λ a b. one_sent (routed over) y over (admit_of (number h) (number d)) d a b still_bounded (eq-eqb d d refl) (got_admit a b);
+        backs = λ e z is.
+            let was = staged.backs e z (sym (backs_routed over e) ∙ is) in
+            record { toward = was.toward; leads = answers_stay (back_of G) later d z.0 (backs_routed over) was.leads; may = tt };
+        routes = routes_routed over back.toward;
         at = record {
           from = at.from;
-          ahead = toward;
+          ahead = back.toward;
           nearer = omega (arith, nearer, at.nearer);
-          answers = back.leads;
-          known = at.known;
+          answers = answers_stay (back_of G) later d over.0 (backs_routed over) back.leads;
+          known = ap (λ way. holds G d || is_some way) way ∙ at.known;
           waits = at.waits;
         };
       }
@@ -151,5 +168,5 @@ admit_handled laws G x y d h rs led tree bounded staged flight last =
         (record {
           registered = record { stage = Admitting h y.0 over.0; is = passed_over laws G x y d h rs rooted bounded staged flight last over found.is };
           before = rw (ne_eqb d y.0 apart) none;
-          after = rw (ne_eqb d y.0 apart) (ap is_some (row_here laws.row G.routes y.0 d over));
+          after = rw (ne_eqb d y.0 apart) (ap is_some (now_routed laws G x y d h rs rooted bounded staged flight last over));
         })

@@ -1,10 +1,10 @@
 -- What the receiver of a record makes of it, by who asks and who knows.
-use Rattle.std.proofs.Common.{◌≡◌, ◌≢◌, ◌+◌, ◌-◌, ◌<◌, ◌≤◌, ℕ, zero, suc, List, [], ◌∷◌, Bool, true, false, cond, not, ◌&&◌, ◌||◌, eqb, leb, drop, length, map, inl, inr, is_some, Option, None, Some, refl, sym, ap, ◌∙◌, subst, arith}
-use Rattle.std.specs.Prelude.{◌++◌, ◌⊎◌}
+use Rattle.std.proofs.Common.{◌≡◌, ◌+◌, ◌<◌, ◌≤◌, ℕ, List, [], ◌∷◌, Bool, true, false, cond, ◌&&◌, ◌||◌, eqb, inl, inr, is_some, Option, None, Some, refl, sym, ap, ◌∙◌, subst, arith}
+use Rattle.std.specs.Prelude.{◌++◌}
 use Rattle.std.specs.Cmp.{unsigned_tied}
-use Rattle.std.specs.List.{AllByRecursion, list_any}
+use Rattle.std.specs.List.{list_any}
 use Rattle.std.specs.Option.{option_map_or}
-use Rattle.std.proofs.lemmas.Bool.{eqb-true, eqb-false, eq-eqb, ne_eqb, ltb-true, and_parts, or_cases, or_left, or_right}
+use Rattle.std.proofs.lemmas.Bool.{eqb-true, eqb-false, eq-eqb, ltb-true, or_left, or_right}
 use Rattle.xm_num.specs.declared.Enclave.{Enclave}
 use Rattle.xm_num.specs.Rows.{at, less, IsAscending}
 use Rattle.xm_num.specs.RowLaws.{RowLaws}
@@ -13,21 +13,20 @@ use Rattle.xemem_language.specs.declared.record.Body.{Body}
 use Rattle.xemem_language.specs.declared.record.Body.TheVariants as bodies
 use Rattle.xemem_language.specs.declared.line.Line.{Line}
 use Rattle.xemem_language.specs.declared.line.Line.TheVariants as lines
-use Rattle.enclave_rules.specs.View.{View, place_among}
-use Rattle.enclave_rules.specs.Steps.{knows_way, knows_dead, is_stray, here_of, register_of, admit_of, drop_lines, query_lines, told_askers, here_lines, passed_lines, register_lines, admit_over, admit_to, body_lines, record_lines}
+use Rattle.enclave_rules.specs.View.{View}
+use Rattle.enclave_rules.specs.Steps.{knows_way, knows_dead, is_stray, here_of, register_of, admit_of, drop_lines, told_askers, passed_lines, register_lines, admit_over, admit_to, body_lines, record_lines}
 use Rattle.global_model.specs.Facts.{Facts, EnclaveFact, after_line, after_lines, fact_of, is_holder}
-use Rattle.global_model.specs.Channels.{arriving, is_neighbour, size_of, whole_records}
+use Rattle.global_model.specs.Channels.{is_neighbour}
 use Rattle.global_model.specs.Flow.{IsTree}
-use Rattle.global_model.specs.Pauses.{IsPause, MayHandle}
-use Rattle.global_model.specs.Tree.{IsRooted, IsToward, parent_of}
+use Rattle.global_model.specs.Tree.{IsToward, parent_of}
 use Rattle.global_model.specs.Views.{view_of}
 use Rattle.discovery_laws.specs.Known.{askers_of, holds, in_flight, knows, way_of}
 use Rattle.discovery_laws.specs.Laws.{PastLaws, TreeLaws}
-use Rattle.discovery_laws.proofs.Flights.{one_if, count, add, add-here}
-use Rattle.discovery_laws.proofs.Asking.{is_query, is_here, is_query_body, is_here_body, place, one_place, remembers, heres_flying, number_has, IsCounted, counted_sent, counted_got, counted_way, counted_asked}
-use Rattle.discovery_laws.proofs.Knowing.{IsOwn, IsKnown, known_sent, known_got, known_asked, known_way, way_knows, way_learned}
-use Rattle.discovery_laws.proofs.Newborn.{near_born, near_turned, near_apart}
-use Rattle.discovery_laws.proofs.Calm.{counted_knowing, counted_owed, IsAsking, IsCalm, AreCalm, calm_line, calm_lines, asking_sent}
+use Rattle.discovery_laws.proofs.Flights.{one_if, count, add}
+use Rattle.discovery_laws.proofs.Asking.{is_query, is_here, is_query_body, is_here_body, place, one_place, remembers, heres_flying, IsCounted, counted_sent, counted_got, counted_way, counted_asked}
+use Rattle.discovery_laws.proofs.Knowing.{known_sent, known_got, known_asked, known_way, way_knows, way_learned}
+use Rattle.discovery_laws.proofs.Newborn.{near_born, near_turned}
+use Rattle.discovery_laws.proofs.Calm.{counted_knowing, counted_owed, IsAsking, AreCalm, calm_line, calm_lines}
 
 -- ---- strays
 
@@ -64,8 +63,11 @@ calm_passed v from None r calm = (tt, tt)
 calm_passed v from (Some over) r calm = calm_either (eqb over.0 from.0) (drop_lines v) (lines.Sent v.me over r ∷ []) (tt, tt) (calm, tt)
 
 calm_register : (v : View) (from : Enclave) (r : Record) → (is_query r || is_here r) ≡ false → AreCalm (register_lines v from r)
-calm_register v from r calm = (tt, calm_either v.holder (lines.Route v.me r.origin from ∷ lines.Sent v.me from (admit_of v.me r.origin) ∷ [])
-    (passed_lines v from v.way r) (tt, (refl, tt)) (calm_passed v from v.way r calm))
+calm_register v from r calm = (
+  tt,
+  calm_either v.holder (lines.Route v.me r.origin from ∷ lines.Sent v.me from (admit_of v.me r.origin) ∷ [])
+      (passed_lines v from v.way r) (tt, (refl, tt)) (calm_passed v from v.way r calm),
+)
 
 calm_over : (v : View) (from d : Enclave) (r : Record) (over : Option Enclave) → (is_query r || is_here r) ≡ false → AreCalm (admit_over v from d r over)
 calm_over v from d r None calm = (tt, tt)
@@ -233,9 +235,9 @@ module _ (laws : TreeLaws) (G : Facts) (x y : Enclave) (tree : IsTree G) (near :
   pub over_neighbour : knows G x.0 ≡ true → knows G y.0 ≡ false → (h : ℕ) → holds G h ≡ true → IsToward (parent_of G) G.born y.0 h x.0
   over_neighbour knowing unknowing h is = elim (laws.sides (parent_of G) G.born x.0 y.0 h old.rooted (laws.near G x.0 y.0 near)
       (near_born G x.0 y.0 tree near) (near_born G y.0 x.0 tree (near_turned G x.0 y.0 near)) (holder_born G h tree is)) [
-    | inl away ↦ absurd (back away (way_of G x.0) refl)
-    | inr there ↦ there
-  ]
+        | inl away ↦ absurd (back away (way_of G x.0) refl)
+        | inr there ↦ there
+      ]
     where
       back : IsToward (parent_of G) G.born x.0 h y.0 → (o : Option Enclave) → way_of G x.0 ≡ o → ⊥
       back away None none =

@@ -1,40 +1,33 @@
 -- Each step leaves who asks for the way and who knows it as they are to be.
-use Rattle.std.proofs.Common.{◌≡◌, ◌≢◌, ◌+◌, ◌<◌, ◌≤◌, ℕ, List, [], ◌∷◌, Bool, true, false, cond, not, ◌&&◌, ◌||◌, eqb, drop, is_some, Option, None, Some, refl, sym, ap, ◌∙◌, subst, arith, append-nil}
-use Rattle.std.specs.Prelude.{◌++◌, map}
+use Rattle.std.proofs.Common.{◌≡◌, ◌+◌, ◌≤◌, ℕ, List, [], ◌∷◌, Bool, true, false, cond, not, ◌&&◌, ◌||◌, eqb, is_some, Some, refl, sym, ap, ◌∙◌, subst, arith}
+use Rattle.std.specs.Prelude.{◌++◌}
 use Rattle.std.proofs.lemmas.Bool.{ne_eqb, or_right}
 use Rattle.xm_num.specs.declared.Enclave.{Enclave}
-use Rattle.xm_num.specs.declared.Kind.{Kind}
-use Rattle.xm_num.specs.declared.Kind.TheVariants as kinds
-use Rattle.xm_num.specs.declared.Block.{Block}
 use Rattle.xemem_language.specs.declared.record.Record.{Record}
 use Rattle.xemem_language.specs.declared.record.Body.{Body}
 use Rattle.xemem_language.specs.declared.record.Body.TheVariants as bodies
-use Rattle.xemem_language.specs.declared.line.Line.{Line}
 use Rattle.xemem_language.specs.declared.line.Line.TheVariants as lines
-use Rattle.enclave_rules.specs.View.{View, host, place_among}
+use Rattle.enclave_rules.specs.View.{View, place_among}
 use Rattle.xm_num.specs.Rows.{less}
-use Rattle.enclave_rules.specs.Steps.{knows_way, is_stray, query_of, drop_lines, here_of, register_of, told_lines, child_lines, adopt_lines, birth_lines, host_lines, query_lines, here_lines, told_askers, body_lines, record_lines}
-use Rattle.global_model.specs.Facts.{Facts, after_line, after_lines, facts_after, no_facts}
+use Rattle.enclave_rules.specs.Steps.{is_stray, drop_lines, here_of, register_of, told_askers, body_lines, record_lines}
+use Rattle.global_model.specs.Facts.{Facts, after_line, after_lines, no_facts}
 use Rattle.global_model.specs.Channels.{is_neighbour}
 use Rattle.global_model.specs.Flow.{IsTree}
-use Rattle.global_model.specs.Pauses.{Step, Written, Hosts, Bears, Takes, Handles, written_by, written_in, AreSteps, MayBear, MayCome, MayHandle, IsPause}
+use Rattle.global_model.specs.Pauses.{Step, Written, Hosts, Bears, Takes, Handles, written_by, MayCome, IsPause}
 use Rattle.global_model.specs.Tree.{parent_of}
-use Rattle.xemem_language.specs.declared.command.Command.{Command}
-use Rattle.global_model.specs.Place.{IsPlaced}
-use Rattle.global_model.specs.Due.{journal_of}
 use Rattle.discovery_laws.proofs.Led.{IsLed}
 use Rattle.global_model.specs.Views.{view_of}
 use Rattle.discovery_laws.specs.Known.{holds, in_flight, knows, way_of}
 use Rattle.discovery_laws.specs.Laws.{Laws}
 use Rattle.discovery_laws.specs.Ways.{LeadsToHolder}
-use Rattle.discovery_laws.proofs.Flights.{one_if, count, add, sent_more}
+use Rattle.discovery_laws.proofs.Flights.{one_if}
 use Rattle.discovery_laws.proofs.Asking.{is_query, is_here, is_query_body, is_here_body, none_ascends, place, remembers, queries_flying, heres_flying}
-use Rattle.discovery_laws.proofs.Knowing.{IsOwn, IsKnown, known_sent}
+use Rattle.discovery_laws.proofs.Knowing.{IsOwn}
 use Rattle.discovery_laws.proofs.Newborn.{near_apart}
 use Rattle.discovery_laws.proofs.Boots.{asked_host, asked_boot}
-use Rattle.discovery_laws.proofs.Calm.{IsAsking, AreCalm, calm_alone, calm_line, calm_lines}
+use Rattle.discovery_laws.proofs.Calm.{IsAsking, calm_alone, calm_line}
 use Rattle.discovery_laws.proofs.Underway.{first_has, next_flight}
-use Rattle.discovery_laws.proofs.Answered.{none_owed, got, stray_is, knows_way_is, calm_record, handles_calm, handles_query, handles_here}
+use Rattle.discovery_laws.proofs.Answered.{none_owed, stray_is, knows_way_is, calm_record, handles_calm, handles_query, handles_here}
 
 -- at a pause no answer is owed
 abbrev pub IsAsked : Facts → Type 0

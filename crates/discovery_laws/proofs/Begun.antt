@@ -1,8 +1,8 @@
 -- An enclave that knows no way hears of one, and registers over it.
-use Rattle.std.proofs.Common.{◌≡◌, ◌≢◌, ◌⊎◌, ◌+◌, ◌<◌, ◌≤◌, ℕ, List, [], ◌∷◌, ◌++◌, filter, Bool, true, false, cond, ◌&&◌, ◌||◌, eqb, Option, None, Some, is_some, inl, inr, refl, sym, ap, ◌∙◌, subst, arith}
-use Rattle.std.proofs.lemmas.Bool.{cases_Bool, cases_eq, eqb-true, eq-eqb, ne_eqb, and_parts, or_cases, or_right}
+use Rattle.std.proofs.Common.{◌≡◌, ℕ, List, [], ◌∷◌, ◌++◌, true, false, Some, is_some, inl, refl, sym, ap, ◌∙◌, subst, arith}
+use Rattle.std.proofs.lemmas.Bool.{eq-eqb, or_right}
 use Rattle.xm_num.specs.declared.Enclave.{Enclave}
-use Rattle.xm_num.specs.Rows.{at, less, put}
+use Rattle.xm_num.specs.Rows.{at, less}
 use Rattle.xemem_language.specs.declared.record.Record.{Record}
 use Rattle.xemem_language.specs.declared.record.Body.TheVariants as bodies
 use Rattle.xemem_language.specs.declared.line.Line.{Line}
@@ -10,15 +10,17 @@ use Rattle.xemem_language.specs.declared.line.Line.TheVariants as lines
 use Rattle.enclave_rules.specs.View.{View, place_among}
 use Rattle.enclave_rules.specs.Steps.{body_lines, here_lines, here_of, is_stray, knows_way, record_lines, register_of, told_askers}
 use Rattle.global_model.specs.Facts.{Facts, after_line, after_lines}
-use Rattle.global_model.specs.Tree.{AreNear, IsRooted, IsToward, distance, hop, parent_of}
+use Rattle.global_model.specs.Tree.{IsRooted, IsToward, parent_of}
 use Rattle.global_model.specs.Views.{view_of}
 use Rattle.discovery_laws.specs.Known.{back_of, holds, in_flight, is_admitted_at, knows, route_of, way_of}
 use Rattle.discovery_laws.specs.Laws.{Laws}
-use Rattle.discovery_laws.proofs.Underway.{IsBounded, IsNextOf, bounded_got}
-use Rattle.discovery_laws.proofs.Stages.{Stage, Silent, Registering, Admitting, Ready, Answers, MayAnswer, IsBack, IsRoute, IsRegistering, IsAdmitting, IsReady, IsRegistered, IsSilent, IsStaged, about_in, alone_at, is_about, is_about_by, number, under_way}
+use Rattle.discovery_laws.proofs.Answered.{knows_way_is}
+use Rattle.discovery_laws.proofs.Effects.{way_learns, way_leaves}
+use Rattle.discovery_laws.proofs.Underway.{IsBounded, bounded_got}
+use Rattle.discovery_laws.proofs.Stages.{Stage, Silent, Registering, Admitting, Ready, IsRegistered, IsStaged, about_in, is_about, is_about_by}
 use Rattle.discovery_laws.proofs.Unmoved.{AreAside, IsUnmoved, AreUnmoved, unmoved_lines}
-use Rattle.discovery_laws.proofs.Received.{aside_told, unmoved_got}
-use Rattle.discovery_laws.proofs.Moves.{no_stray, none_left, one_sent, row_cases, row_here, row_more, view_admitted, view_holder, IsThere, is_there}
+use Rattle.discovery_laws.proofs.Received.{unmoved_got}
+use Rattle.discovery_laws.proofs.Moves.{one_sent}
 use Rattle.discovery_laws.proofs.Led.{IsLed}
 use Rattle.discovery_laws.proofs.Registers.{record_is, turned_home}
 
@@ -90,7 +92,12 @@ tell_aside v [] d = tt
 tell_aside v (row ∷ askers) d = (refl, tell_aside v askers d)
 
 fresh_way : (G : Facts) (e over : Enclave) (d : ℕ) → IsFresh G d → IsFresh (after_line G (lines.Way e over)) d
-fresh_way G e over d fresh = record { flight = fresh.flight; backs = fresh.backs; routes = fresh.routes; waits = fresh.waits }
+fresh_way G e over d fresh = record {
+  flight = fresh.flight;
+  backs = λ a x is. fresh.backs a x (ap (λ table. at table d) (sym ((way_leaves G e over).backs a)) ∙ is);
+  routes = λ a x is. fresh.routes a x (ap (λ table. at table d) (sym ((way_leaves G e over).routes a)) ∙ is);
+  waits = fresh.waits;
+}
 
 -- all that is written for the here, told askers and all
 begins : Laws → (G : Facts) (v : View) (d x : Enclave) (askers : List (ℕ × Enclave)) → IsBounded G → IsFresh G d.0
@@ -109,7 +116,7 @@ begins laws G v d x askers bounded fresh = subst P (sym (laws.past.after G2 (tol
         let told : AreUnmoved (after_line G (lines.Way d x)) (after_lines (after_line G (lines.Way d x)) (told_askers v askers)) d.0
         = unmoved_lines laws.row (after_line G (lines.Way d x)) (told_askers v askers) d.0 bounded (tell_aside v askers d.0) in
         let K = after_lines (after_line G (lines.Way d x)) (told_askers v askers) in
-        let way : way_of K d.0 ≡ Some x = told_way (after_line G (lines.Way d x)) v askers d.0 ∙ rw (eq-eqb d.0 d.0 refl) refl in
+        let way : way_of K d.0 ≡ Some x = told_way (after_line G (lines.Way d x)) v askers d.0 ∙ way_learns G d x d.0 ∙ rw (eq-eqb d.0 d.0 refl) refl in
         let held = led.held d.0 x way in
         let known : knows K d.0 ≡ true = or_right (holds K d.0) (is_some (way_of K d.0)) (ap is_some way) in
         record {
@@ -132,7 +139,7 @@ here_handled laws G x y r rs stage bounded staged flight body apt none = subst P
         → IsRegistered (parent_of (after_lines G (lines.Got x y ∷ ls))) (after_lines G (lines.Got x y ∷ ls)).born (after_lines G (lines.Got x y ∷ ls)) y.0
 
     unknown : knows_way (view_of G y) ≡ false
-    unknown = ap (λ t. t || is_some (G.way y.0)) (view_holder (G.enclave y.0)) ∙ none
+    unknown = knows_way_is G y ∙ none
 
     lines_are : record_lines (view_of G y) x r
         ≡ lines.Way y x ∷ told_askers (view_of G y) (less (view_of G y).askers (place_among (view_of G y).parent x)) ++ lines.Sent y x (register_of y) ∷ []

@@ -1,26 +1,24 @@
 -- A birth with all that follows it: the child asks its parent for the way, unless it has the name server, and the parent asks the
 -- child, unless it knows the way.
-use Rattle.std.proofs.Common.{◌≡◌, ◌≢◌, ◌+◌, ◌<◌, ◌≤◌, ℕ, List, [], ◌∷◌, Bool, true, false, cond, not, ◌&&◌, ◌||◌, eqb, drop, is_some, Option, None, Some, refl, sym, ap, ◌∙◌, subst, arith}
+use Rattle.std.proofs.Common.{◌≡◌, ◌≢◌, ◌+◌, ◌<◌, ◌≤◌, ℕ, List, [], ◌∷◌, Bool, true, false, cond, not, ◌&&◌, eqb, refl, sym, ap, ◌∙◌, subst, arith}
 use Rattle.std.specs.Prelude.{◌++◌}
-use Rattle.std.proofs.lemmas.Bool.{eqb-true, eqb-false, eq-eqb, ne_eqb, and_parts, ltb-true}
+use Rattle.std.proofs.lemmas.Bool.{eqb-true, ne_eqb, ltb-true}
 use Rattle.xm_num.specs.declared.Enclave.{Enclave}
 use Rattle.xm_num.specs.declared.Kind.{Kind}
 use Rattle.xm_num.specs.declared.Kind.TheVariants as kinds
 use Rattle.xm_num.specs.declared.Block.{Block}
-use Rattle.xemem_language.specs.declared.line.Line.{Line}
 use Rattle.xemem_language.specs.declared.line.Line.TheVariants as lines
-use Rattle.enclave_rules.specs.View.{View, host}
-use Rattle.enclave_rules.specs.Steps.{knows_way, query_of, child_lines, adopt_lines, birth_lines, host_lines}
+use Rattle.enclave_rules.specs.View.{host}
+use Rattle.enclave_rules.specs.Steps.{query_of, child_lines, adopt_lines, birth_lines, host_lines}
 use Rattle.global_model.specs.Facts.{Facts, after_line, after_lines}
-use Rattle.global_model.specs.Channels.{is_neighbour}
 use Rattle.global_model.specs.Pauses.{MayBear, MayHost, IsPause}
 use Rattle.global_model.specs.Tree.{IsRooted, parent_of}
 use Rattle.global_model.specs.Views.{view_of}
 use Rattle.discovery_laws.specs.Known.{knows}
 use Rattle.discovery_laws.specs.Laws.{Laws}
 use Rattle.discovery_laws.proofs.Flights.{one_if, count, add, add-here, sent_more}
-use Rattle.discovery_laws.proofs.Asking.{is_query, queries_sent, number_has, IsCounted, counted_sent}
-use Rattle.discovery_laws.proofs.Knowing.{IsKnown, known_sent}
+use Rattle.discovery_laws.proofs.Asking.{is_query, queries_sent, counted_sent}
+use Rattle.discovery_laws.proofs.Knowing.{known_sent}
 use Rattle.discovery_laws.proofs.Newborn.{born, far_down, far_up, known_born, counted_born}
 use Rattle.discovery_laws.proofs.Calm.{counted_owed, IsAsking, AreCalm, calm_line, calm_lines}
 use Rattle.discovery_laws.proofs.Answered.{none_owed, holder_born, knows_way_is}

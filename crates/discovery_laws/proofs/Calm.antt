@@ -1,22 +1,20 @@
 -- What holds in the middle of a step of who asks and who knows, and lines that leave it as it is.
-use Rattle.std.proofs.Common.{◌≡◌, ◌+◌, ◌<◌, ◌≤◌, ℕ, List, [], ◌∷◌, Bool, true, false, cond, not, ◌&&◌, ◌||◌, eqb, drop, length, is_some, Option, None, Some, refl, sym, ap, ◌∙◌, subst, arith}
-use Rattle.std.specs.Prelude.{◌++◌}
+use Rattle.std.proofs.Common.{◌≡◌, ◌≤◌, ℕ, List, [], ◌∷◌, Bool, true, false, not, ◌&&◌, ◌||◌, eqb, refl, sym, ap, ◌∙◌, arith}
 use Rattle.std.specs.List.{AllByRecursion}
-use Rattle.std.proofs.lemmas.Bool.{eqb-true}
 use Rattle.xemem_language.specs.declared.command.Command.TheVariants as commands
 use Rattle.xemem_language.specs.declared.line.Line.{Line}
 use Rattle.xemem_language.specs.declared.line.Line.TheVariants as lines
 use Rattle.xm_num.specs.declared.Enclave.{Enclave}
 use Rattle.xemem_language.specs.declared.record.Record.{Record}
-use Rattle.global_model.specs.Facts.{Facts, EnclaveFact, after_line, after_lines, as_admitted, fact_of, has_parent, is_holder, with_taken}
-use Rattle.global_model.specs.Channels.{is_child_of, is_neighbour}
+use Rattle.global_model.specs.Facts.{Facts, after_line, after_lines, fact_of, has_parent, is_holder, with_taken}
+use Rattle.global_model.specs.Channels.{is_child_of}
 use Rattle.global_model.specs.Pauses.{MayStandAlone}
 use Rattle.global_model.specs.Tree.{IsRooted, parent_of}
-use Rattle.discovery_laws.specs.Known.{holds, knows}
+use Rattle.discovery_laws.specs.Known.{knows}
 use Rattle.discovery_laws.specs.Laws.{TreeLaws}
 use Rattle.discovery_laws.proofs.Flights.{one_if, add, pair_has}
 use Rattle.discovery_laws.proofs.Effects.{kept_by, holder_kept, parent_kept, has_kept, LeavesWays, admitted_leaves, back_leaves, route_leaves}
-use Rattle.discovery_laws.proofs.Asking.{is_query, is_here, number_has, IsAlike, IsSame, same_knows, IsCounted, counted_same, counted_sent}
+use Rattle.discovery_laws.proofs.Asking.{is_query, is_here, IsAlike, IsSame, same_knows, IsCounted, counted_same, counted_sent}
 use Rattle.discovery_laws.proofs.Knowing.{IsKnown, known_same, known_sent}
 
 -- more may be about to know

@@ -1,41 +1,33 @@
 -- Along every journal the way is asked for and known, registrations are at their stages, and no record is got twice.
-use Rattle.std.proofs.Common.{◌≡◌, ◌≢◌, ◌⊎◌, ◌+◌, ◌<◌, ◌≤◌, ℕ, List, [], ◌∷◌, ◌++◌, filter, Bool, true, false, cond, ◌&&◌, ◌||◌, eqb, Option, None, Some, is_some, inl, inr, refl, sym, ap, ◌∙◌, subst, arith}
+use Rattle.std.proofs.Common.{◌≡◌, ℕ, List, [], ◌∷◌, ◌++◌, Bool, true, false, cond, eqb, Some, refl, sym, ap, ◌∙◌, subst, arith}
 use Rattle.std.specs.List.{AllByRecursion}
-use Rattle.std.proofs.lemmas.Bool.{cases_Bool, cases_eq, eqb-true, eq-eqb, ne_eqb, false_from_ne_true}
+use Rattle.std.proofs.lemmas.Bool.{eqb-true, false_from_ne_true}
 use Rattle.xm_num.specs.declared.Enclave.{Enclave}
 use Rattle.xm_num.specs.declared.Block.{Block}
 use Rattle.xm_num.specs.declared.Kind.{Kind}
 use Rattle.xm_num.specs.declared.Kind.TheVariants as kinds
-use Rattle.xemem_language.specs.declared.command.Command.{Command}
 use Rattle.xemem_language.specs.declared.record.Record.{Record}
 use Rattle.xemem_language.specs.declared.line.Line.{Line}
 use Rattle.xemem_language.specs.declared.line.Line.TheVariants as lines
 use Rattle.enclave_rules.specs.View.{View, host}
 use Rattle.enclave_rules.specs.Steps.{adopt_lines, child_lines, knows_way, query_of, record_lines, told_lines}
-use Rattle.global_model.specs.Due.{journal_of}
-use Rattle.global_model.specs.Facts.{Facts, after_line, after_lines, facts_after, facts_at, is_admitted, is_living_enclave, no_facts}
-use Rattle.global_model.specs.Flow.{IsFlowing, IsTree}
+use Rattle.global_model.specs.Facts.{Facts, after_line, after_lines, facts_at, is_admitted}
+use Rattle.global_model.specs.Flow.{IsTree}
 use Rattle.global_model.specs.Journals.{Follows, onto}
-use Rattle.global_model.specs.Pauses.{AreSteps, IsPause, MayCome, MayHandle, Step, Written, Hosts, Bears, Takes, Handles, written_by, written_in}
-use Rattle.global_model.specs.Place.{IsPlaced}
-use Rattle.global_model.specs.Rest.{IsAtRest}
-use Rattle.global_model.specs.Tree.{IsToward, parent_of}
+use Rattle.global_model.specs.Pauses.{IsPause, MayCome, MayHandle, Step, Written, Hosts, Bears, Takes, Handles, written_by}
 use Rattle.global_model.specs.Views.{view_of}
-use Rattle.discovery_laws.specs.Known.{back_of, holds, in_flight, is_admitted_at, knows, route_of}
+use Rattle.discovery_laws.specs.Known.{in_flight, is_admitted_at}
 use Rattle.discovery_laws.specs.Laws.{Laws}
-use Rattle.discovery_laws.specs.Once.{IsFirstNew, OnceAt, IsOnce, first_onto, is_alike, records_got}
+use Rattle.discovery_laws.specs.Once.{IsFirstNew, OnceAt, first_onto, is_alike, records_got}
 use Rattle.xemem_language.specs.Destinations.{destination_number}
 use Rattle.xemem_wire.specs.Table.{kind_of}
-use Rattle.discovery_laws.proofs.Underway.{IsNextOf, bounded_got, next_flight}
-use Rattle.discovery_laws.proofs.Asked.{IsAsked, asked_first, asked_led, asked_step}
+use Rattle.discovery_laws.proofs.Underway.{bounded_got, next_flight}
 use Rattle.discovery_laws.proofs.Joined.{IsJoined}
-use Rattle.discovery_laws.proofs.Led.{IsLed}
 use Rattle.discovery_laws.proofs.Marks.{IsKept, kept-trans, kept_got, kept_lines, mark, mark_kept}
-use Rattle.discovery_laws.proofs.Onces.{IsNew, alike_mark, new_record}
-use Rattle.discovery_laws.proofs.Pausing.{aside_alone, none_admitted, registered_step, unborn_enclave}
+use Rattle.discovery_laws.proofs.Onces.{alike_mark, new_record}
+use Rattle.discovery_laws.proofs.Pausing.{aside_alone, none_admitted, unborn_enclave}
 use Rattle.discovery_laws.proofs.Received.{inner_record}
 use Rattle.discovery_laws.proofs.Registrations.{pause_bounded}
-use Rattle.discovery_laws.proofs.Stages.{IsRegistered, IsStaged, Silent}
 use Rattle.discovery_laws.proofs.Unmoved.{AreInner, IsInner, inner_aside}
 
 -- ---- what a step leaves of what is kept
@@ -64,7 +56,11 @@ inner_birth child parent ns heard v =
 kept_born : (G : Facts) (child : Enclave) (kind : Kind) (parent : Enclave) (ns : Bool) (blocks : List Block) → IsTree G → child.0 ≡ G.born
     → IsKept G (after_line G (lines.Born child kind parent ns blocks))
 kept_born G child kind parent ns blocks tree next = record {
-  backs = λ a d is. is; routes = λ a d is. is; ready = λ e is. by e (eqb e child.0) refl is; got = λ test a b. omega arith }
+  backs = λ a d is. is;
+  routes = λ a d is. is;
+  ready = λ e is. by e (eqb e child.0) refl is;
+  got = λ test a b. omega arith;
+}
   where
     by : (e : ℕ) (t : Bool) → eqb e child.0 ≡ t → is_admitted_at G e ≡ true
         → is_admitted (cond t (Some (record { kind = kind; parent = parent; blocks = blocks; ns = ns; living = true; admitted = false })) (G.enclave e)) ≡ true
@@ -142,9 +138,12 @@ marked_kept G H y (r ∷ rs) kept all = (mark_kept G H y (kind_of r.body) r.orig
 -- a record of which nothing is kept is like none of them
 unlike : (G : Facts) (y : ℕ) (r : Record) (rs : List Record) → mark G y r ≡ false → AreMarked G y rs → AllByRecursion (λ q. is_alike r q ≡ false) rs
 unlike G y r [] none all = tt
-unlike G y r (q ∷ rs) none all = (false_from_ne_true (is_alike r q) (λ is.
-    let clash : false ≡ true = sym none ∙ alike_mark G y r q is ∙ all.0 in
-    cc), unlike G y r rs none all.1)
+unlike G y r (q ∷ rs) none all = (
+  false_from_ne_true (is_alike r q) (λ is.
+      let clash : false ≡ true = sym none ∙ alike_mark G y r q is ∙ all.0 in
+      cc),
+  unlike G y r rs none all.1,
+)
 
 -- ---- steps
 
@@ -174,8 +173,10 @@ goes_handled laws past x y r pause may old kept =
     let new = new_record laws G x y r pause may old.joined.asked old.joined.registered in
     let next = next_flight G x.0 y.0 r may.others may.next in
     record {
-      once = (subst (λ rs. IsFirstNew rs (records_got y.0 past)) (sym next.is) (unlike G y.0 r (records_got y.0 past) new.before (old.got y.0)),
-          once_lines own (lines.Got x y ∷ past) inner);
+      once = (
+        subst (λ rs. IsFirstNew rs (records_got y.0 past)) (sym next.is) (unlike G y.0 r (records_got y.0 past) new.before (old.got y.0)),
+        once_lines own (lines.Got x y ∷ past) inner,
+      );
       got = λ e. subst (AreMarked (after_lines G (lines.Got x y ∷ own)) e) (sym (same_got e own (lines.Got x y ∷ past) inner))
           (by e (eqb y.0 e) refl new.after next.is (marked_kept G (after_lines G (lines.Got x y ∷ own)) e (records_got e past) kept (old.got e)));
     }
@@ -187,5 +188,7 @@ goes_handled laws past x y r pause may old kept =
         → AreMarked (after_lines (facts_at past) (lines.Got x y ∷ record_lines (view_of (facts_at past) y) x r)) e
         (cond t (first_onto (in_flight (facts_at past) x.0 y.0) (records_got e past)) (records_got e past))
     by e true here new flight all = rw flight (
-        ap (λ n. mark (after_lines (facts_at past) (lines.Got x y ∷ record_lines (view_of (facts_at past) y) x r)) n r) (sym (eqb-true y.0 e here)) ∙ new, all)
+      ap (λ n. mark (after_lines (facts_at past) (lines.Got x y ∷ record_lines (view_of (facts_at past) y) x r)) n r) (sym (eqb-true y.0 e here)) ∙ new,
+      all,
+    )
     by e false other new flight all = all

@@ -1,12 +1,12 @@
 -- What lines change of what an enclave knows of ways and of who asked it.
-use Rattle.std.proofs.Common.{◌≡◌, ℕ, List, [], Bool, true, false, cond, eqb, Option, None, Some, refl, sym, subst}
+use Rattle.std.proofs.Common.{◌≡◌, ℕ, [], Bool, true, false, cond, eqb, Option, None, Some, refl, sym, subst}
 use Rattle.std.proofs.lemmas.Bool.{eqb-true}
 use Rattle.xm_num.specs.declared.Enclave.{Enclave}
 use Rattle.xm_num.specs.Rows.{put}
 use Rattle.xemem_language.specs.declared.line.Line.TheVariants as lines
 use Rattle.enclave_rules.specs.View.{place_among}
 use Rattle.global_model.specs.Facts.{EnclaveFact, Facts, after_line, as_admitted, fact_of, has_parent, is_holder}
-use Rattle.discovery_laws.specs.Known.{askers_of, way_of}
+use Rattle.discovery_laws.specs.Known.{askers_of, backs_of, routes_of, way_of}
 
 -- what holds of the new value at a number, and of all others as before
 pub number_at : {A : Type 0} (P : ℕ → A → Type 0) (k : ℕ) (v : A) (f g : ℕ → A) → ((j : ℕ) → g j ≡ cond (eqb j k) v (f j)) → (j : ℕ)
@@ -45,6 +45,33 @@ module _ (G : Facts) (e d over : Enclave) where
 
   pub admitted_leaves : LeavesWays G (after_line G (lines.Admitted e))
   admitted_leaves = record { way = λ a. refl; askers = λ a. refl }
+
+-- ---- ways back and routes
+
+-- both are left
+pub record LeavesRows (G H : Facts) : Type 0 where
+  pub backs : (e : ℕ) → backs_of H e ≡ backs_of G e
+  pub routes : (e : ℕ) → routes_of H e ≡ routes_of G e
+
+module _ (G : Facts) (e over : Enclave) where
+  pub way_leaves : LeavesRows G (after_line G (lines.Way e over))
+  way_leaves = record { backs = λ a. refl; routes = λ a. refl }
+
+  pub asked_leaves_rows : LeavesRows G (after_line G (lines.Asked e over))
+  asked_leaves_rows = record { backs = λ a. refl; routes = λ a. refl }
+
+module _ (G : Facts) (e of over : Enclave) (a : ℕ) where
+  pub back_puts : backs_of (after_line G (lines.Back e of over)) a ≡ cond (eqb a e.0) (put (backs_of G e.0) of.0 over) (backs_of G a)
+  back_puts = refl
+
+  pub back_leaves_routes : routes_of (after_line G (lines.Back e of over)) a ≡ routes_of G a
+  back_leaves_routes = refl
+
+  pub route_puts : routes_of (after_line G (lines.Route e of over)) a ≡ cond (eqb a e.0) (put (routes_of G e.0) of.0 over) (routes_of G a)
+  route_puts = refl
+
+  pub route_leaves_backs : backs_of (after_line G (lines.Route e of over)) a ≡ backs_of G a
+  route_leaves_backs = refl
 
 -- ---- an admission leaves the rest of an enclave's fact
 

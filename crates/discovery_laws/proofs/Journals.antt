@@ -1,25 +1,16 @@
 -- Along every journal discovery goes as it is to, and no record is got twice.
-use Rattle.std.proofs.Common.{◌≡◌, ◌≢◌, ◌⊎◌, ◌+◌, ◌<◌, ◌≤◌, ℕ, List, [], ◌∷◌, ◌++◌, filter, Bool, true, false, cond, ◌&&◌, ◌||◌, eqb, None, Some, inl, inr, refl, sym, ap, ◌∙◌, subst, arith}
-use Rattle.std.specs.List.{AllByRecursion}
-use Rattle.std.proofs.lemmas.Bool.{eq-eqb}
-use Rattle.xm_num.specs.declared.Enclave.{Enclave}
-use Rattle.xm_num.specs.Rows.{at}
+use Rattle.std.proofs.Common.{ℕ, List, [], ◌∷◌, ◌++◌, cond, sym, subst}
 use Rattle.xemem_language.specs.declared.command.Command.{Command}
-use Rattle.xemem_language.specs.declared.record.Record.{Record}
 use Rattle.xemem_language.specs.declared.line.Line.{Line}
 use Rattle.xemem_language.specs.declared.line.Line.TheVariants as lines
-use Rattle.enclave_rules.specs.Steps.{admit_of, adopt_lines, child_lines, told_lines, record_lines, register_of}
+use Rattle.enclave_rules.specs.Steps.{adopt_lines, child_lines, told_lines}
 use Rattle.enclave_rules.specs.View.{host}
 use Rattle.global_model.specs.Due.{journal_of}
-use Rattle.global_model.specs.Facts.{Facts, after_lines, facts_after, facts_at, is_living_enclave, no_facts}
-use Rattle.global_model.specs.Flow.{IsFlowing}
+use Rattle.global_model.specs.Facts.{Facts, after_lines, facts_after, facts_at}
 use Rattle.global_model.specs.Journals.{Follows, onto}
 use Rattle.global_model.specs.Pauses.{AreSteps, IsPause, MayCome, Step, Written, Hosts, Bears, Takes, Handles, written_by, written_in}
 use Rattle.global_model.specs.Place.{IsPlaced}
-use Rattle.global_model.specs.Rest.{IsAtRest}
-use Rattle.global_model.specs.Tree.{IsToward, parent_of}
 use Rattle.global_model.specs.Views.{view_of}
-use Rattle.discovery_laws.specs.Known.{back_of, in_flight, is_admitted_at, knows, route_of}
 use Rattle.discovery_laws.specs.Laws.{Laws}
 use Rattle.discovery_laws.specs.Once.{OnceAt, IsOnce, records_got}
 use Rattle.discovery_laws.proofs.Joined.{IsJoined, joined_first, joined_step}

@@ -1,18 +1,18 @@
 -- Who knows the way learned it of one that knows it, which is next on the path to the holder of the name server.
-use Rattle.std.proofs.Common.{◌≡◌, ◌≢◌, ◌+◌, ◌<◌, ◌≤◌, ℕ, List, [], ◌∷◌, Bool, true, false, cond, ◌&&◌, ◌||◌, eqb, drop, length, inl, inr, is_some, Option, None, Some, refl, sym, ap, ◌∙◌, subst, arith}
-use Rattle.std.specs.Prelude.{◌++◌, ◌⊎◌}
+use Rattle.std.proofs.Common.{◌≡◌, ◌≤◌, ℕ, List, [], ◌∷◌, Bool, true, false, ◌&&◌, ◌||◌, eqb, is_some, Option, Some, refl, sym, ap, ◌∙◌, subst, arith}
+use Rattle.std.specs.Prelude.{◌++◌}
 use Rattle.std.specs.List.{AllByRecursion}
-use Rattle.std.proofs.lemmas.Bool.{eqb-true, eqb-false, eq-eqb, ne_eqb, and_parts, or_cases, or_left, or_right}
+use Rattle.std.proofs.lemmas.Bool.{eqb-true, eqb-false, and_parts, or_right}
 use Rattle.xm_num.specs.declared.Enclave.{Enclave}
 use Rattle.xemem_language.specs.declared.record.Record.{Record}
 use Rattle.xemem_language.specs.declared.line.Line.TheVariants as lines
-use Rattle.global_model.specs.Facts.{Facts, after_line, at_number, with_sent}
+use Rattle.global_model.specs.Facts.{Facts, after_line, with_sent}
 use Rattle.global_model.specs.Tree.{IsRooted, IsToward, parent_of}
 use Rattle.discovery_laws.specs.Known.{holds, in_flight, knows, way_of}
 use Rattle.discovery_laws.specs.Laws.{TreeLaws}
 use Rattle.discovery_laws.proofs.Led.{IsHeld}
 use Rattle.discovery_laws.proofs.Underway.{IsBounded}
-use Rattle.discovery_laws.proofs.Flights.{one_if, count, add, pair_has, sent_more, flies_more, got_sent, flies_less}
+use Rattle.discovery_laws.proofs.Flights.{count, add, pair_has, flies_more, got_sent, flies_less}
 use Rattle.discovery_laws.proofs.Effects.{number_at, way_learns, asked_leaves}
 use Rattle.discovery_laws.proofs.Asking.{is_query, is_here, heres_flying, IsAlike, same_knows, same_flight}
 
@@ -93,7 +93,16 @@ known_got G x y r behind next old = record {
 
 pub known_asked : (laws : TreeLaws) (G : Facts) (y asker : Enclave) → IsRooted (parent_of G) → IsKnown G → IsKnown (after_line G (lines.Asked y asker))
 known_asked laws G y asker rooted old = known_same laws G (after_line G (lines.Asked y asker)) (record {
-  born = refl; server = refl; holds = λ e. refl; parent = λ e. refl; near = λ a b. refl; way = asked_leaves G y asker; heard = λ e. refl; sent = λ a b. refl; got = λ a b. refl }) rooted old
+  born = refl;
+  server = refl;
+  holds = λ e. refl;
+  parent = λ e. refl;
+  near = λ a b. refl;
+  way = asked_leaves G y asker;
+  heard = λ e. refl;
+  sent = λ a b. refl;
+  got = λ a b. refl;
+}) rooted old
 
 -- ---- the way is learned
 

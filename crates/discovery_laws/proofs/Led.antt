@@ -1,5 +1,5 @@
 -- What is known of the way to the name server at a pause, as the registrations need it.
-use Rattle.std.specs.Prelude.{◌≡◌, ℕ, List, [], true, Some}
+use Rattle.std.specs.Prelude.{◌≡◌, ℕ, [], true, Some}
 use Rattle.xm_num.specs.declared.Enclave.{Enclave}
 use Rattle.global_model.specs.Facts.{Facts}
 use Rattle.global_model.specs.Tree.{IsToward, parent_of}

@@ -1,7 +1,6 @@
 -- What an enclave keeps of a record that it got.
-use Rattle.std.proofs.Common.{◌≡◌, ◌≢◌, ◌⊎◌, ◌+◌, ◌<◌, ◌≤◌, ℕ, List, [], ◌∷◌, ◌++◌, zero, suc, length, take, drop, Bool, true, false, cond, leb, ◌&&◌, ◌||◌, eqb, Option, None, Some, is_some, inl, inr, refl, sym, ap, ◌∙◌, subst, arith, if◌then◌else◌}
-use Rattle.std.specs.List.{AllByRecursion}
-use Rattle.std.proofs.lemmas.Bool.{cases_Bool, cases_eq, eqb-true, eq-eqb, ne_eqb, and_parts, le-leb, leb-true}
+use Rattle.std.proofs.Common.{◌≡◌, ◌+◌, ◌≤◌, ℕ, List, [], ◌∷◌, ◌++◌, zero, suc, length, take, Bool, true, false, cond, leb, ◌&&◌, eqb, Option, None, Some, is_some, refl, sym, ap, ◌∙◌, arith, if◌then◌else◌}
+use Rattle.std.proofs.lemmas.Bool.{eqb-true, le-leb, leb-true}
 use Rattle.xm_num.specs.declared.Enclave.{Enclave}
 use Rattle.xm_num.specs.Rows.{at, put}
 use Rattle.xemem_language.specs.Destinations.{destination_number}
@@ -10,12 +9,12 @@ use Rattle.xemem_language.specs.declared.line.Line.{Line}
 use Rattle.xemem_language.specs.declared.line.Line.TheVariants as lines
 use Rattle.xemem_language.specs.declared.command.Command.TheVariants as commands
 use Rattle.xemem_wire.specs.Table.{kind_of}
-use Rattle.global_model.specs.Facts.{Facts, ChannelFact, EnclaveFact, after_line, after_lines, at_number, as_admitted, is_admitted, with_got, with_sent, with_taken}
-use Rattle.discovery_laws.specs.Known.{back_of, in_flight, is_admitted_at, route_of}
+use Rattle.global_model.specs.Facts.{Facts, ChannelFact, EnclaveFact, after_line, after_lines, as_admitted, is_admitted, with_got, with_sent, with_taken}
+use Rattle.discovery_laws.specs.Known.{backs_of, routes_of, back_of, is_admitted_at, route_of}
 use Rattle.discovery_laws.specs.Laws.{RowLaws}
+use Rattle.discovery_laws.proofs.Effects.{asked_leaves_rows, back_leaves_routes, back_puts, route_leaves_backs, route_puts, way_leaves}
 use Rattle.discovery_laws.proofs.Underway.{IsBounded}
-use Rattle.discovery_laws.proofs.Flights.{count, count-append}
-use Rattle.discovery_laws.proofs.Moves.{row_more}
+use Rattle.discovery_laws.proofs.Flights.{count}
 use Rattle.global_model.specs.Tree.{parent_of}
 use Rattle.discovery_laws.proofs.Stages.{IsRegistered}
 use Rattle.discovery_laws.proofs.Unmoved.{AreInner, IsInner, bounded_line}
@@ -108,9 +107,9 @@ ready_more G e a is = by (eqb a e.0) refl
     by false there = is
 
 -- a row that is there isn't lost when one is put
-some_row : RowLaws → (f : ℕ → List (ℕ × Enclave)) (e of : ℕ) (over : Enclave) (a d : ℕ) → is_some (at (f a) d) ≡ true
-    → is_some (at (at_number e (put (f e) of over) f a) d) ≡ true
-some_row rows f e of over a d is = by (eqb a e) refl
+some_row : RowLaws → (f g : ℕ → List (ℕ × Enclave)) (e of : ℕ) (over : Enclave) → ((a : ℕ) → g a ≡ cond (eqb a e) (put (f e) of over) (f a))
+    → (a d : ℕ) → is_some (at (f a) d) ≡ true → is_some (at (g a) d) ≡ true
+some_row rows f g e of over changed a d is = ap (λ table. is_some (at table d)) (changed a) ∙ by (eqb a e) refl
   where
     either : (t : Bool) (old : Option Enclave) → is_some old ≡ true → is_some (cond t (Some over) old) ≡ true
     either true old some = refl
@@ -120,16 +119,48 @@ some_row rows f e of over a d is = by (eqb a e) refl
     by true here = ap is_some (rows.ways (f e) of d over) ∙ either (eqb of d) (at (f e) d) (ap (λ n. is_some (at (f n) d)) (sym (eqb-true a e here)) ∙ is)
     by false there = is
 
+-- tables that are the same
+left_row : (f g : ℕ → List (ℕ × Enclave)) → ((a : ℕ) → g a ≡ f a) → (a d : ℕ) → is_some (at (f a) d) ≡ true → is_some (at (g a) d) ≡ true
+left_row f g same a d is = ap (λ table. is_some (at table d)) (same a) ∙ is
+
 -- counts of the same are the same
 same_got : (G : Facts) (test : Record → Bool) (a b : ℕ) → count test (got_of (G.channel a b)) ≤ count test (got_of (G.channel a b))
 same_got G test a b = omega arith
 
 pub kept_line : RowLaws → (G : Facts) (line : Line) → IsInner line → IsBounded G → IsKept G (after_line G line)
 kept_line rows G (lines.Born e kind parent ns blocks) inner bounded = absurd inner
-kept_line rows G (lines.Back e of over) inner bounded = record {
-  backs = λ a d is. some_row rows G.backs e.0 of.0 over a d is; routes = λ a d is. is; ready = λ a is. is; got = same_got G }
-kept_line rows G (lines.Route e of over) inner bounded = record {
-  backs = λ a d is. is; routes = λ a d is. some_row rows G.routes e.0 of.0 over a d is; ready = λ a is. is; got = same_got G }
+kept_line rows G (lines.Back e of over) inner bounded =
+    let H = after_line G (lines.Back e of over) in
+    record {
+      backs = some_row rows (backs_of G) (backs_of H) e.0 of.0 over (back_puts G e of over);
+      routes = left_row (routes_of G) (routes_of H) (back_leaves_routes G e of over);
+      ready = λ a is. is;
+      got = same_got G;
+    }
+kept_line rows G (lines.Route e of over) inner bounded =
+    let H = after_line G (lines.Route e of over) in
+    record {
+      backs = left_row (backs_of G) (backs_of H) (route_leaves_backs G e of over);
+      routes = some_row rows (routes_of G) (routes_of H) e.0 of.0 over (route_puts G e of over);
+      ready = λ a is. is;
+      got = same_got G;
+    }
+kept_line rows G (lines.Way e over) inner bounded =
+    let H = after_line G (lines.Way e over) in
+    record {
+      backs = left_row (backs_of G) (backs_of H) (way_leaves G e over).backs;
+      routes = left_row (routes_of G) (routes_of H) (way_leaves G e over).routes;
+      ready = λ a is. is;
+      got = same_got G;
+    }
+kept_line rows G (lines.Asked e over) inner bounded =
+    let H = after_line G (lines.Asked e over) in
+    record {
+      backs = left_row (backs_of G) (backs_of H) (asked_leaves_rows G e over).backs;
+      routes = left_row (routes_of G) (routes_of H) (asked_leaves_rows G e over).routes;
+      ready = λ a is. is;
+      got = same_got G;
+    }
 kept_line rows G (lines.Admitted e) inner bounded = record { backs = λ a d is. is; routes = λ a d is. is; ready = ready_more G e; got = same_got G }
 kept_line rows G (lines.Sent x y r) inner bounded = record {
   backs = λ a d is. is;

@@ -1,5 +1,5 @@
 -- A record of d leaves a channel and goes into another; and what a row of d changes.
-use Rattle.std.proofs.Common.{◌≡◌, ◌≢◌, ◌⊎◌, ◌+◌, ◌<◌, ◌≤◌, ℕ, List, [], ◌∷◌, ◌++◌, filter, Bool, true, false, cond, ◌&&◌, ◌||◌, eqb, Option, None, Some, is_some, inl, inr, refl, sym, ap, ◌∙◌, subst, arith}
+use Rattle.std.proofs.Common.{◌≡◌, ◌≢◌, ◌⊎◌, ℕ, List, [], ◌∷◌, filter, Bool, true, false, cond, ◌&&◌, eqb, Option, None, Some, is_some, inl, inr, refl, sym, ap, ◌∙◌}
 use Rattle.std.specs.List.{list_any}
 use Rattle.std.specs.Option.{option_map_or}
 use Rattle.std.proofs.lemmas.Bool.{eqb-true, eq-eqb, ne_eqb, and_parts}
@@ -7,9 +7,8 @@ use Rattle.xm_num.specs.declared.Enclave.{Enclave}
 use Rattle.xm_num.specs.Rows.{at, put}
 use Rattle.xemem_language.specs.declared.record.Record.{Record}
 use Rattle.xemem_language.specs.declared.line.Line.TheVariants as lines
-use Rattle.enclave_rules.specs.View.{View}
-use Rattle.enclave_rules.specs.Steps.{is_stray, knows_dead}
-use Rattle.global_model.specs.Facts.{Facts, EnclaveFact, after_line, at_number, fact_of, is_admitted, is_holder}
+use Rattle.enclave_rules.specs.Steps.{is_stray}
+use Rattle.global_model.specs.Facts.{Facts, EnclaveFact, after_line, fact_of, is_admitted, is_holder}
 use Rattle.global_model.specs.Views.{view_of}
 use Rattle.discovery_laws.specs.Known.{in_flight}
 use Rattle.discovery_laws.specs.Laws.{RowLaws}
@@ -60,28 +59,29 @@ one_sent G x y r d a b bounded about none = about_sent G x y r d a b bounded ∙
 
 -- ---- rows of d
 
--- the row is the new one, or an old one
-pub row_cases : RowLaws → (f : ℕ → List (ℕ × Enclave)) (e of : ℕ) (over : Enclave) (a : ℕ) (x : Enclave)
-    → at (at_number e (put (f e) of over) f a) of ≡ Some x → ((a ≡ e) × (over ≡ x)) ⊎ (at (f a) of ≡ Some x)
-row_cases rows f e of over a x = by (eqb a e) refl
-  where
-    by : (t : Bool) → eqb a e ≡ t → at (cond t (put (f e) of over) (f a)) of ≡ Some x → ((a ≡ e) × (over ≡ x)) ⊎ (at (f a) of ≡ Some x)
-    by true here is =
-        let new : at (put (f e) of over) of ≡ Some over = rows.ways (f e) of of over ∙ rw (eq-eqb of of refl) refl in
-        let both : Some over ≡ Some x = sym new ∙ is in
-        inl (eqb-true a e here, cc)
-    by false other is = inr is
+-- What a table of each enclave has at d once a row of d was put in the one of e: f are the tables before, and g those after.
+module _ (rows : RowLaws) (f g : ℕ → List (ℕ × Enclave)) (e d : ℕ) (over : Enclave)
+    (changed : (a : ℕ) → g a ≡ cond (eqb a e) (put (f e) d over) (f a)) where
+  new_row : at (put (f e) d over) d ≡ Some over
+  new_row = rows.ways (f e) d d over ∙ rw (eq-eqb d d refl) refl
 
-pub row_here : RowLaws → (f : ℕ → List (ℕ × Enclave)) (e of : ℕ) (over : Enclave) → at (at_number e (put (f e) of over) f e) of ≡ Some over
-row_here rows f e of over = rw (eq-eqb e e refl) (rows.ways (f e) of of over ∙ rw (eq-eqb of of refl) refl)
+  -- the row is the new one, or an old one
+  pub row_cases : (a : ℕ) (x : Enclave) → at (g a) d ≡ Some x → ((a ≡ e) × (over ≡ x)) ⊎ (at (f a) d ≡ Some x)
+  row_cases a x is = by (eqb a e) refl (ap (λ table. at table d) (sym (changed a)) ∙ is)
+    where
+      by : (t : Bool) → eqb a e ≡ t → at (cond t (put (f e) d over) (f a)) d ≡ Some x → ((a ≡ e) × (over ≡ x)) ⊎ (at (f a) d ≡ Some x)
+      by true here is = let both : Some over ≡ Some x = sym new_row ∙ is in inl (eqb-true a e here, cc)
+      by false other is = inr is
 
-pub row_more : RowLaws → (f : ℕ → List (ℕ × Enclave)) (e of : ℕ) (over : Enclave) (a : ℕ) → is_some (at (f a) of) ≡ true
-    → is_some (at (at_number e (put (f e) of over) f a) of) ≡ true
-row_more rows f e of over a some = by (eqb a e)
-  where
-    by : (t : Bool) → is_some (at (cond t (put (f e) of over) (f a)) of) ≡ true
-    by true = ap is_some (rows.ways (f e) of of over) ∙ rw (eq-eqb of of refl) refl
-    by false = some
+  pub row_here : at (g e) d ≡ Some over
+  row_here = ap (λ table. at table d) (changed e) ∙ rw (eq-eqb e e refl) new_row
+
+  pub row_more : (a : ℕ) → is_some (at (f a) d) ≡ true → is_some (at (g a) d) ≡ true
+  row_more a some = ap (λ table. is_some (at table d)) (changed a) ∙ by (eqb a e)
+    where
+      by : (t : Bool) → is_some (at (cond t (put (f e) d over) (f a)) d) ≡ true
+      by true = ap is_some new_row
+      by false = some
 
 -- ---- views
 

@@ -1,20 +1,20 @@
 -- What a birth leaves of who knows the way and who asks.
-use Rattle.std.proofs.Common.{◌≡◌, ◌≢◌, ◌+◌, ◌<◌, ◌≤◌, ℕ, List, [], ◌∷◌, Bool, true, false, cond, not, ◌&&◌, ◌||◌, eqb, ltb, drop, length, inl, inr, is_some, Option, None, Some, refl, sym, ap, ◌∙◌, subst, arith}
-use Rattle.std.specs.Prelude.{◌++◌, ◌⊎◌}
+use Rattle.std.proofs.Common.{◌≡◌, ◌≢◌, ◌+◌, ◌<◌, ◌≤◌, ℕ, List, Bool, true, false, not, ◌&&◌, ◌||◌, eqb, drop, inl, inr, is_some, Option, None, Some, refl, sym, ap, ◌∙◌, subst, arith}
+use Rattle.std.specs.Prelude.{◌⊎◌}
 use Rattle.std.proofs.lemmas.Bool.{eqb-true, eqb-false, eq-eqb, ne_eqb, le-ltb, ltb-true, and_parts, or_cases, or_left, or_right}
 use Rattle.xm_num.specs.declared.Enclave.{Enclave}
 use Rattle.xm_num.specs.declared.Kind.{Kind}
 use Rattle.xm_num.specs.declared.Block.{Block}
 use Rattle.xm_num.specs.Rows.{at}
 use Rattle.xemem_language.specs.declared.line.Line.TheVariants as lines
-use Rattle.global_model.specs.Facts.{Facts, EnclaveFact, ChannelFact, after_line, at_number, has_parent, is_holder, no_channel}
+use Rattle.global_model.specs.Facts.{Facts, EnclaveFact, after_line, has_parent, is_holder, no_channel}
 use Rattle.global_model.specs.Channels.{is_child_of, is_neighbour}
 use Rattle.global_model.specs.Flow.{AreWays, IsTree}
 use Rattle.global_model.specs.Tree.{IsRooted, IsToward, parent_of}
-use Rattle.discovery_laws.specs.Known.{askers_of, holds, in_flight, knows, way_of}
+use Rattle.discovery_laws.specs.Known.{askers_of, holds, knows, way_of}
 use Rattle.discovery_laws.specs.Laws.{TreeLaws}
 use Rattle.discovery_laws.proofs.Flights.{one_if, count, add}
-use Rattle.discovery_laws.proofs.Asking.{is_query, is_here, place, one_place, remembers, queries_sent, queries_flying, heres_sent, heres_flying, number_has, IsCounted}
+use Rattle.discovery_laws.proofs.Asking.{is_query, is_here, place, one_place, remembers, queries_flying, heres_sent, heres_flying, number_has, IsCounted}
 use Rattle.discovery_laws.proofs.Knowing.{IsKnown}
 use Rattle.discovery_laws.proofs.Led.{IsHeld}
 

@@ -1,38 +1,32 @@
 -- No record is got twice: what an enclave keeps of those that it got tells that the next one is new.
-use Rattle.std.proofs.Common.{◌≡◌, ◌≢◌, ◌⊎◌, ◌+◌, ◌<◌, ◌≤◌, ℕ, List, [], ◌∷◌, ◌++◌, zero, suc, length, take, drop, Bool, true, false, cond, leb, ◌&&◌, ◌||◌, eqb, Option, None, Some, is_some, inl, inr, refl, sym, ap, ◌∙◌, subst, arith}
-use Rattle.std.specs.List.{AllByRecursion}
+use Rattle.std.proofs.Common.{◌≡◌, ◌+◌, ◌≤◌, ℕ, List, [], ◌∷◌, zero, suc, take, drop, Bool, true, false, leb, ◌&&◌, ◌||◌, eqb, Option, None, Some, refl, sym, ap, ◌∙◌, arith}
 use Rattle.std.specs.Option.{option_map_or}
-use Rattle.std.proofs.lemmas.Bool.{cases_Bool, cases_eq, eqb-true, eqb-false, eq-eqb, ne_eqb, and_parts, le-leb, leb-true, false_from_ne_true}
+use Rattle.std.proofs.lemmas.Bool.{eqb-true, eq-eqb, and_parts, le-leb}
 use Rattle.xm_num.specs.declared.Enclave.{Enclave}
 use Rattle.xemem_language.specs.Destinations.{destination_number}
 use Rattle.xemem_language.specs.declared.record.Record.{Record}
 use Rattle.xemem_language.specs.declared.record.Body.{Body}
 use Rattle.xemem_language.specs.declared.record.Body.TheVariants as bodies
-use Rattle.xemem_language.specs.declared.line.Line.{Line}
 use Rattle.xemem_language.specs.declared.line.Line.TheVariants as lines
 use Rattle.xemem_wire.specs.Table.{kind_of, is_built, is_destination}
-use Rattle.xemem_wire.specs.Spelling.{is_valid, AreValid}
-use Rattle.enclave_rules.specs.View.{View}
+use Rattle.xemem_wire.specs.Spelling.{is_valid}
 use Rattle.enclave_rules.specs.Steps.{record_lines}
 use Rattle.global_model.specs.Facts.{Facts, after_line, after_lines}
-use Rattle.global_model.specs.Flow.{IsTree}
 use Rattle.global_model.specs.Pauses.{IsPause, MayHandle}
 use Rattle.global_model.specs.Tree.{parent_of}
 use Rattle.global_model.specs.Views.{view_of}
-use Rattle.discovery_laws.specs.Known.{back_of, in_flight, is_admitted_at, route_of}
+use Rattle.discovery_laws.specs.Known.{in_flight}
 use Rattle.discovery_laws.specs.Laws.{Laws}
 use Rattle.discovery_laws.specs.Once.{is_alike}
-use Rattle.discovery_laws.proofs.Underway.{IsBounded, IsNextOf, bounded_got, drop-more, first_has, next_flight}
-use Rattle.discovery_laws.proofs.Flights.{count, count-append, one_if}
+use Rattle.discovery_laws.proofs.Underway.{IsNextOf, bounded_got, drop-more, first_has, next_flight}
+use Rattle.discovery_laws.proofs.Flights.{count, one_if}
 use Rattle.discovery_laws.proofs.Asked.{IsAsked, asked_led}
 use Rattle.discovery_laws.proofs.Asking.{is_here, is_here_body, is_query, is_query_body}
 use Rattle.discovery_laws.proofs.Knowing.{IsOwn}
-use Rattle.discovery_laws.proofs.Led.{IsLed}
-use Rattle.discovery_laws.proofs.Marks.{IsKept, IsMoved, got_of, is_kind, kept_lines, mark, mark_kept, mark_of}
+use Rattle.discovery_laws.proofs.Marks.{got_of, is_kind, kept_lines, mark, mark_kept, mark_of}
 use Rattle.discovery_laws.proofs.Received.{inner_record}
 use Rattle.discovery_laws.proofs.Registrations.{moves, pause_bounded}
 use Rattle.discovery_laws.proofs.Stages.{IsRegistered, is_about, is_about_by}
-use Rattle.discovery_laws.proofs.Unmoved.{AreInner, inner_all}
 
 -- ---- records that are alike
 

@@ -1,30 +1,26 @@
 -- At every pause each enclave's registration is at a stage.
-use Rattle.std.proofs.Common.{◌≡◌, ◌≢◌, ◌⊎◌, ◌+◌, ◌<◌, ◌≤◌, ℕ, List, [], ◌∷◌, ◌++◌, Bool, true, false, cond, ◌||◌, eqb, Option, None, Some, is_some, inl, inr, refl, sym, ap, ◌∙◌, subst, arith, append-nil}
-use Rattle.std.proofs.lemmas.Bool.{cases_Bool, cases_eq, eqb-true, eq-eqb, ne_eqb, le-ltb, or_cases, or_left, or_right}
+use Rattle.std.proofs.Common.{◌≡◌, ◌≢◌, ◌≤◌, ℕ, List, [], ◌∷◌, ◌++◌, Bool, true, false, cond, ◌||◌, eqb, Option, None, Some, is_some, inl, inr, refl, sym, ap, ◌∙◌, subst, arith, append-nil}
+use Rattle.std.proofs.lemmas.Bool.{cases_eq, eqb-true, eq-eqb, ne_eqb, le-ltb, or_cases, or_left, or_right}
 use Rattle.xm_num.specs.declared.Enclave.{Enclave}
 use Rattle.xm_num.specs.declared.Block.{Block}
 use Rattle.xm_num.specs.declared.Kind.{Kind}
 use Rattle.xm_num.specs.declared.Kind.TheVariants as kinds
-use Rattle.xm_num.specs.Rows.{at}
-use Rattle.xemem_language.specs.declared.record.Record.{Record}
 use Rattle.xemem_language.specs.declared.line.Line.{Line}
 use Rattle.xemem_language.specs.declared.line.Line.TheVariants as lines
-use Rattle.xemem_language.specs.declared.command.Command.TheVariants as commands
 use Rattle.enclave_rules.specs.View.{View, host}
-use Rattle.enclave_rules.specs.Steps.{adopt_lines, birth_lines, child_lines, query_of, knows_way}
+use Rattle.enclave_rules.specs.Steps.{adopt_lines, birth_lines, query_of, knows_way}
 use Rattle.global_model.specs.Facts.{Facts, EnclaveFact, after_line, after_lines, as_admitted, is_admitted, is_holder}
-use Rattle.global_model.specs.Channels.{is_neighbour}
 use Rattle.global_model.specs.Flow.{IsTree}
-use Rattle.global_model.specs.Pauses.{IsPause, MayBear, MayCome, MayHost, MayStandAlone, Step, Written, Hosts, Bears, Takes, Handles, written_by}
+use Rattle.global_model.specs.Pauses.{IsPause, MayCome, MayStandAlone, Step, Written, Hosts, Bears, Takes, Handles, written_by}
 use Rattle.global_model.specs.Tree.{IsRooted, parent_of}
 use Rattle.global_model.specs.Views.{view_of}
 use Rattle.discovery_laws.specs.Known.{back_of, holds, is_admitted_at, knows, route_of, way_of}
 use Rattle.discovery_laws.specs.Laws.{Laws}
 use Rattle.discovery_laws.proofs.Underway.{IsBounded}
-use Rattle.discovery_laws.proofs.Stages.{Stage, Silent, Registering, Admitting, Ready, IsRegistered, IsSilent, IsStaged, about_in}
+use Rattle.discovery_laws.proofs.Stages.{Stage, Silent, Registering, Admitting, Ready, IsRegistered, IsStaged, about_in}
 use Rattle.discovery_laws.proofs.Unmoved.{holds_admitted, AreAside, IsAside, IsUnmoved, staged_stays, unmoved-trans, unmoved_lines}
 use Rattle.discovery_laws.proofs.Led.{IsLed}
-use Rattle.discovery_laws.proofs.Trees.{AreBarren, IsBarren, IsGrown, grown_barren, grown_born, grown-trans}
+use Rattle.discovery_laws.proofs.Trees.{AreBarren, IsBarren, grown_barren, grown_born, grown-trans}
 use Rattle.discovery_laws.proofs.Registrations.{handled, pause_bounded, registered_grown}
 
 -- ---- a line by itself, and bytes that are taken
@@ -261,14 +257,14 @@ registered_step laws G (Handles x y r) pause may led led' rooted' d registered =
     handled laws G x y r pause may led led' rooted' d registered
 registered_step laws G (Hosts ns blocks) pause may led led' rooted' d registered =
     let P : List Line → Type 0 = λ ls.
-        IsRegistered (parent_of (after_lines G (lines.Born host kinds.Host host ns blocks ∷ ls))) (after_lines G (lines.Born host kinds.Host host ns blocks ∷ ls)).born
-        (after_lines G (lines.Born host kinds.Host host ns blocks ∷ ls)) d in
+    IsRegistered (parent_of (after_lines G (lines.Born host kinds.Host host ns blocks ∷ ls))) (after_lines G (lines.Born host kinds.Host host ns blocks ∷ ls)).born
+    (after_lines G (lines.Born host kinds.Host host ns blocks ∷ ls)) d in
     subst P (append-nil (cond ns (lines.Admitted host ∷ []) []))
     (bears laws G host kinds.Host host ns blocks [] [] pause (sym may.1.first) (λ d. tt) (λ d. tt) d registered)
 registered_step laws G (Bears child kind parent ns blocks) pause may led led' rooted' d registered =
     let P : List Enclave → Type 0 = λ heard.
-        let ls : List Line = birth_lines child kind parent blocks ns heard ++ adopt_lines (view_of G parent) child in
-        IsRegistered (parent_of (after_lines G ls)) (after_lines G ls).born (after_lines G ls) d in
+    let ls : List Line = birth_lines child kind parent blocks ns heard ++ adopt_lines (view_of G parent) child in
+    IsRegistered (parent_of (after_lines G ls)) (after_lines G ls).born (after_lines G ls) d in
     subst P (sym (led.quiet parent.0))
     (bears laws G child kind parent ns blocks (lines.Sent child parent (query_of child) ∷ []) (adopt_lines (view_of G parent) child) pause may.1.next
     (λ d. (refl, tt)) (aside_adopt (view_of G parent) child) d registered)

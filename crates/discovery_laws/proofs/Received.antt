@@ -1,8 +1,7 @@
 -- A record is got; and what an enclave makes of one that says nothing of d says nothing of d either.
-use Rattle.std.proofs.Common.{◌≡◌, ◌≢◌, ◌⊎◌, ◌+◌, ◌-◌, ◌<◌, ◌≤◌, ℕ, List, [], ◌∷◌, ◌++◌, zero, suc, length, drop, filter, Bool, true, false, cond, ◌&&◌, ◌||◌, eqb, leb, Option, None, Some, is_some, inl, inr, refl, sym, ap, ◌∙◌, subst, arith, length-drop}
-use Rattle.std.specs.List.{AllByRecursion}
+use Rattle.std.proofs.Common.{◌≡◌, ◌≢◌, ◌⊎◌, ◌+◌, ℕ, List, [], ◌∷◌, ◌++◌, suc, filter, Bool, true, false, cond, ◌&&◌, eqb, Option, None, Some, inl, inr, refl, sym, ap, ◌∙◌, arith}
 use Rattle.std.specs.Option.{option_map_or}
-use Rattle.std.proofs.lemmas.Bool.{cases_Bool, eqb-true, eqb-false, eq-eqb, ne_eqb, and_parts}
+use Rattle.std.proofs.lemmas.Bool.{eqb-true, eqb-false, ne_eqb, and_parts}
 use Rattle.xm_num.specs.declared.Enclave.{Enclave}
 use Rattle.xm_num.specs.Rows.{at, less}
 use Rattle.xemem_language.specs.Destinations.{destination_number}
@@ -13,12 +12,11 @@ use Rattle.xemem_language.specs.declared.line.Line.{Line}
 use Rattle.xemem_language.specs.declared.line.Line.TheVariants as lines
 use Rattle.enclave_rules.specs.View.{View, place_among}
 use Rattle.enclave_rules.specs.Steps.{admit_over, admit_to, body_lines, drop_lines, here_lines, here_of, register_of, admit_of, is_stray, knows_way, passed_lines, query_lines, record_lines, register_lines, told_askers}
-use Rattle.global_model.specs.Facts.{Facts, after_line, with_got}
-use Rattle.global_model.specs.Channels.{arriving, size_of, whole_records}
+use Rattle.global_model.specs.Facts.{Facts, after_line}
 use Rattle.discovery_laws.specs.Known.{in_flight}
 use Rattle.discovery_laws.proofs.Stages.{about_in, is_about, is_about_by}
 use Rattle.discovery_laws.proofs.Underway.{flight_got}
-use Rattle.discovery_laws.proofs.Unmoved.{AreAside, AreInner, IsAside, IsUnmoved, inner_all}
+use Rattle.discovery_laws.proofs.Unmoved.{AreAside, AreInner, IsUnmoved, inner_all}
 
 -- ---- a record is got
 

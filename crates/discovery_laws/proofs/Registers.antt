@@ -1,21 +1,23 @@
 -- A register or an admit of d is handled: it comes to the next stage, and is passed on or ends, but isn't dropped.
-use Rattle.std.proofs.Common.{◌≡◌, ◌≢◌, ◌⊎◌, ◌+◌, ◌<◌, ◌≤◌, ℕ, List, [], ◌∷◌, ◌++◌, filter, Bool, true, false, cond, ◌&&◌, ◌||◌, eqb, Option, None, Some, is_some, inl, inr, refl, sym, ap, ◌∙◌, subst, arith}
-use Rattle.std.proofs.lemmas.Bool.{cases_Bool, cases_eq, eqb-true, eq-eqb, ne_eqb, and_parts, false_from_ne_true}
+use Rattle.std.proofs.Common.{◌≡◌, ◌≢◌, ◌<◌, ℕ, List, [], ◌∷◌, filter, Bool, true, false, cond, ◌||◌, eqb, Some, is_some, inl, inr, refl, sym, ap, ◌∙◌, subst, arith}
+use Rattle.std.proofs.lemmas.Bool.{eq-eqb, ne_eqb, false_from_ne_true}
 use Rattle.xm_num.specs.declared.Enclave.{Enclave}
 use Rattle.xm_num.specs.Rows.{at, put}
 use Rattle.xemem_language.specs.declared.record.Record.{Record}
 use Rattle.xemem_language.specs.declared.line.Line.{Line}
 use Rattle.xemem_language.specs.declared.line.Line.TheVariants as lines
 use Rattle.enclave_rules.specs.View.{View}
-use Rattle.enclave_rules.specs.Steps.{admit_of, admit_over, admit_to, body_lines, is_stray, drop_lines, passed_lines, record_lines, register_lines, register_of}
-use Rattle.global_model.specs.Facts.{Facts, after_line, after_lines}
-use Rattle.global_model.specs.Tree.{AreNear, IsRooted, IsToward, distance, hop, parent_of}
+use Rattle.enclave_rules.specs.Steps.{admit_of, body_lines, is_stray, record_lines, register_lines, register_of}
+use Rattle.global_model.specs.Facts.{Facts, after_line}
+use Rattle.global_model.specs.Tree.{AreNear, IsRooted, IsToward, distance, parent_of}
 use Rattle.global_model.specs.Views.{view_of}
-use Rattle.discovery_laws.specs.Known.{back_of, holds, in_flight, is_admitted_at, knows, route_of, way_of}
+use Rattle.discovery_laws.specs.Known.{backs_of, routes_of, back_of, holds, in_flight, knows, route_of, way_of}
 use Rattle.discovery_laws.specs.Laws.{Laws}
 use Rattle.discovery_laws.proofs.Underway.{IsBounded, bounded_got}
-use Rattle.discovery_laws.proofs.Stages.{Stage, Silent, Registering, Admitting, Ready, Answers, MayAnswer, IsBack, IsRoute, IsRegistering, IsAdmitting, IsReady, IsRegistered, IsSilent, IsStaged, about_in, alone_at, is_about, number, under_way}
-use Rattle.discovery_laws.proofs.Moves.{no_stray, none_left, one_sent, row_cases, row_here, row_more, view_admitted, view_holder, IsThere, is_there}
+use Rattle.discovery_laws.proofs.Stages.{Stage, Registering, Admitting, Answers, MayAnswer, IsBack, IsRoute, IsStaged, about_in, is_about, number}
+use Rattle.discovery_laws.proofs.Moves.{no_stray, none_left, one_sent, row_cases, row_here, row_more, view_holder, IsThere, is_there}
+use Rattle.discovery_laws.proofs.Effects.{back_leaves, back_leaves_routes, back_puts, route_leaves, route_leaves_backs, route_puts}
+use Rattle.discovery_laws.proofs.Unmoved.{answers_stay, back_stays}
 use Rattle.discovery_laws.proofs.Marks.{IsMoved}
 use Rattle.discovery_laws.proofs.Led.{IsLed}
 
@@ -53,18 +55,28 @@ module _ (laws : Laws) (G : Facts) (x y : Enclave) (d h : ℕ) (rs : List Record
   still_bounded : IsBounded (remembered G x y d)
   still_bounded = bounded_got G x y (register_of (number d)) rs flight bounded
 
+  -- what y has learned, and what is left
+  backs_now : (e : ℕ) → backs_of (remembered G x y d) e ≡ cond (eqb e y.0) (put (backs_of G y.0) d x) (backs_of G e)
+  backs_now = back_puts (after_line G (lines.Got x y)) y (number d) x
+
+  routes_now : (e : ℕ) → route_of (remembered G x y d) e d ≡ route_of G e d
+  routes_now e = ap (λ table. at table d) (back_leaves_routes (after_line G (lines.Got x y)) y (number d) x e)
+
+  knows_now : (e : ℕ) → knows (remembered G x y d) e ≡ knows G e
+  knows_now e = ap (λ way. holds G e || is_some way) ((back_leaves (after_line G (lines.Got x y)) y (number d) x).way e)
+
   still_answers : (e : ℕ) → Answers (back_of G) d e → Answers (back_of (remembered G x y d)) d e
   still_answers e (inl is) = inl is
-  still_answers e (inr some) = inr (row_more laws.row G.backs y.0 d x e some)
+  still_answers e (inr some) = inr (row_more laws.row (backs_of G) (backs_of (remembered G x y d)) y.0 d x backs_now e some)
 
-  now_answers : Answers (back_of (remembered G x y d)) d y.0
-  now_answers = inr (ap is_some (row_here laws.row G.backs y.0 d x))
+  pub now_remembered : back_of (remembered G x y d) y.0 d ≡ Some x
+  now_remembered = row_here laws.row (backs_of G) (backs_of (remembered G x y d)) y.0 d x backs_now
 
   -- the ways back, at the next stage
   backs_then : (stage : Stage) → MayAnswer (parent_of G) stage y.0
       → ((e : ℕ) → distance (parent_of G) y.0 h < distance (parent_of G) e h → MayAnswer (parent_of G) stage e)
       → (e : ℕ) (z : Enclave) → back_of (remembered G x y d) e d ≡ Some z → IsBack (parent_of G) G.born (back_of (remembered G x y d)) d stage e z.0
-  backs_then stage new old e z is = elim (row_cases laws.row G.backs y.0 d x e z is) [
+  backs_then stage new old e z is = elim (row_cases laws.row (backs_of G) (backs_of (remembered G x y d)) y.0 d x backs_now e z is) [
     | inl here ↦
         rw (here.0, ap (λ (w : Enclave). w.0) (sym here.1))
         (record { toward = staged.at.behind; leads = still_answers x.0 staged.at.answers; may = new })
@@ -92,41 +104,50 @@ module _ (laws : Laws) (G : Facts) (x y : Enclave) (d h : ℕ) (rs : List Record
       record {
         flight = λ a b. one_sent (remembered G x y d) y over (register_of (number d)) d a b still_bounded (eq-eqb d d refl) (got_register a b);
         backs = backs_then (Registering h y.0 over.0) (omega (arith, nearer)) (λ e less. omega (arith, less, nearer));
-        routes = λ e z is. absurd (staged.routes e z is).may;
+        routes = λ e z is. absurd (staged.routes e z (sym (routes_now e) ∙ is)).may;
         at = record {
           holder = at.holder;
           ahead = ahead;
           behind = turned_back laws P G.born y.0 over.0 d x.0 rooted (laws.tree.beside P G.born y.0 h over.0 rooted ahead) ahead.over at.behind apart;
           nearer = omega (arith, at.nearer, nearer);
-          answers = now_answers;
-          knowing = knowing;
-          known = at.known;
+          answers = inr (ap is_some now_remembered);
+          knowing = knows_now over.0 ∙ knowing;
+          known = knows_now d ∙ at.known;
           waits = at.waits;
         };
       }
 
-  -- y holds the name server, and admits d
-  pub admitted_over : IsStaged (parent_of G) G.born (after_line (after_line (remembered G x y d) (lines.Route y (number d) x)) (lines.Sent y x (admit_of y (number d)))) d
-      (Admitting y.0 y.0 x.0)
+  -- y holds the name server, learns the route, and admits d
+  abbrev routed : Facts
+  routed = after_line (remembered G x y d) (lines.Route y (number d) x)
+
+  pub backs_routed : (e : ℕ) → back_of routed e d ≡ back_of (remembered G x y d) e d
+  backs_routed e = ap (λ table. at table d) (route_leaves_backs (remembered G x y d) y (number d) x e)
+
+  routes_routed : (e : ℕ) (z : Enclave) → route_of routed e d ≡ Some z → IsRoute (parent_of G) G.born d (Admitting y.0 y.0 x.0) e z.0
+  routes_routed e z is =
+      let nearer = laws.tree.nearer (parent_of G) G.born y.0 d x.0 rooted staged.at.behind in
+      elim (row_cases laws.row (routes_of (remembered G x y d)) (routes_of routed) y.0 d x (route_puts (remembered G x y d) y (number d) x) e z is) [
+        | inl there ↦ rw (there.0, ap (λ (w : Enclave). w.0) (sym there.1)) (record { toward = staged.at.behind; may = omega (arith, nearer) })
+        | inr there ↦ absurd (staged.routes e z (sym (routes_now e) ∙ there)).may
+      ]
+
+  pub admitted_over : IsStaged (parent_of G) G.born (after_line routed (lines.Sent y x (admit_of y (number d)))) d (Admitting y.0 y.0 x.0)
   admitted_over =
-      let P = parent_of G in
       let at = staged.at in
-      let nearer = laws.tree.nearer P G.born y.0 d x.0 rooted at.behind in
+      let nearer = laws.tree.nearer (parent_of G) G.born y.0 d x.0 rooted at.behind in
+      let later = back_of (after_line routed (lines.Sent y x (admit_of y (number d)))) in
       record {
-        flight = λ a b. one_sent (after_line (remembered G x y d) (lines.Route y (number d) x)) y x (admit_of y (number d)) d a b still_bounded
-            (eq-eqb d d refl) (got_register a b);
-        backs = backs_then (Admitting y.0 y.0 x.0) tt (λ e less. tt);
-        routes = λ e z is. elim (row_cases laws.row G.routes y.0 d x e z is) [
-          | inl there ↦
-              rw (there.0, ap (λ (w : Enclave). w.0) (sym there.1)) (record { toward = at.behind; may = omega (arith, nearer) })
-          | inr there ↦ absurd (staged.routes e z there).may
-        ];
+        flight = λ a b. one_sent routed y x (admit_of y (number d)) d a b still_bounded (eq-eqb d d refl) (got_register a b);
+        backs = λ e z is. back_stays (parent_of G) G.born (back_of (remembered G x y d)) later d (Admitting y.0 y.0 x.0) e z.0 backs_routed
+            (backs_then (Admitting y.0 y.0 x.0) tt (λ e less. tt) e z (sym (backs_routed e) ∙ is));
+        routes = routes_routed;
         at = record {
           from = at.ahead.over;
           ahead = at.behind;
           nearer = omega (arith, nearer);
-          answers = still_answers x.0 at.answers;
-          known = at.known;
+          answers = answers_stay (back_of (remembered G x y d)) later d x.0 backs_routed (still_answers x.0 at.answers);
+          known = ap (λ way. holds G d || is_some way) ((route_leaves (remembered G x y d) y (number d) x).way d) ∙ knows_now d ∙ at.known;
           waits = at.waits;
         };
       }
@@ -159,7 +180,7 @@ register_handled laws G x y d h rs led rooted bounded staged flight last =
     P ls = IsMoved G x y d (register_of (number d)) ls
 
     kept : is_some (back_of (remembered G x y d) y.0 d) ≡ true
-    kept = ap is_some (row_here laws.row G.backs y.0 d x)
+    kept = ap is_some (now_remembered laws G x y d h rs rooted bounded staged flight last)
 
     none : is_some (back_of G y.0 d) ≡ false
     none = false_from_ne_true (is_some (back_of G y.0 d)) (λ some.
@@ -178,7 +199,7 @@ register_handled laws G x y d h rs led rooted bounded staged flight last =
         (record {
           registered = record { stage = Admitting y.0 y.0 x.0; is = admitted_over laws G x y d h rs rooted bounded staged flight last };
           before = none;
-          after = kept;
+          after = ap is_some (backs_routed laws G x y d h rs rooted bounded staged flight last y.0) ∙ kept;
         })
     by false is =
         let found = way_known G y.0 staged.at.knowing is in

@@ -1,27 +1,27 @@
 -- Each record that is got leaves every registration at a stage.
-use Rattle.std.proofs.Common.{◌≡◌, ◌≢◌, ◌⊎◌, ◌+◌, ◌-◌, ◌<◌, ◌≤◌, ℕ, List, [], ◌∷◌, ◌++◌, length, filter, Bool, true, false, cond, leb, ltb, ◌&&◌, ◌||◌, eqb, Option, None, Some, is_some, inl, inr, refl, sym, ap, ◌∙◌, subst, arith}
-use Rattle.std.proofs.lemmas.Bool.{cases_Bool, cases_eq, eqb-true, eq-eqb, ne_eqb, and_parts, ltb-true}
+use Rattle.std.proofs.Common.{◌≡◌, ◌≢◌, ◌⊎◌, ◌-◌, ◌≤◌, ℕ, List, [], ◌∷◌, length, filter, Bool, true, false, cond, leb, inl, inr, refl, sym, ap, ◌∙◌, subst, arith}
+use Rattle.std.proofs.lemmas.Bool.{cases_Bool, cases_eq}
 use Rattle.xm_num.specs.declared.Enclave.{Enclave}
 use Rattle.xemem_language.specs.declared.record.Record.{Record}
 use Rattle.xemem_language.specs.declared.record.Body.{Body}
 use Rattle.xemem_language.specs.declared.record.Body.TheVariants as bodies
-use Rattle.xemem_language.specs.declared.line.Line.{Line}
 use Rattle.xemem_language.specs.declared.line.Line.TheVariants as lines
 use Rattle.enclave_rules.specs.View.{View}
-use Rattle.enclave_rules.specs.Steps.{admit_of, body_lines, drop_lines, is_stray, knows_way, record_lines, register_of}
-use Rattle.global_model.specs.Facts.{Facts, EnclaveFact, after_line, after_lines, is_holder}
+use Rattle.enclave_rules.specs.Steps.{admit_of, is_stray, knows_way, record_lines, register_of}
+use Rattle.global_model.specs.Facts.{Facts, after_line, after_lines}
 use Rattle.global_model.specs.Channels.{size_of, whole_records}
-use Rattle.global_model.specs.Flow.{IsFlow, IsTree}
+use Rattle.global_model.specs.Flow.{IsTree}
 use Rattle.global_model.specs.Pauses.{IsPause, MayHandle}
 use Rattle.global_model.specs.Tree.{IsRooted, parent_of}
 use Rattle.global_model.specs.Views.{view_of}
-use Rattle.discovery_laws.specs.Known.{holds, in_flight, knows}
+use Rattle.discovery_laws.specs.Known.{in_flight, knows}
 use Rattle.discovery_laws.specs.Laws.{Laws}
-use Rattle.discovery_laws.proofs.Underway.{IsBounded, IsNextOf, bounded_got, next_flight}
-use Rattle.discovery_laws.proofs.Stages.{Stage, Silent, Registering, Admitting, Ready, IsRegistered, IsStaged, about_in, is_about, number, under_way}
-use Rattle.discovery_laws.proofs.Unmoved.{AreAside, IsUnmoved, staged_stays, unmoved-trans, unmoved_lines}
+use Rattle.discovery_laws.proofs.Answered.{knows_way_is}
+use Rattle.discovery_laws.proofs.Underway.{IsBounded, bounded_got, next_flight}
+use Rattle.discovery_laws.proofs.Stages.{Stage, Silent, Registering, Admitting, Ready, IsRegistered, IsStaged, is_about, number, under_way}
+use Rattle.discovery_laws.proofs.Unmoved.{AreAside, staged_stays, unmoved-trans, unmoved_lines}
 use Rattle.discovery_laws.proofs.Received.{MayHear, aside_record, unmoved_got}
-use Rattle.discovery_laws.proofs.Moves.{about_first, alone_taken, view_holder}
+use Rattle.discovery_laws.proofs.Moves.{about_first, alone_taken}
 use Rattle.discovery_laws.proofs.Marks.{IsMoved}
 use Rattle.discovery_laws.proofs.Led.{IsLed}
 use Rattle.discovery_laws.proofs.Registers.{register_handled}
@@ -109,11 +109,11 @@ hears laws G x y r rs tree bounded flight other none led rooted registered = eli
       let dropped : AreAside y.0 (record_lines (view_of G y) x r) = rw stray (tt, tt) in
       registered_grown laws G H tree (grown_handled laws G x y r) H y.0 (leaves laws G x y r rs y.0 bounded flight other dropped registered)
   | inr apt ↦ elim (here_or_not (view_of G y) y.0 r.body) [
-      | inl here ↦ here_handled laws G x y r rs registered.stage bounded registered.is flight here apt none led rooted
-      | inr may ↦
-          registered_grown laws G H tree (grown_handled laws G x y r) H y.0
-          (leaves laws G x y r rs y.0 bounded flight other (aside_record (view_of G y) x r y.0 other may) registered)
-    ]
+    | inl here ↦ here_handled laws G x y r rs registered.stage bounded registered.is flight here apt none led rooted
+    | inr may ↦
+        registered_grown laws G H tree (grown_handled laws G x y r) H y.0
+        (leaves laws G x y r rs y.0 bounded flight other (aside_record (view_of G y) x r y.0 other may) registered)
+  ]
 ]
   where
     H : Facts
@@ -126,14 +126,14 @@ pub handled : Laws → (G : Facts) (x y : Enclave) (r : Record) → IsPause G �
 handled laws G x y r pause may led led' rooted' d registered = elim (cases_Bool (is_about d r)) [
   | inl about ↦ grown (moves laws G x y r rs d registered.stage led tree bounded flight about registered.is).registered
   | inr other ↦ elim (cases_Bool (knows G y.0)) [
-      | inl known ↦
-          let way : knows_way (view_of G y) ≡ true = ap (λ t. t || is_some (G.way y.0)) (view_holder (G.enclave y.0)) ∙ known in
-          grown (leaves laws G x y r rs d bounded flight other (aside_record (view_of G y) x r d other (may_hear (inl way) r.body)) registered)
-      | inr none ↦ elim (cases_eq y.0 d) [
-          | inl is ↦ by is other none registered
-          | inr apart ↦ grown (leaves laws G x y r rs d bounded flight other (aside_record (view_of G y) x r d other (may_hear (inr apart) r.body)) registered)
-        ]
+    | inl known ↦
+        let way : knows_way (view_of G y) ≡ true = knows_way_is G y ∙ known in
+        grown (leaves laws G x y r rs d bounded flight other (aside_record (view_of G y) x r d other (may_hear (inl way) r.body)) registered)
+    | inr none ↦ elim (cases_eq y.0 d) [
+      | inl is ↦ by is other none registered
+      | inr apart ↦ grown (leaves laws G x y r rs d bounded flight other (aside_record (view_of G y) x r d other (may_hear (inr apart) r.body)) registered)
     ]
+  ]
 ]
   where
     H : Facts

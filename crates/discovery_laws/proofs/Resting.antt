@@ -1,11 +1,10 @@
 -- At rest nothing is under way; so where an enclave holds the name server all know the way to it.
-use Rattle.std.proofs.Common.{◌≡◌, ◌≢◌, ◌+◌, ◌-◌, ◌<◌, ◌≤◌, ℕ, zero, suc, List, [], ◌∷◌, Bool, true, false, cond, not, ◌&&◌, ◌||◌, eqb, leb, drop, length, is_some, Option, None, Some, refl, sym, ap, ◌∙◌, subst, arith, length-append, length-drop}
-use Rattle.std.specs.Prelude.{◌++◌}
-use Rattle.std.proofs.lemmas.Bool.{eqb-true, eqb-false, ltb-true, eq-eqb, ne_eqb, le-leb, lt-ltb, and_from, or_left, or_right}
+use Rattle.std.proofs.Common.{◌≡◌, ◌+◌, ◌-◌, ◌<◌, ◌≤◌, ℕ, zero, suc, List, [], ◌∷◌, Bool, true, false, not, eqb, leb, drop, length, is_some, Option, None, Some, refl, sym, ap, ◌∙◌, arith, length-append, length-drop}
+use Rattle.std.proofs.lemmas.Bool.{eqb-true, eqb-false, ltb-true, eq-eqb, ne_eqb, le-leb, lt-ltb, and_from, or_left}
 use Rattle.xemem_language.specs.declared.record.Record.{Record}
 use Rattle.xemem_wire.specs.Spelling.{spelling_of, spellings_of}
 use Rattle.global_model.specs.Facts.{Facts, EnclaveFact, fact_of, has_parent, is_living_enclave}
-use Rattle.global_model.specs.Channels.{arriving, is_child_of, is_neighbour, size_of, waiting_bytes, whole_records}
+use Rattle.global_model.specs.Channels.{is_child_of, is_neighbour, size_of, waiting_bytes, whole_records}
 use Rattle.global_model.specs.Flow.{IsFlowing, IsTree}
 use Rattle.global_model.specs.Rest.{IsAtRest}
 use Rattle.global_model.specs.Tree.{parent_of}
@@ -13,7 +12,7 @@ use Rattle.discovery_laws.specs.Known.{holds, in_flight, knows, way_of}
 use Rattle.discovery_laws.proofs.Flights.{one_if, count}
 use Rattle.discovery_laws.proofs.Asking.{is_query, is_here, remembers, queries_flying, heres_flying, place}
 use Rattle.discovery_laws.proofs.Newborn.{near_turned}
-use Rattle.discovery_laws.proofs.Answered.{none_owed, holder_born}
+use Rattle.discovery_laws.proofs.Answered.{holder_born}
 use Rattle.discovery_laws.proofs.Asked.{IsAsked}
 
 -- ---- nothing is under way

@@ -1,6 +1,6 @@
 -- The tree that later lines leave; a registration stays where it was when others are born.
-use Rattle.std.proofs.Common.{◌≡◌, ◌≢◌, ◌⊎◌, ◌+◌, ◌<◌, ◌≤◌, ℕ, List, [], ◌∷◌, ◌++◌, Bool, true, false, cond, eqb, Option, None, Some, refl, sym, ap, ◌∙◌, subst, arith, append-nil}
-use Rattle.std.proofs.lemmas.Bool.{eqb-true, ne_eqb}
+use Rattle.std.proofs.Common.{◌≡◌, ◌<◌, ◌≤◌, ℕ, List, [], ◌∷◌, Bool, true, false, cond, eqb, Some, refl, ◌∙◌, subst, arith, append-nil}
+use Rattle.std.proofs.lemmas.Bool.{ne_eqb}
 use Rattle.std.specs.List.{AllByRecursion}
 use Rattle.xm_num.specs.declared.Enclave.{Enclave}
 use Rattle.xm_num.specs.declared.Block.{Block}
@@ -9,12 +9,11 @@ use Rattle.xemem_language.specs.declared.record.Record.{Record}
 use Rattle.xemem_language.specs.declared.line.Line.{Line}
 use Rattle.xemem_language.specs.declared.line.Line.TheVariants as lines
 use Rattle.xemem_language.specs.declared.command.Command.TheVariants as commands
-use Rattle.enclave_rules.specs.View.{AreOf, IsOf, View}
+use Rattle.enclave_rules.specs.View.{AreOf, IsOf}
 use Rattle.enclave_rules.specs.Steps.{record_lines}
-use Rattle.global_model.specs.Facts.{Facts, EnclaveFact, after_line, after_lines, as_admitted, fact_of}
+use Rattle.global_model.specs.Facts.{Facts, after_line, after_lines, fact_of}
 use Rattle.global_model.specs.Tree.{IsRooted, IsToward, distance, parent_of}
 use Rattle.global_model.specs.Views.{view_of}
-use Rattle.discovery_laws.specs.Known.{back_of, holds}
 use Rattle.discovery_laws.specs.Laws.{Laws}
 use Rattle.discovery_laws.proofs.Effects.{kept_by, parent_kept}
 use Rattle.discovery_laws.proofs.Stages.{Stage, Silent, Registering, Admitting, Ready, MayAnswer, MayReach, IsAt, IsStaged}

@@ -1,12 +1,11 @@
 -- An enclave learns its way once.
-use Rattle.std.proofs.Common.{◌≡◌, ◌≢◌, ◌+◌, ◌≤◌, ℕ, List, [], ◌∷◌, Bool, true, false, cond, not, ◌&&◌, ◌||◌, eqb, filter, length, map, is_some, Option, None, Some, refl, sym, ap, ◌∙◌, subst, arith, length-append}
+use Rattle.std.proofs.Common.{◌≡◌, ◌+◌, ◌≤◌, ℕ, List, [], ◌∷◌, Bool, true, false, cond, ◌||◌, eqb, filter, length, is_some, Option, None, Some, refl, sym, ap, ◌∙◌, arith, length-append}
 use Rattle.std.specs.Prelude.{◌++◌}
 use Rattle.std.specs.List.{AllByRecursion}
-use Rattle.std.proofs.lemmas.Bool.{eqb-true, eqb-false, eq-eqb, ne_eqb}
+use Rattle.std.proofs.lemmas.Bool.{eqb-true, eqb-false}
 use Rattle.std.proofs.lemmas.List.Elements.{filter-append}
 use Rattle.xm_num.specs.declared.Enclave.{Enclave}
 use Rattle.xm_num.specs.declared.Kind.{Kind}
-use Rattle.xm_num.specs.declared.Kind.TheVariants as kinds
 use Rattle.xm_num.specs.declared.Block.{Block}
 use Rattle.xm_num.specs.Rows.{less}
 use Rattle.xemem_language.specs.declared.command.Command.{Command}
@@ -17,11 +16,11 @@ use Rattle.xemem_language.specs.declared.record.Body.TheVariants as bodies
 use Rattle.xemem_language.specs.declared.line.Line.{Line}
 use Rattle.xemem_language.specs.declared.line.Line.TheVariants as lines
 use Rattle.enclave_rules.specs.View.{View, host, place_among}
-use Rattle.enclave_rules.specs.Steps.{knows_way, is_stray, query_of, here_of, register_of, drop_lines, told_lines, child_lines, adopt_lines, birth_lines, host_lines, told_askers, here_lines, body_lines, record_lines}
+use Rattle.enclave_rules.specs.Steps.{knows_way, is_stray, query_of, here_of, register_of, drop_lines, told_lines, child_lines, adopt_lines, birth_lines, host_lines, told_askers, body_lines, record_lines}
 use Rattle.global_model.specs.Facts.{Facts, after_line, after_lines, no_facts}
 use Rattle.global_model.specs.Place.{IsPlaced}
 use Rattle.global_model.specs.Due.{journal_of}
-use Rattle.global_model.specs.Pauses.{Step, Written, Hosts, Bears, Takes, Handles, written_by, written_in, MayStandAlone, MayCome, AreSteps}
+use Rattle.global_model.specs.Pauses.{Step, Written, Hosts, Bears, Takes, Handles, written_by, written_in, MayCome, AreSteps}
 use Rattle.global_model.specs.Views.{view_of}
 use Rattle.discovery_laws.specs.Laws.{Laws, PastLaws}
 use Rattle.discovery_laws.specs.Ways.{is_way_line, ways_in}
@@ -156,10 +155,13 @@ wayless_told_lines child (d ∷ heard) = (tt, wayless_told_lines child heard)
 
 wayless_birth : (child : Enclave) (kind : Kind) (parent : Enclave) (blocks : List Block) (ns : Bool) (heard : List Enclave) (v : View)
     → AreWayless (birth_lines child kind parent blocks ns heard ++ adopt_lines v child)
-wayless_birth child kind parent blocks ns heard v = (tt, wayless-append (told_lines child heard ++ child_lines child parent ns) (adopt_lines v child)
-    (wayless-append (told_lines child heard) (child_lines child parent ns) (wayless_told_lines child heard)
-    (wayless_either ns (lines.Admitted child ∷ []) (lines.Sent child parent (query_of child) ∷ []) (tt, tt) (tt, tt)))
-    (wayless_either (knows_way v) [] (lines.Sent v.me child (query_of v.me) ∷ []) tt (tt, tt)))
+wayless_birth child kind parent blocks ns heard v = (
+  tt,
+  wayless-append (told_lines child heard ++ child_lines child parent ns) (adopt_lines v child)
+      (wayless-append (told_lines child heard) (child_lines child parent ns) (wayless_told_lines child heard)
+      (wayless_either ns (lines.Admitted child ∷ []) (lines.Sent child parent (query_of child) ∷ []) (tt, tt) (tt, tt)))
+      (wayless_either (knows_way v) [] (lines.Sent v.me child (query_of v.me) ∷ []) tt (tt, tt)),
+)
 
 -- ---- steps
 

@@ -13,12 +13,18 @@ way_of G e = G.way e
 abbrev pub askers_of : Facts → ℕ → List (ℕ × Enclave)
 askers_of G e = G.askers e
 
--- the neighbours over which the enclave answers another one, and over which that one lies
+-- the neighbours over which the enclave answers other ones, and over which these lie, by their numbers
+abbrev pub backs_of : Facts → ℕ → List (ℕ × Enclave)
+backs_of G e = G.backs e
+
+abbrev pub routes_of : Facts → ℕ → List (ℕ × Enclave)
+routes_of G e = G.routes e
+
 abbrev pub back_of : Facts → ℕ → ℕ → Option Enclave
-back_of G e d = at (G.backs e) d
+back_of G e d = at (backs_of G e) d
 
 abbrev pub route_of : Facts → ℕ → ℕ → Option Enclave
-route_of G e d = at (G.routes e) d
+route_of G e d = at (routes_of G e) d
 
 abbrev pub holds : Facts → ℕ → Bool
 holds G e = is_holder (G.enclave e)

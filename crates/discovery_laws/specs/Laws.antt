@@ -9,7 +9,7 @@ use Rattle.xemem_language.specs.declared.record.Record.{Record}
 use Rattle.enclave_rules.specs.View.{AreOf, View}
 use Rattle.enclave_rules.specs.Steps.{lines_of_records}
 use Rattle.global_model.specs.Facts.{Facts, facts_after, after_lines, facts_at, no_facts}
-use Rattle.global_model.specs.Journals.{do_commands, onto}
+use Rattle.global_model.specs.Journals.{onto}
 use Rattle.global_model.specs.Carriage.{IsCarried}
 use Rattle.global_model.specs.Flow.{IsFlowing, IsTree}
 use Rattle.global_model.specs.Pauses.{IsInSteps}

@@ -1,12 +1,12 @@
 -- No record is got twice by an enclave.
-use Rattle.std.specs.Prelude.{◌≡◌, ℕ, List, [], ◌∷◌, ◌++◌, Bool, false, ◌&&◌, ◌==◌, if◌then◌else◌, Option, None, Some}
+use Rattle.std.specs.Prelude.{◌≡◌, ℕ, List, [], ◌∷◌, Bool, false, ◌&&◌, ◌==◌, if◌then◌else◌}
 use Rattle.std.specs.List.{AllByRecursion}
 use Rattle.xemem_language.specs.Destinations.{destination_number}
 use Rattle.xemem_language.specs.declared.record.Record.{Record}
 use Rattle.xemem_language.specs.declared.line.Line.{Line}
 use Rattle.xemem_language.specs.declared.line.Line.TheVariants as lines
 use Rattle.xemem_wire.specs.Table.{kind_of}
-use Rattle.global_model.specs.Facts.{Facts, facts_at}
+use Rattle.global_model.specs.Facts.{facts_at}
 use Rattle.global_model.specs.Journals.{Follows}
 use Rattle.discovery_laws.specs.Known.{in_flight}
 

@@ -1,9 +1,9 @@
 -- Between two numbers of a tree there is one path without repeats; and who stands above whom.
-use Rattle.std.proofs.Common.{suc, zero, ◌≡◌, ◌≢◌, ◌⊎◌, ◌+◌, ◌-◌, ◌<◌, ◌≤◌, ℕ, List, [], ◌∷◌, ◌++◌, length, Bool, true, false, cond, ◌&&◌, ◌||◌, ltb, eqb, refl, sym, ap, ◌∙◌, subst, inl, inr, arith}
+use Rattle.std.proofs.Common.{suc, zero, ◌≡◌, ◌≢◌, ◌+◌, ◌<◌, ◌≤◌, ℕ, List, [], ◌∷◌, Bool, true, false, ◌&&◌, ◌||◌, ltb, eqb, refl, sym, ap, ◌∙◌, subst, inl, inr, arith}
 use Rattle.std.specs.List.{AllByRecursion}
-use Rattle.std.proofs.lemmas.Bool.{cases_Bool, cases_eq, cases_order, eqb-true, eq-eqb, ne_eqb, ltb-true, lt-ltb, le-ltb, and_parts, or_cases}
+use Rattle.std.proofs.lemmas.Bool.{cases_eq, cases_order, eqb-true, eq-eqb, ltb-true, lt-ltb, le-ltb, and_parts, or_cases}
 use Rattle.global_model.specs.Tree.{IsRooted, AreNear, AreLinked, AreDistinct, IsPath, last_or, path, hop, distance, is_above, is_above_within}
-use Rattle.global_model.proofs.Paths.{IsNearer, far_same, near_hop, near_sides, path_on, path_same, hop_nearer}
+use Rattle.global_model.proofs.Paths.{IsNearer, near_hop, near_sides, path_on, path_same, hop_nearer}
 
 -- ---- the path is one
 
@@ -38,8 +38,11 @@ road_longer parent a c b ws near nearer road =
         linked = rw road.is.begins (near, rw road.is.begins at road.is.linked);
         distinct = (all_more (λ e. distance parent e b ≤ distance parent c b) (λ e. a ≢ e) ws apart road.within, road.is.distinct);
       };
-      within = (omega arith, all_more (λ e. distance parent e b ≤ distance parent c b) (λ e. distance parent e b ≤ distance parent a b) ws
-          (λ e less. omega (arith, less, nearer)) road.within);
+      within = (
+        omega arith,
+        all_more (λ e. distance parent e b ≤ distance parent c b) (λ e. distance parent e b ≤ distance parent a b) ws
+            (λ e less. omega (arith, less, nearer)) road.within,
+      );
     }
 
 road : (parent : ℕ → ℕ) (n a b : ℕ) → IsRooted parent → distance parent a b ≤ n → IsRoad parent a b (path parent a b)
@@ -84,11 +87,11 @@ one_path parent a b [] tree ends linked distinct = subst (λ c. a ∷ [] ≡ pat
 one_path parent a b (c ∷ ws) tree ends linked distinct = elim (cases_eq a b) [
   | inl same ↦ absurd (home parent a c ws tree linked distinct (ends ∙ sym same))
   | inr apart ↦ elim (near_sides parent a c b tree linked.0) [
-      | inl on ↦
-          ap (λ ws. a ∷ ws) (one_path parent c b ws tree ends linked.1 distinct.1)
-          ∙ ap (λ e. a ∷ path parent e b) on.next ∙ sym (path_on parent a b tree apart)
-      | inr back ↦ absurd (away parent b a c ws tree back linked distinct ends)
-    ]
+    | inl on ↦
+        ap (λ ws. a ∷ ws) (one_path parent c b ws tree ends linked.1 distinct.1)
+        ∙ ap (λ e. a ∷ path parent e b) on.next ∙ sym (path_on parent a b tree apart)
+    | inr back ↦ absurd (away parent b a c ws tree back linked distinct ends)
+  ]
 ]
 
 pub path_only : (parent : ℕ → ℕ) (a b : ℕ) (ws : List ℕ) → IsRooted parent → IsPath parent a b ws → ws ≡ path parent a b
