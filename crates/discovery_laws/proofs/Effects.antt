@@ -1,11 +1,11 @@
 -- What lines change of what an enclave knows of ways and of who asked it.
-use Rattle.std.proofs.Common.{◌≡◌, ℕ, [], Bool, true, false, cond, eqb, Option, None, Some, refl, sym, subst}
+use Rattle.std.proofs.Common.{◌≡◌, ℕ, [], Bool, true, false, cond, eqb, Option, None, Some, refl, sym, ap, ◌∙◌, subst}
 use Rattle.std.proofs.lemmas.Bool.{eqb-true}
 use Rattle.xm_num.specs.declared.Enclave.{Enclave}
 use Rattle.xm_num.specs.Rows.{put}
 use Rattle.xemem_language.specs.declared.line.Line.TheVariants as lines
-use Rattle.enclave_rules.specs.View.{place_among}
-use Rattle.global_model.specs.Facts.{EnclaveFact, Facts, after_line, as_admitted, fact_of, has_parent, is_holder}
+use Rattle.enclave_rules.specs.Ways.{WaysView, place_among, ways_line}
+use Rattle.global_model.specs.Facts.{EnclaveFact, Facts, after_line, as_admitted, at_number, fact_of, has_parent, is_holder}
 use Rattle.discovery_laws.specs.Known.{askers_of, backs_of, routes_of, way_of}
 
 -- what holds of the new value at a number, and of all others as before
@@ -17,19 +17,36 @@ number_at P k v f g changed j here there = subst (P j) (sym (changed j)) (by (eq
     by true is = subst (λ i. P i v) (sym (eqb-true j k is)) here
     by false is = there is
 
+-- a part of what is known of ways, where that changes at a number: the new one there, or as before where it is the same
+part_at : {A : Type 0} (part : WaysView → A) (k : ℕ) (w : WaysView) (ways : ℕ → WaysView) (j : ℕ)
+    → part (at_number k w ways j) ≡ cond (eqb j k) (part w) (part (ways j))
+part_at part k w ways j = by (eqb j k)
+  where
+    by : (t : Bool) → part (cond t w (ways j)) ≡ cond t (part w) (part (ways j))
+    by true = refl
+    by false = refl
+
+part_stays : {A : Type 0} (part : WaysView → A) (k : ℕ) (w : WaysView) (ways : ℕ → WaysView) → part w ≡ part (ways k) → (j : ℕ)
+    → part (at_number k w ways j) ≡ part (ways j)
+part_stays part k w ways same j = by (eqb j k) refl
+  where
+    by : (t : Bool) → eqb j k ≡ t → part (cond t w (ways j)) ≡ part (ways j)
+    by true is = same ∙ ap (λ i. part (ways i)) (sym (eqb-true j k is))
+    by false is = refl
+
 module _ (G : Facts) (y over : Enclave) (e : ℕ) where
   pub way_learns : way_of (after_line G (lines.Way y over)) e ≡ cond (eqb e y.0) (Some over) (way_of G e)
-  way_learns = refl
+  way_learns = part_at (λ w. w.way) y.0 _ G.ways e
 
   pub way_clears : askers_of (after_line G (lines.Way y over)) e ≡ cond (eqb e y.0) [] (askers_of G e)
-  way_clears = refl
+  way_clears = part_at (λ w. w.askers) y.0 _ G.ways e
 
   pub asked_leaves : way_of (after_line G (lines.Asked y over)) e ≡ way_of G e
-  asked_leaves = refl
+  asked_leaves = part_stays (λ w. w.way) y.0 _ G.ways refl e
 
   pub asked_keeps : askers_of (after_line G (lines.Asked y over)) e
       ≡ cond (eqb e y.0) (put (askers_of G y.0) (place_among (fact_of (G.enclave y.0)).parent over) over) (askers_of G e)
-  asked_keeps = refl
+  asked_keeps = part_at (λ w. w.askers) y.0 _ G.ways e
 
 -- the other lines leave both
 pub record LeavesWays (G H : Facts) : Type 0 where
@@ -38,10 +55,10 @@ pub record LeavesWays (G H : Facts) : Type 0 where
 
 module _ (G : Facts) (e d over : Enclave) where
   pub back_leaves : LeavesWays G (after_line G (lines.Back e d over))
-  back_leaves = record { way = λ a. refl; askers = λ a. refl }
+  back_leaves = record { way = part_stays (λ w. w.way) e.0 _ G.ways refl; askers = part_stays (λ w. w.askers) e.0 _ G.ways refl }
 
   pub route_leaves : LeavesWays G (after_line G (lines.Route e d over))
-  route_leaves = record { way = λ a. refl; askers = λ a. refl }
+  route_leaves = record { way = part_stays (λ w. w.way) e.0 _ G.ways refl; askers = part_stays (λ w. w.askers) e.0 _ G.ways refl }
 
   pub admitted_leaves : LeavesWays G (after_line G (lines.Admitted e))
   admitted_leaves = record { way = λ a. refl; askers = λ a. refl }
@@ -55,23 +72,23 @@ pub record LeavesRows (G H : Facts) : Type 0 where
 
 module _ (G : Facts) (e over : Enclave) where
   pub way_leaves : LeavesRows G (after_line G (lines.Way e over))
-  way_leaves = record { backs = λ a. refl; routes = λ a. refl }
+  way_leaves = record { backs = part_stays (λ w. w.backs) e.0 _ G.ways refl; routes = part_stays (λ w. w.routes) e.0 _ G.ways refl }
 
   pub asked_leaves_rows : LeavesRows G (after_line G (lines.Asked e over))
-  asked_leaves_rows = record { backs = λ a. refl; routes = λ a. refl }
+  asked_leaves_rows = record { backs = part_stays (λ w. w.backs) e.0 _ G.ways refl; routes = part_stays (λ w. w.routes) e.0 _ G.ways refl }
 
 module _ (G : Facts) (e of over : Enclave) (a : ℕ) where
   pub back_puts : backs_of (after_line G (lines.Back e of over)) a ≡ cond (eqb a e.0) (put (backs_of G e.0) of.0 over) (backs_of G a)
-  back_puts = refl
+  back_puts = part_at (λ w. w.backs) e.0 _ G.ways a
 
   pub back_leaves_routes : routes_of (after_line G (lines.Back e of over)) a ≡ routes_of G a
-  back_leaves_routes = refl
+  back_leaves_routes = part_stays (λ w. w.routes) e.0 _ G.ways refl a
 
   pub route_puts : routes_of (after_line G (lines.Route e of over)) a ≡ cond (eqb a e.0) (put (routes_of G e.0) of.0 over) (routes_of G a)
-  route_puts = refl
+  route_puts = part_at (λ w. w.routes) e.0 _ G.ways a
 
   pub route_leaves_backs : backs_of (after_line G (lines.Route e of over)) a ≡ backs_of G a
-  route_leaves_backs = refl
+  route_leaves_backs = part_stays (λ w. w.backs) e.0 _ G.ways refl a
 
 -- ---- an admission leaves the rest of an enclave's fact
 

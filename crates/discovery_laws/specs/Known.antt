@@ -7,18 +7,18 @@ use Rattle.global_model.specs.Facts.{Facts, is_admitted, is_holder}
 
 -- the neighbour over which the enclave's way to the name server goes
 abbrev pub way_of : Facts → ℕ → Option Enclave
-way_of G e = G.way e
+way_of G e = (G.ways e).way
 
 -- those that asked it for the way and weren't answered, by their places
 abbrev pub askers_of : Facts → ℕ → List (ℕ × Enclave)
-askers_of G e = G.askers e
+askers_of G e = (G.ways e).askers
 
 -- the neighbours over which the enclave answers other ones, and over which these lie, by their numbers
 abbrev pub backs_of : Facts → ℕ → List (ℕ × Enclave)
-backs_of G e = G.backs e
+backs_of G e = (G.ways e).backs
 
 abbrev pub routes_of : Facts → ℕ → List (ℕ × Enclave)
-routes_of G e = G.routes e
+routes_of G e = (G.ways e).routes
 
 abbrev pub back_of : Facts → ℕ → ℕ → Option Enclave
 back_of G e d = at (backs_of G e) d

@@ -13,7 +13,7 @@ ghost use Rattle.discovery_laws.specs.Once.{IsOnce};
 
 use global_model::{
     journals_are_carried, journals_are_in_steps, journals_grow, pasts_grow, trees_have_paths,
-    view_step,
+    lines_are_seen,
 };
 use xm_num::Enclave;
 use xm_num::laws::{row_laws, rows};
@@ -27,7 +27,7 @@ fn laws()
     journals_are_carried();
     journals_are_in_steps();
     trees_have_paths();
-    view_step();
+    lines_are_seen();
     rows::<Enclave>();
     row_laws::<Enclave>();
 }
