@@ -14,8 +14,9 @@ use Rattle.xemem_language.specs.declared.record.Body.TheVariants as bodies
 use Rattle.xemem_language.specs.declared.line.Line.{Line}
 use Rattle.xemem_language.specs.declared.line.Line.TheVariants as lines
 use Rattle.enclave_rules.specs.View.{View}
-use Rattle.enclave_rules.specs.Steps.{knows_way, knows_dead, is_stray, here_of, register_of, admit_of, drop_lines, told_askers, passed_lines, register_lines, admit_over, admit_to, body_lines, record_lines}
-use Rattle.global_model.specs.Facts.{Facts, EnclaveFact, after_line, after_lines, fact_of, is_holder}
+use Rattle.enclave_rules.specs.Sending.{Server, knows_way, drop_lines, over_lines, send_lines, way_to}
+use Rattle.enclave_rules.specs.Steps.{knows_dead, is_stray, here_of, register_of, admit_of, told_askers, register_lines, admit_over, admit_to, body_lines, record_lines}
+use Rattle.global_model.specs.Facts.{Facts, EnclaveFact, after_line, after_lines, fact_of, is_holder, is_living_enclave}
 use Rattle.global_model.specs.Channels.{is_neighbour}
 use Rattle.global_model.specs.Flow.{IsTree}
 use Rattle.global_model.specs.Tree.{IsToward, parent_of}
@@ -23,6 +24,7 @@ use Rattle.global_model.specs.Views.{view_of}
 use Rattle.discovery_laws.specs.Known.{askers_of, holds, in_flight, knows, way_of}
 use Rattle.discovery_laws.specs.Laws.{PastLaws, TreeLaws}
 use Rattle.discovery_laws.proofs.Flights.{one_if, count, add}
+use Rattle.discovery_laws.proofs.Effects.{asked_leaves}
 use Rattle.discovery_laws.proofs.Asking.{is_query, is_here, is_query_body, is_here_body, place, one_place, remembers, heres_flying, IsCounted, counted_sent, counted_got, counted_way, counted_asked}
 use Rattle.discovery_laws.proofs.Knowing.{known_sent, known_got, known_asked, known_way, way_knows, way_learned}
 use Rattle.discovery_laws.proofs.Newborn.{near_born, near_turned}
@@ -30,10 +32,10 @@ use Rattle.discovery_laws.proofs.Calm.{counted_knowing, counted_owed, IsAsking, 
 
 -- ---- strays
 
-knows_none : (v : View) (e : Enclave) → v.heard ≡ [] → knows_dead v e ≡ false
+knows_none : (v : View) (e : Enclave) → v.core.heard ≡ [] → knows_dead v e ≡ false
 knows_none v e none = ap (list_any (λ d. eqb d.0 e.0)) none
 
-no_dead : (v : View) (d : Option Enclave) → v.heard ≡ [] → option_map_or (knows_dead v) d false ≡ false
+no_dead : (v : View) (d : Option Enclave) → v.core.heard ≡ [] → option_map_or (knows_dead v) d false ≡ false
 no_dead v None none = refl
 no_dead v (Some e) none = knows_none v e none
 
@@ -42,7 +44,7 @@ or_false true = refl
 or_false false = refl
 
 -- where no death was heard of, a stray is one that comes back to its origin
-pub stray_is : (v : View) (r : Record) → v.heard ≡ [] → is_stray v r ≡ eqb r.origin.0 v.me.0
+pub stray_is : (v : View) (r : Record) → v.core.heard ≡ [] → is_stray v r ≡ eqb r.origin.0 v.me.0
 stray_is v r none = (λ i. (eqb r.origin.0 v.me.0 || knows_none v r.origin none i) || no_dead v r.dest none i) ∙ or_false (eqb r.origin.0 v.me.0)
 
 holder_is : (fact : Option EnclaveFact) → (fact_of fact).ns ≡ is_holder fact
@@ -58,26 +60,26 @@ calm_either : (t : Bool) (ls ms : List Line) → AreCalm ls → AreCalm ms → A
 calm_either true ls ms left right = left
 calm_either false ls ms left right = right
 
-calm_passed : (v : View) (from : Enclave) (over : Option Enclave) (r : Record) → (is_query r || is_here r) ≡ false → AreCalm (passed_lines v from over r)
-calm_passed v from None r calm = (tt, tt)
-calm_passed v from (Some over) r calm = calm_either (eqb over.0 from.0) (drop_lines v) (lines.Sent v.me over r ∷ []) (tt, tt) (calm, tt)
+calm_sent : (v : View) (from : Enclave) (over : Option Enclave) (r : Record) → (is_query r || is_here r) ≡ false → AreCalm (over_lines v (Some from) over r)
+calm_sent v from None r calm = (tt, tt)
+calm_sent v from (Some over) r calm = calm_either (eqb over.0 from.0) (drop_lines v) (lines.Sent v.me over r ∷ []) (tt, tt) (calm, tt)
 
 calm_register : (v : View) (from : Enclave) (r : Record) → (is_query r || is_here r) ≡ false → AreCalm (register_lines v from r)
 calm_register v from r calm = (
   tt,
-  calm_either v.holder (lines.Route v.me r.origin from ∷ lines.Sent v.me from (admit_of v.me r.origin) ∷ [])
-      (passed_lines v from v.way r) (tt, (refl, tt)) (calm_passed v from v.way r calm),
+  calm_either v.core.holder (lines.Route v.me r.origin from ∷ lines.Sent v.me from (admit_of v.me r.origin) ∷ [])
+      (send_lines v (Some from) Server r) (tt, (refl, tt)) (calm_sent v from (way_to v Server) r calm),
 )
 
 calm_over : (v : View) (from d : Enclave) (r : Record) (over : Option Enclave) → (is_query r || is_here r) ≡ false → AreCalm (admit_over v from d r over)
 calm_over v from d r None calm = (tt, tt)
-calm_over v from d r (Some over) calm = (tt, calm_passed v from (Some over) r calm)
+calm_over v from d r (Some over) calm = (tt, calm_sent v from (Some over) r calm)
 
 calm_admit : (v : View) (from : Enclave) (r : Record) (dest : Option Enclave) → (is_query r || is_here r) ≡ false → AreCalm (admit_to v from r dest)
 calm_admit v from r None calm = (tt, tt)
-calm_admit v from r (Some d) calm = calm_either (eqb d.0 v.me.0) (cond v.admitted (drop_lines v) (lines.Admitted v.me ∷ []))
-    (admit_over v from d r (at v.backs d.0)) (calm_either v.admitted (drop_lines v) (lines.Admitted v.me ∷ []) (tt, tt) (tt, tt))
-    (calm_over v from d r (at v.backs d.0) calm)
+calm_admit v from r (Some d) calm = calm_either (eqb d.0 v.me.0) (cond v.core.admitted (drop_lines v) (lines.Admitted v.me ∷ []))
+    (admit_over v from d r (at v.ways.backs d.0)) (calm_either v.core.admitted (drop_lines v) (lines.Admitted v.me ∷ []) (tt, tt) (tt, tt))
+    (calm_over v from d r (at v.ways.backs d.0) calm)
 
 pub calm_body : (v : View) (from : Enclave) (r : Record) → (is_query r || is_here r) ≡ false → (body : Body)
     → (is_query_body body || is_here_body body) ≡ false → AreCalm (body_lines v from r body)
@@ -132,7 +134,10 @@ module _ (laws : TreeLaws) (G : Facts) (x y : Enclave) (r : Record) (behind : Li
         rooted = old.rooted;
       }
       by false is = record {
-        counted = counted_asked asked_owed none_owed (knows G) table got y x (λ a b. omega arith) is first;
+        counted = counted_knowing none_owed (knows G) (knows (after_line got (lines.Asked y x))) (after_line got (lines.Asked y x))
+            (λ a. let same : one_if (knows (after_line got (lines.Asked y x)) a) ≡ one_if (knows G a)
+            = ap (λ o. one_if (holds G a || is_some o)) (asked_leaves got y x a) in omega (arith, same))
+            (counted_asked asked_owed none_owed (knows G) table got y x (λ a b. omega arith) is first);
         known = known_asked laws got y x old.rooted (known_got G x y r behind next old.known);
         rooted = old.rooted;
       }
@@ -198,11 +203,11 @@ module _ (table : RowLaws Enclave) (parent : ℕ) (row : ℕ × Enclave) (rows :
 
 -- each of them is sent a here
 tells_askers : (table : RowLaws Enclave) (v : View) (rows : List (ℕ × Enclave)) (H : Facts) → knows H v.me.0 ≡ true
-    → AreKeyed v.parent.0 rows → IsAsking (row_owed v.me.0 v.parent.0 rows) H
+    → AreKeyed v.core.parent.0 rows → IsAsking (row_owed v.me.0 v.core.parent.0 rows) H
     → IsAsking none_owed (after_lines H (told_askers v rows))
 tells_askers table v [] H knowing good old = record {
-  counted = counted_owed (row_owed v.me.0 v.parent.0 []) none_owed (knows H) H
-      (λ a b. by (eqb a v.me.0) (at [] (place v.parent.0 b)) (table.none (place v.parent.0 b))) old.counted;
+  counted = counted_owed (row_owed v.me.0 v.core.parent.0 []) none_owed (knows H) H
+      (λ a b. by (eqb a v.me.0) (at [] (place v.core.parent.0 b)) (table.none (place v.core.parent.0 b))) old.counted;
   known = old.known;
   rooted = old.rooted;
 }
@@ -213,9 +218,9 @@ tells_askers table v [] H knowing good old = record {
     by false o none = refl
 tells_askers table v (row ∷ rows) H knowing good old =
     let K = after_line H (lines.Sent v.me row.1 (here_of v.me)) in
-    tells_askers table v rows K knowing (behind_keyed table v.parent.0 row rows good) (record {
-      counted = counted_sent (row_owed v.me.0 v.parent.0 (row ∷ rows)) (row_owed v.me.0 v.parent.0 rows) (knows H) H v.me row.1 (here_of v.me)
-          (λ a b. let pays = row_pays table v.parent.0 row rows good v.me.0 a b in omega (arith, pays)) (λ no_query. absurd (cc)) old.counted;
+    tells_askers table v rows K knowing (behind_keyed table v.core.parent.0 row rows good) (record {
+      counted = counted_sent (row_owed v.me.0 v.core.parent.0 (row ∷ rows)) (row_owed v.me.0 v.core.parent.0 rows) (knows H) H v.me row.1 (here_of v.me)
+          (λ a b. let pays = row_pays table v.core.parent.0 row rows good v.me.0 a b in omega (arith, pays)) (λ no_query. absurd (cc)) old.counted;
       known = known_sent H v.me row.1 (here_of v.me) old.counted.within (λ is. refl) (λ here. knowing) old.known;
       rooted = old.rooted;
     })
@@ -226,6 +231,13 @@ tells_askers table v (row ∷ rows) H knowing good old =
 some_holder : (fact : Option EnclaveFact) → is_holder fact ≡ true → is_some fact ≡ true
 some_holder None is = absurd (cc)
 some_holder (Some fact) is = refl
+
+some_living : (fact : Option EnclaveFact) → is_living_enclave fact ≡ true → is_some fact ≡ true
+some_living None is = absurd (cc)
+some_living (Some fact) is = refl
+
+pub living_born : (G : Facts) (e : ℕ) → IsTree G → is_living_enclave (G.enclave e) ≡ true → e < G.born
+living_born G e tree is = ltb-true e G.born (sym (tree.enclaves e).known ∙ some_living (G.enclave e) is)
 
 pub holder_born : (G : Facts) (h : ℕ) → IsTree G → holds G h ≡ true → h < G.born
 holder_born G h tree is = ltb-true h G.born (sym (tree.enclaves h).known ∙ some_holder (G.enclave h) is)

@@ -7,9 +7,11 @@ use Rattle.xemem_language.specs.declared.record.Record.{Record}
 use Rattle.xemem_language.specs.declared.record.Body.{Body}
 use Rattle.xemem_language.specs.declared.record.Body.TheVariants as bodies
 use Rattle.xemem_language.specs.declared.line.Line.TheVariants as lines
-use Rattle.enclave_rules.specs.View.{View, place_among}
+use Rattle.enclave_rules.specs.View.{View}
+use Rattle.enclave_rules.specs.Ways.{place_among}
 use Rattle.xm_num.specs.Rows.{less}
-use Rattle.enclave_rules.specs.Steps.{is_stray, drop_lines, here_of, register_of, told_askers, body_lines, record_lines}
+use Rattle.enclave_rules.specs.Sending.{drop_lines}
+use Rattle.enclave_rules.specs.Steps.{is_stray, here_of, register_of, told_askers, body_lines, record_lines}
 use Rattle.global_model.specs.Facts.{Facts, after_line, after_lines, no_facts}
 use Rattle.global_model.specs.Channels.{is_neighbour}
 use Rattle.global_model.specs.Flow.{IsTree}
@@ -57,7 +59,7 @@ module _ (laws : Laws) (G : Facts) (x y : Enclave) (r : Record) (behind : List R
       ∙ ap (body_lines v x r) is
 
   asked_here : r.body ≡ bodies.Here → (t : Bool) → knows G y.0 ≡ t → IsAsked (after_lines after (cond t (drop_lines v) (lines.Way y x
-      ∷ told_askers v (less v.askers (place_among v.parent x)) ++ lines.Sent y x (register_of y) ∷ [])))
+      ∷ told_askers v (less v.ways.askers (place_among v.core.parent x)) ++ lines.Sent y x (register_of y) ∷ [])))
   asked_here is true knowing = handles_calm laws.tree G x y r behind next (ap is_query_body is) (λ here. knowing) (drop_lines v) (tt, tt) old
   asked_here is false unknowing = handles_here laws.tree G x y tree near old laws.past laws.table r behind next (ap is_here_body is) (ap is_query_body is) unknowing
 
@@ -67,7 +69,7 @@ module _ (laws : Laws) (G : Facts) (x y : Enclave) (r : Record) (behind : List R
       (handles_query laws.tree G x y r behind next laws.table (ap is_query_body is) (ap is_here_body is) old (knows G y.0) refl)
   asked_record bodies.Here is = subst (λ ls. IsAsked (after_lines after ls))
       (sym (by_kind bodies.Here is refl ∙ ap (λ t. cond t (drop_lines v) (lines.Way y x
-      ∷ told_askers v (less v.askers (place_among v.parent x)) ++ lines.Sent y x (register_of y) ∷ [])) (knows_way_is G y)))
+      ∷ told_askers v (less v.ways.askers (place_among v.core.parent x)) ++ lines.Sent y x (register_of y) ∷ [])) (knows_way_is G y)))
       (asked_here is (knows G y.0) refl)
   asked_record body is =
       let calm : (is_query r || is_here r) ≡ false = ap (λ b. is_query_body b || is_here_body b) is in
@@ -99,6 +101,7 @@ asked_first laws = record {
   };
   known = record {
     quiet = λ e. refl;
+    uncut = λ a b. refl;
     own = λ a b. tt;
     told = λ a b some. absurd (omega (arith, some));
     over = λ e x is. absurd (cc);

@@ -93,6 +93,7 @@ pub record IsAlike (G H : Facts) : Type 0 where
   pub heard : (e : ℕ) → H.heard e ≡ G.heard e
   pub sent : (a b : ℕ) → (H.channel a b).sent ≡ (G.channel a b).sent
   pub got : (a b : ℕ) → (H.channel a b).got ≡ (G.channel a b).got
+  pub cut : (a b : ℕ) → (H.channel a b).cut ≡ (G.channel a b).cut
 
 pub record IsSame (G H : Facts) : Type 0 where
   pub alike : IsAlike G H

@@ -8,7 +8,7 @@ use Rattle.xm_num.specs.declared.Kind.{Kind}
 use Rattle.xm_num.specs.declared.Kind.TheVariants as kinds
 use Rattle.xm_num.specs.declared.Block.{Block}
 use Rattle.xemem_language.specs.declared.line.Line.TheVariants as lines
-use Rattle.enclave_rules.specs.View.{host}
+use Rattle.enclave_rules.specs.Core.{host}
 use Rattle.enclave_rules.specs.Steps.{query_of, child_lines, adopt_lines, birth_lines, host_lines}
 use Rattle.global_model.specs.Facts.{Facts, after_line, after_lines}
 use Rattle.global_model.specs.Pauses.{MayBear, MayHost, IsPause}
@@ -21,7 +21,7 @@ use Rattle.discovery_laws.proofs.Asking.{is_query, queries_sent, counted_sent}
 use Rattle.discovery_laws.proofs.Knowing.{known_sent}
 use Rattle.discovery_laws.proofs.Newborn.{born, far_down, far_up, known_born, counted_born}
 use Rattle.discovery_laws.proofs.Calm.{counted_owed, IsAsking, AreCalm, calm_line, calm_lines}
-use Rattle.discovery_laws.proofs.Answered.{none_owed, holder_born, knows_way_is}
+use Rattle.discovery_laws.proofs.Answered.{none_owed, holder_born, knows_way_is, living_born}
 
 -- two that aren't the same owe each other at most one answer
 add_apart : (s t : Bool) (p c a b : ℕ) → p ≢ c → add s p c a b + add t c p a b ≤ 1
@@ -108,7 +108,7 @@ module _ (laws : Laws) (G : Facts) (pause : IsPause G) (old : IsAsking none_owed
 
     above : parent.0 < child.0
     above =
-        let low : parent.0 < G.born = ltb-true parent.0 G.born (sym (pause.tree.enclaves parent.0).living ∙ may.living) in
+        let low : parent.0 < G.born = living_born G parent.0 pause.tree may.living in
         omega (arith, low, may.next)
 
     asking_born : IsAsking both_owed H

@@ -64,6 +64,7 @@ alike_admitted G e = record {
   heard = λ a. refl;
   sent = λ a b. refl;
   got = λ a b. refl;
+  cut = λ a b. refl;
 }
 
 alike_took : (G : Facts) (x y : Enclave) (n : ℕ) → IsAlike G (after_line G (lines.Took x y n))
@@ -77,6 +78,7 @@ alike_took G x y n = record {
   heard = λ a. refl;
   sent = λ a b. pair_has (λ a b t c. c.sent ≡ (G.channel a b).sent) x.0 y.0 (with_taken n) G.channel a b refl refl;
   got = λ a b. pair_has (λ a b t c. c.got ≡ (G.channel a b).got) x.0 y.0 (with_taken n) G.channel a b refl refl;
+  cut = λ a b. pair_has (λ a b t c. c.cut ≡ (G.channel a b).cut) x.0 y.0 (with_taken n) G.channel a b refl refl;
 }
 
 -- it asks for no way, tells none, and bears no enclave
@@ -134,6 +136,7 @@ still_same G H leaves born server enclaves channels heard = record {
     heard = heard;
     sent = λ a b. ap (λ c. c.sent) (channels a b);
     got = λ a b. ap (λ c. c.got) (channels a b);
+    cut = λ a b. ap (λ c. c.cut) (channels a b);
   };
   askers = leaves.askers;
 }

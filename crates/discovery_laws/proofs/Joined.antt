@@ -56,9 +56,9 @@ joined_leads G joined = record {
 -- ---- rest
 
 -- where nothing is under way an enclave that knows its way is admitted
-module _ (G : Facts) (flowing : IsFlowing G) (rest : IsAtRest G) where
+module _ (G : Facts) (flowing : IsFlowing G) (uncut : (x y : ℕ) → (G.channel x y).cut ≡ 0) (rest : IsAtRest G) where
   nothing_about : (d a b : ℕ) → about_in G d a b ≡ []
-  nothing_about d a b = ap (filter (is_about d)) (rest_flight G flowing rest a b)
+  nothing_about d a b = ap (filter (is_about d)) (rest_flight G flowing uncut rest a b)
 
   something : (x y : ℕ) (r : Record) → [] ≡ alone_at x y (r ∷ []) x y → ⊥
   something x y r none =

@@ -6,7 +6,7 @@ use Rattle.std.proofs.lemmas.Bool.{eqb-true, eqb-false, and_parts, or_right}
 use Rattle.xm_num.specs.declared.Enclave.{Enclave}
 use Rattle.xemem_language.specs.declared.record.Record.{Record}
 use Rattle.xemem_language.specs.declared.line.Line.TheVariants as lines
-use Rattle.global_model.specs.Facts.{Facts, after_line, with_sent}
+use Rattle.global_model.specs.Facts.{Facts, after_line, with_got, with_sent}
 use Rattle.global_model.specs.Tree.{IsRooted, IsToward, parent_of}
 use Rattle.discovery_laws.specs.Known.{holds, in_flight, knows, way_of}
 use Rattle.discovery_laws.specs.Laws.{TreeLaws}
@@ -22,6 +22,7 @@ IsOwn x r = (is_query r || is_here r) ≡ true → r.origin.0 ≡ x
 
 pub record IsKnown (G : Facts) : Type 0 where
   pub quiet : (e : ℕ) → G.heard e ≡ []
+  pub uncut : (a b : ℕ) → (G.channel a b).cut ≡ 0
   pub own : (a b : ℕ) → AllByRecursion (IsOwn a) (G.channel a b).sent
   pub told : (a b : ℕ) → 1 ≤ heres_flying G a b → knows G a ≡ true
   pub over : (e : ℕ) (x : Enclave) → way_of G e ≡ Some x → knows G x.0 ≡ true
@@ -39,6 +40,7 @@ own-append x (s ∷ rs) r all own = (all.0, own-append x rs r all.1 own)
 pub known_same : (laws : TreeLaws) (G H : Facts) → IsAlike G H → IsRooted (parent_of G) → IsKnown G → IsKnown H
 known_same laws G H same rooted old = record {
   quiet = λ e. same.heard e ∙ old.quiet e;
+  uncut = λ a b. same.cut a b ∙ old.uncut a b;
   own = λ a b. rw (same.sent a b) (old.own a b);
   told = λ a b some. same_knows G H same a ∙ old.told a b (subst (λ rs. 1 ≤ count is_here rs) (same_flight G H same a b) some);
   over = λ e x is. same_knows G H same x.0 ∙ old.over e x (sym (same.way e) ∙ is);
@@ -56,6 +58,7 @@ pub known_sent : (G : Facts) (x y : Enclave) (r : Record) → IsBounded G
     → IsOwn x.0 r → (is_here r ≡ true → knows G x.0 ≡ true) → IsKnown G → IsKnown (after_line G (lines.Sent x y r))
 known_sent G x y r within own knowing old = record {
   quiet = old.quiet;
+  uncut = λ a b. pair_has (λ a b t c. c.cut ≡ 0) x.0 y.0 (with_sent r) G.channel a b (old.uncut x.0 y.0) (old.uncut a b);
   own = λ a b. pair_has (λ a b t c. AllByRecursion (IsOwn a) c.sent) x.0 y.0 (with_sent r) G.channel a b
       (own-append x.0 (G.channel x.0 y.0).sent r (old.own x.0 y.0) own) (old.own a b);
   told = λ a b some. by a b (is_here r) refl (eqb a x.0 && eqb b y.0) refl some;
@@ -82,6 +85,7 @@ pub known_got : (G : Facts) (x y : Enclave) (r : Record) (behind : List Record) 
     → IsKnown G → IsKnown (after_line G (lines.Got x y))
 known_got G x y r behind next old = record {
   quiet = old.quiet;
+  uncut = λ a b. pair_has (λ a b t c. c.cut ≡ 0) x.0 y.0 with_got G.channel a b (old.uncut x.0 y.0) (old.uncut a b);
   own = λ a b. rw (got_sent G x y a b) (old.own a b);
   told = λ a b some. let less = flies_less G x y r behind next is_here a b in old.told a b (omega (arith, less, some));
   over = old.over;
@@ -102,6 +106,7 @@ known_asked laws G y asker rooted old = known_same laws G (after_line G (lines.A
   heard = λ e. refl;
   sent = λ a b. refl;
   got = λ a b. refl;
+  cut = λ a b. refl;
 }) rooted old
 
 -- ---- the way is learned
@@ -125,6 +130,7 @@ module _ (G : Facts) (y from : Enclave) where
       → IsKnown G → IsKnown H
   known_way knowing toward old = record {
     quiet = old.quiet;
+    uncut = old.uncut;
     own = old.own;
     told = λ a b some. way_knows a (old.told a b some);
     over = λ e x. way_at (λ e way. way ≡ Some x → knows H x.0 ≡ true) e

@@ -148,6 +148,7 @@ module _ (G : Facts) (child parent : Enclave) (kind : Kind) (ns : Bool) (blocks 
   pub known_born : TreeLaws → IsRooted (parent_of G) → (ns ≡ true → G.server ≡ false) → IsKnown G → IsKnown born
   known_born laws rooted free old = record {
     quiet = old.quiet;
+    uncut = old.uncut;
     own = old.own;
     told = λ a b some. still_knows a (old.told a b some);
     over = λ e x is. still_knows x.0 (old.over e x is);

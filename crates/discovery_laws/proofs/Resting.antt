@@ -1,18 +1,19 @@
 -- At rest nothing is under way; so where an enclave holds the name server all know the way to it.
-use Rattle.std.proofs.Common.{◌≡◌, ◌+◌, ◌-◌, ◌<◌, ◌≤◌, ℕ, zero, suc, List, [], ◌∷◌, Bool, true, false, not, eqb, leb, drop, length, is_some, Option, None, Some, refl, sym, ap, ◌∙◌, arith, length-append, length-drop}
+use Rattle.std.proofs.Common.{◌≡◌, ◌+◌, ◌-◌, ◌<◌, ◌≤◌, ℕ, zero, suc, List, [], ◌∷◌, Bool, true, false, cond, not, eqb, leb, drop, take, length, is_some, Option, None, Some, refl, sym, ap, ◌∙◌, arith, length-append, length-drop}
+use Rattle.std.proofs.lemmas.List.{length-take}
 use Rattle.std.proofs.lemmas.Bool.{eqb-true, eqb-false, ltb-true, eq-eqb, ne_eqb, le-leb, lt-ltb, and_from, or_left}
 use Rattle.xemem_language.specs.declared.record.Record.{Record}
 use Rattle.xemem_wire.specs.Spelling.{spelling_of, spellings_of}
-use Rattle.global_model.specs.Facts.{Facts, EnclaveFact, fact_of, has_parent, is_living_enclave}
-use Rattle.global_model.specs.Channels.{is_child_of, is_neighbour, size_of, waiting_bytes, whole_records}
+use Rattle.global_model.specs.Facts.{Facts, EnclaveFact, fact_of, has_parent, is_living_enclave, lives_at}
+use Rattle.global_model.specs.Channels.{is_child_of, is_neighbour, size_of, waiting_of, whole_records}
 use Rattle.global_model.specs.Flow.{IsFlowing, IsTree}
 use Rattle.global_model.specs.Rest.{IsAtRest}
 use Rattle.global_model.specs.Tree.{parent_of}
 use Rattle.discovery_laws.specs.Known.{holds, in_flight, knows, way_of}
 use Rattle.discovery_laws.proofs.Flights.{one_if, count}
 use Rattle.discovery_laws.proofs.Asking.{is_query, is_here, remembers, queries_flying, heres_flying, place}
-use Rattle.discovery_laws.proofs.Newborn.{near_turned}
-use Rattle.discovery_laws.proofs.Answered.{holder_born}
+use Rattle.discovery_laws.proofs.Newborn.{near_born, near_turned}
+use Rattle.discovery_laws.proofs.Answered.{holder_born, living_born}
 use Rattle.discovery_laws.proofs.Asked.{IsAsked}
 
 -- ---- nothing is under way
@@ -25,20 +26,31 @@ all_whole n (r ∷ rs) le =
     let here : leb (size_of r) n ≡ true = le-leb (size_of r) n (omega (arith, both, le)) in
     rw here (ap (λ more. r ∷ more) (all_whole (n - size_of r) rs (omega (arith, both, le))))
 
-pub rest_flight : (G : Facts) → IsFlowing G → IsAtRest G → (x y : ℕ) → in_flight G x y ≡ []
-rest_flight G flowing rest x y =
-    let c = G.channel x y in
-    let taken : length (spellings_of c.sent) ≤ c.taken
-    = let none : length (waiting_bytes G x y) ≡ 0 = ap length (rest x y) in omega (arith, none, length-drop c.taken (spellings_of c.sent)) in
-    ap (drop c.got) (sym (all_whole c.taken c.sent taken)) ∙ flowing.arrived x y
+-- nothing is cut off, and who is a neighbour's neighbour was born and lives
+pub rest_flight : (G : Facts) → IsFlowing G → ((x y : ℕ) → (G.channel x y).cut ≡ 0) → IsAtRest G → (x y : ℕ) → in_flight G x y ≡ []
+rest_flight G flowing uncut rest x y = by (is_neighbour G x y) refl
+  where
+    waits : lives_at G y ≡ true → waiting_of (G.channel x y) ≡ []
+    waits living = ap (λ t. cond t (waiting_of (G.channel x y)) []) (sym living) ∙ (rest x y).0
+
+    by : (t : Bool) → is_neighbour G x y ≡ t → in_flight G x y ≡ []
+    by false far = ap (λ c. drop c.got c.sent) (flowing.apart x y far)
+    by true near =
+        let bytes = spellings_of (G.channel x y).sent in
+        let living = flowing.tree.all_live y (near_born G y x flowing.tree (near_turned G x y near)) in
+        let none : length (waiting_of (G.channel x y)) ≡ 0 = ap length (waits living) in
+        let taken : length bytes ≤ (G.channel x y).taken
+        = omega (arith, none, uncut x y, length-drop (G.channel x y).taken (take (length bytes - (G.channel x y).cut) bytes),
+        length-take (length bytes - (G.channel x y).cut) bytes) in
+        ap (drop (G.channel x y).got) (sym (all_whole (G.channel x y).taken (G.channel x y).sent taken)) ∙ flowing.arrived x y
 
 -- ---- all know the way
 
 -- who knows the way remembers nobody, so its neighbours know it too
 neighbour_knows : (G : Facts) → IsFlowing G → IsAsked G → IsAtRest G → (a b : ℕ) → is_neighbour G a b ≡ true → knows G b ≡ true → knows G a ≡ true
 neighbour_knows G flowing asked rest a b near knowing =
-    let queries : queries_flying G a b ≡ 0 = ap (count is_query) (rest_flight G flowing rest a b) in
-    let heres : heres_flying G b a ≡ 0 = ap (count is_here) (rest_flight G flowing rest b a) in
+    let queries : queries_flying G a b ≡ 0 = ap (count is_query) (rest_flight G flowing asked.known.uncut rest a b) in
+    let heres : heres_flying G b a ≡ 0 = ap (count is_here) (rest_flight G flowing asked.known.uncut rest b a) in
     let none : one_if (remembers G b a) ≡ 0 = ap (λ o. one_if (is_some o)) (asked.counted.still b (place (parent_of G b) a) knowing) in
     by (knows G a) (omega (arith, queries, heres, none, asked.counted.asked a b near))
   where
@@ -100,6 +112,6 @@ module _ (G : Facts) (flowing : IsFlowing G) (asked : IsAsked G) (rest : IsAtRes
   knows_at_rest served e living =
       let held = asked.known.held served in
       let low : held.holder < G.born = holder_born G held.holder flowing.tree held.holds in
-      let below : e < G.born = ltb-true e G.born (sym (flowing.tree.enclaves e).living ∙ living) in
+      let below : e < G.born = living_born G e flowing.tree living in
       let top : knows G 0 ≡ true = host_knows held.holder held.holder (omega arith) low (or_left (holds G held.holder) (is_some (way_of G held.holder)) held.holds) in
       all_know top e e (omega arith) below

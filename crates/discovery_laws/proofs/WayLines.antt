@@ -15,8 +15,11 @@ use Rattle.xemem_language.specs.declared.record.Body.{Body}
 use Rattle.xemem_language.specs.declared.record.Body.TheVariants as bodies
 use Rattle.xemem_language.specs.declared.line.Line.{Line}
 use Rattle.xemem_language.specs.declared.line.Line.TheVariants as lines
-use Rattle.enclave_rules.specs.View.{View, host, place_among}
-use Rattle.enclave_rules.specs.Steps.{knows_way, is_stray, query_of, here_of, register_of, drop_lines, told_lines, child_lines, adopt_lines, birth_lines, host_lines, told_askers, body_lines, record_lines}
+use Rattle.enclave_rules.specs.View.{View}
+use Rattle.enclave_rules.specs.Core.{host}
+use Rattle.enclave_rules.specs.Ways.{place_among}
+use Rattle.enclave_rules.specs.Sending.{knows_way, drop_lines}
+use Rattle.enclave_rules.specs.Steps.{is_stray, query_of, here_of, register_of, told_lines, child_lines, adopt_lines, birth_lines, host_lines, told_askers, body_lines, record_lines}
 use Rattle.global_model.specs.Facts.{Facts, after_line, after_lines, no_facts}
 use Rattle.global_model.specs.Place.{IsPlaced}
 use Rattle.global_model.specs.Due.{journal_of}
@@ -122,16 +125,16 @@ module _ (laws : Laws) (G : Facts) (e : ℕ) (x y : Enclave) (r : Record) where
   v = view_of G y
 
   here_told : (t : Bool) → knows_way v ≡ t → IsTold G e (lines.Got x y ∷ cond t (drop_lines v) (lines.Way y x
-      ∷ told_askers v (less v.askers (place_among v.parent x)) ++ lines.Sent y x (register_of y) ∷ []))
+      ∷ told_askers v (less v.ways.askers (place_among v.core.parent x)) ++ lines.Sent y x (register_of y) ∷ []))
   here_told true is = wayless_told e (lines.Got x y ∷ drop_lines v) G (tt, (tt, tt))
   here_told false is =
-      let others = told_askers v (less v.askers (place_among v.parent x)) in
+      let others = told_askers v (less v.ways.askers (place_among v.core.parent x)) in
       let first : IsTold G e (lines.Got x y ∷ lines.Way y x ∷ [])
       = told-append laws.past G e (lines.Got x y ∷ []) (lines.Way y x ∷ []) (wayless_told e (lines.Got x y ∷ []) G (tt, tt))
-      (way_told (after_line G (lines.Got x y)) e y x (unknown_way v.holder (way_of G y.0) is)) in
+      (way_told (after_line G (lines.Got x y)) e y x (unknown_way v.core.holder (way_of G y.0) is)) in
       told-append laws.past G e (lines.Got x y ∷ lines.Way y x ∷ []) (others ++ lines.Sent y x (register_of y) ∷ []) first
       (wayless_told e (others ++ lines.Sent y x (register_of y) ∷ []) (after_lines G (lines.Got x y ∷ lines.Way y x ∷ []))
-      (wayless-append others (lines.Sent y x (register_of y) ∷ []) (wayless_askers v (less v.askers (place_among v.parent x))) (tt, tt)))
+      (wayless-append others (lines.Sent y x (register_of y) ∷ []) (wayless_askers v (less v.ways.askers (place_among v.core.parent x))) (tt, tt)))
 
   body_told : (body : Body) → r.body ≡ body → IsTold G e (lines.Got x y ∷ body_lines v x r body)
   body_told bodies.Query is = wayless_told e (lines.Got x y ∷ body_lines v x r bodies.Query) G

@@ -11,4 +11,5 @@ returns-clause-knows c = λ commands placed rest. knows_at_rest (facts_after (jo
 
 pub returns-clause-admitted : goal.returns-clause-admitted
 returns-clause-admitted c = λ commands placed rest. admitted_at_rest (facts_after (journal_of commands))
-    (c.laws.ensures.journal.flowing commands placed) rest (journal_of-joined c.laws.ensures commands placed)
+    (c.laws.ensures.journal.flowing commands placed) (journal_of-joined c.laws.ensures commands placed).asked.known.uncut rest
+    (journal_of-joined c.laws.ensures commands placed)
