@@ -108,10 +108,10 @@ module _ (laws : Laws) (G : Facts) (x y : Enclave) (d h : ℕ) (rs : List Record
 
 -- ---- what is made of it
 
-admit_home : (v : View) (from d : Enclave) (r : Record) → d.0 ≡ v.me.0 → v.admitted ≡ false → admit_to v from r (Some d) ≡ lines.Admitted v.me ∷ []
+admit_home : (v : View) (from d : Enclave) (r : Record) → d.0 ≡ v.me.0 → v.core.admitted ≡ false → admit_to v from r (Some d) ≡ lines.Admitted v.me ∷ []
 admit_home v from d r is waits = rw (eq-eqb d.0 v.me.0 is, waits) refl
 
-admit_on : (v : View) (from d over : Enclave) (r : Record) → d.0 ≢ v.me.0 → at v.backs d.0 ≡ Some over → over.0 ≢ from.0
+admit_on : (v : View) (from d over : Enclave) (r : Record) → d.0 ≢ v.me.0 → at v.ways.backs d.0 ≡ Some over → over.0 ≢ from.0
     → admit_to v from r (Some d) ≡ lines.Route v.me d over ∷ lines.Sent v.me over r ∷ []
 admit_on v from d over r apart back turned = rw (ne_eqb d.0 v.me.0 apart, back, ne_eqb over.0 from.0 turned) refl
 
@@ -146,7 +146,7 @@ admit_handled laws G x y d h rs led tree bounded staged flight last =
         let nearer = staged.at.nearer in
         omega (arith, same, nearer))
 
-    waits : d ≡ y.0 → (view_of G y).admitted ≡ false
+    waits : d ≡ y.0 → (view_of G y).core.admitted ≡ false
     waits is = view_admitted (G.enclave y.0) ∙ ap (is_admitted_at G) (sym is) ∙ staged.at.waits
 
     born : is_some (G.enclave y.0) ≡ true

@@ -7,8 +7,10 @@ use Rattle.xemem_language.specs.declared.record.Record.{Record}
 use Rattle.xemem_language.specs.declared.record.Body.TheVariants as bodies
 use Rattle.xemem_language.specs.declared.line.Line.{Line}
 use Rattle.xemem_language.specs.declared.line.Line.TheVariants as lines
-use Rattle.enclave_rules.specs.View.{View, place_among}
-use Rattle.enclave_rules.specs.Steps.{body_lines, here_lines, here_of, is_stray, knows_way, record_lines, register_of, told_askers}
+use Rattle.enclave_rules.specs.View.{View}
+use Rattle.enclave_rules.specs.Steps.{body_lines, here_lines, here_of, is_stray, record_lines, register_of, told_askers}
+use Rattle.enclave_rules.specs.Sending.{knows_way}
+use Rattle.enclave_rules.specs.Ways.{place_among}
 use Rattle.global_model.specs.Facts.{Facts, after_line, after_lines}
 use Rattle.global_model.specs.Tree.{IsRooted, IsToward, parent_of}
 use Rattle.global_model.specs.Views.{view_of}
@@ -79,7 +81,7 @@ registers laws G d x h parent born rooted bounded fresh ahead holder knowing kno
 -- ---- hearing of a way
 
 here_first : (v : View) (from : Enclave) → knows_way v ≡ false
-    → here_lines v from ≡ lines.Way v.me from ∷ told_askers v (less v.askers (place_among v.parent from)) ++ lines.Sent v.me from (register_of v.me) ∷ []
+    → here_lines v from ≡ lines.Way v.me from ∷ told_askers v (less v.ways.askers (place_among v.core.parent from)) ++ lines.Sent v.me from (register_of v.me) ∷ []
 here_first v from none = rw none refl
 
 -- what is told to askers changes no way
@@ -142,14 +144,14 @@ here_handled laws G x y r rs stage bounded staged flight body apt none = subst P
     unknown = knows_way_is G y ∙ none
 
     lines_are : record_lines (view_of G y) x r
-        ≡ lines.Way y x ∷ told_askers (view_of G y) (less (view_of G y).askers (place_among (view_of G y).parent x)) ++ lines.Sent y x (register_of y) ∷ []
+        ≡ lines.Way y x ∷ told_askers (view_of G y) (less (view_of G y).ways.askers (place_among (view_of G y).core.parent x)) ++ lines.Sent y x (register_of y) ∷ []
     lines_are = record_is (view_of G y) x r apt ∙ ap (body_lines (view_of G y) x r) body ∙ here_first (view_of G y) x unknown
 
     aside : is_about y.0 r ≡ false
     aside = ap (is_about_by y.0 r) body
 
-    done : P (lines.Way y x ∷ told_askers (view_of G y) (less (view_of G y).askers (place_among (view_of G y).parent x)) ++ lines.Sent y x (register_of y) ∷ [])
-    done = begins laws (after_line G (lines.Got x y)) (view_of G y) y x (less (view_of G y).askers (place_among (view_of G y).parent x))
+    done : P (lines.Way y x ∷ told_askers (view_of G y) (less (view_of G y).ways.askers (place_among (view_of G y).core.parent x)) ++ lines.Sent y x (register_of y) ∷ [])
+    done = begins laws (after_line G (lines.Got x y)) (view_of G y) y x (less (view_of G y).ways.askers (place_among (view_of G y).core.parent x))
         (bounded_got G x y r rs flight bounded)
         (fresh_stays G (after_line G (lines.Got x y)) y.0 (unmoved_got G x y r rs y.0 flight aside)
         (silent_stage (parent_of G) G.born G y.0 stage none staged))

@@ -9,8 +9,10 @@ use Rattle.xm_num.specs.declared.Kind.TheVariants as kinds
 use Rattle.xemem_language.specs.declared.record.Record.{Record}
 use Rattle.xemem_language.specs.declared.line.Line.{Line}
 use Rattle.xemem_language.specs.declared.line.Line.TheVariants as lines
-use Rattle.enclave_rules.specs.View.{View, host}
-use Rattle.enclave_rules.specs.Steps.{adopt_lines, child_lines, knows_way, query_of, record_lines, told_lines}
+use Rattle.enclave_rules.specs.View.{View}
+use Rattle.enclave_rules.specs.Steps.{adopt_lines, child_lines, query_of, record_lines, told_lines}
+use Rattle.enclave_rules.specs.Core.{host}
+use Rattle.enclave_rules.specs.Sending.{knows_way}
 use Rattle.global_model.specs.Facts.{Facts, after_line, after_lines, facts_at, is_admitted}
 use Rattle.global_model.specs.Flow.{IsTree}
 use Rattle.global_model.specs.Journals.{Follows, onto}

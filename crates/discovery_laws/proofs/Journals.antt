@@ -4,9 +4,9 @@ use Rattle.xemem_language.specs.declared.command.Command.{Command}
 use Rattle.xemem_language.specs.declared.line.Line.{Line}
 use Rattle.xemem_language.specs.declared.line.Line.TheVariants as lines
 use Rattle.enclave_rules.specs.Steps.{adopt_lines, child_lines, told_lines}
-use Rattle.enclave_rules.specs.View.{host}
+use Rattle.enclave_rules.specs.Core.{host}
 use Rattle.global_model.specs.Due.{journal_of}
-use Rattle.global_model.specs.Facts.{Facts, after_lines, facts_after, facts_at}
+use Rattle.global_model.specs.Facts.{Facts, after_lines, facts_after, facts_at, no_facts}
 use Rattle.global_model.specs.Journals.{Follows, onto}
 use Rattle.global_model.specs.Pauses.{AreSteps, IsPause, MayCome, Step, Written, Hosts, Bears, Takes, Handles, written_by, written_in}
 use Rattle.global_model.specs.Place.{IsPlaced}

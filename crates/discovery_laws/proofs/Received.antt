@@ -10,8 +10,10 @@ use Rattle.xemem_language.specs.declared.record.Body.{Body}
 use Rattle.xemem_language.specs.declared.record.Body.TheVariants as bodies
 use Rattle.xemem_language.specs.declared.line.Line.{Line}
 use Rattle.xemem_language.specs.declared.line.Line.TheVariants as lines
-use Rattle.enclave_rules.specs.View.{View, place_among}
-use Rattle.enclave_rules.specs.Steps.{admit_over, admit_to, body_lines, drop_lines, here_lines, here_of, register_of, admit_of, is_stray, knows_way, passed_lines, query_lines, record_lines, register_lines, told_askers}
+use Rattle.enclave_rules.specs.View.{View}
+use Rattle.enclave_rules.specs.Steps.{admit_over, admit_to, body_lines, here_lines, here_of, register_of, admit_of, is_stray, query_lines, record_lines, register_lines, told_askers}
+use Rattle.enclave_rules.specs.Sending.{drop_lines, knows_way, over_lines}
+use Rattle.enclave_rules.specs.Ways.{place_among}
 use Rattle.global_model.specs.Facts.{Facts, after_line}
 use Rattle.discovery_laws.specs.Known.{in_flight}
 use Rattle.discovery_laws.proofs.Stages.{about_in, is_about, is_about_by}
@@ -51,7 +53,7 @@ unmoved_got G x y r rs d is other = record {
 
 -- ---- what is made of a record
 
-aside_passed : (v : View) (from : Enclave) (to : Option Enclave) (r : Record) (d : ℕ) → is_about d r ≡ false → AreAside d (passed_lines v from to r)
+aside_passed : (v : View) (from : Enclave) (to : Option Enclave) (r : Record) (d : ℕ) → is_about d r ≡ false → AreAside d (over_lines v (Some from) to r)
 aside_passed v from None r d other = (tt, tt)
 aside_passed v from (Some over) r d other = by (eqb over.0 from.0)
   where
@@ -80,18 +82,18 @@ aside_here v from d may = by (knows_way v) may
   where
     by : (t : Bool) → (t ≡ true) ⊎ (v.me.0 ≢ d)
         → AreAside d (cond t (drop_lines v)
-        (lines.Way v.me from ∷ told_askers v (less v.askers (place_among v.parent from)) ++ lines.Sent v.me from (register_of v.me) ∷ []))
+        (lines.Way v.me from ∷ told_askers v (less v.ways.askers (place_among v.core.parent from)) ++ lines.Sent v.me from (register_of v.me) ∷ []))
     by true may = (tt, tt)
     by false (inl is) = absurd (cc)
-    by false (inr other) = (other, aside_told v (less v.askers (place_among v.parent from)) d _ (ne_eqb v.me.0 d other, tt))
+    by false (inr other) = (other, aside_told v (less v.ways.askers (place_among v.core.parent from)) d _ (ne_eqb v.me.0 d other, tt))
 
 aside_register : (v : View) (from : Enclave) (r : Record) (d : ℕ) → is_about d r ≡ false → r.origin.0 ≢ d → AreAside d (register_lines v from r)
-aside_register v from r d other apart = (apart, by v.holder)
+aside_register v from r d other apart = (apart, by v.core.holder)
   where
     by : (t : Bool) → AreAside d (cond t (lines.Route v.me r.origin from ∷ lines.Sent v.me from (admit_of v.me r.origin) ∷ [])
-        (passed_lines v from v.way r))
+        (over_lines v (Some from) (cond t None v.ways.way) r))
     by true = (apart, (ne_eqb r.origin.0 d apart, tt))
-    by false = aside_passed v from v.way r d other
+    by false = aside_passed v from v.ways.way r d other
 
 aside_over : (v : View) (from e : Enclave) (r : Record) (d : ℕ) (over : Option Enclave) → is_about d r ≡ false → e.0 ≢ d
     → AreAside d (admit_over v from e r over)
@@ -101,16 +103,16 @@ aside_over v from e r d (Some over) other apart = (apart, aside_passed v from (S
 aside_admit : (v : View) (from : Enclave) (r : Record) (d : ℕ) (dest : Option Enclave) → is_about d r ≡ false
     → option_map_or (λ e. eqb e.0 d) dest false ≡ false → AreAside d (admit_to v from r dest)
 aside_admit v from r d None other none = (tt, tt)
-aside_admit v from r d (Some e) other none = by (eqb e.0 v.me.0) refl v.admitted
+aside_admit v from r d (Some e) other none = by (eqb e.0 v.me.0) refl v.core.admitted
   where
     apart : e.0 ≢ d
     apart = eqb-false e.0 d none
 
     by : (t : Bool) → eqb e.0 v.me.0 ≡ t → (ready : Bool)
-        → AreAside d (cond t (cond ready (drop_lines v) (lines.Admitted v.me ∷ [])) (admit_over v from e r (at v.backs e.0)))
+        → AreAside d (cond t (cond ready (drop_lines v) (lines.Admitted v.me ∷ [])) (admit_over v from e r (at v.ways.backs e.0)))
     by true is true = (tt, tt)
     by true is false = (λ me. apart (eqb-true e.0 v.me.0 is ∙ me), tt)
-    by false is ready = aside_over v from e r d (at v.backs e.0) other apart
+    by false is ready = aside_over v from e r d (at v.ways.backs e.0) other apart
 
 aside_body : (v : View) (from : Enclave) (r : Record) (d : ℕ) (body : Body) → is_about d r ≡ false → is_about_by d r body ≡ false → MayHear v d body
     → AreAside d (body_lines v from r body)

@@ -157,11 +157,11 @@ module _ (laws : Laws) (G : Facts) (x y : Enclave) (d h : ℕ) (rs : List Record
 pub record_is : (v : View) (from : Enclave) (r : Record) → is_stray v r ≡ false → record_lines v from r ≡ body_lines v from r r.body
 record_is v from r is = rw is refl
 
-register_here : (v : View) (from : Enclave) (r : Record) → v.holder ≡ true
+register_here : (v : View) (from : Enclave) (r : Record) → v.core.holder ≡ true
     → register_lines v from r ≡ lines.Back v.me r.origin from ∷ lines.Route v.me r.origin from ∷ lines.Sent v.me from (admit_of v.me r.origin) ∷ []
 register_here v from r is = rw is refl
 
-register_on : (v : View) (from over : Enclave) (r : Record) → v.holder ≡ false → v.way ≡ Some over → over.0 ≢ from.0
+register_on : (v : View) (from over : Enclave) (r : Record) → v.core.holder ≡ false → v.ways.way ≡ Some over → over.0 ≢ from.0
     → register_lines v from r ≡ lines.Back v.me r.origin from ∷ lines.Sent v.me over r ∷ []
 register_on v from over r is way apart = rw (is, way, ne_eqb over.0 from.0 apart) refl
 

@@ -7,7 +7,8 @@ use Rattle.xemem_language.specs.declared.record.Body.{Body}
 use Rattle.xemem_language.specs.declared.record.Body.TheVariants as bodies
 use Rattle.xemem_language.specs.declared.line.Line.TheVariants as lines
 use Rattle.enclave_rules.specs.View.{View}
-use Rattle.enclave_rules.specs.Steps.{admit_of, is_stray, knows_way, record_lines, register_of}
+use Rattle.enclave_rules.specs.Steps.{admit_of, is_stray, record_lines, register_of}
+use Rattle.enclave_rules.specs.Sending.{knows_way}
 use Rattle.global_model.specs.Facts.{Facts, after_line, after_lines}
 use Rattle.global_model.specs.Channels.{size_of, whole_records}
 use Rattle.global_model.specs.Flow.{IsTree}
