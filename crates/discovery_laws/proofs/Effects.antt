@@ -4,7 +4,7 @@ use Rattle.std.proofs.lemmas.Bool.{eqb-true}
 use Rattle.xm_num.specs.declared.Enclave.{Enclave}
 use Rattle.xm_num.specs.Rows.{put}
 use Rattle.xemem_language.specs.declared.line.Line.TheVariants as lines
-use Rattle.enclave_rules.specs.Ways.{WaysView, place_among, ways_line}
+use Rattle.enclave_rules.specs.Ways.{WaysView, place_among}
 use Rattle.global_model.specs.Facts.{EnclaveFact, Facts, after_line, as_admitted, at_number, fact_of, has_parent, is_holder}
 use Rattle.discovery_laws.specs.Known.{askers_of, backs_of, routes_of, way_of}
 

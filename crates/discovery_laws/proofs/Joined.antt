@@ -1,14 +1,13 @@
 -- Both halves of discovery, at every pause: the way is asked for and told, and each enclave's registration is at a stage.
-use Rattle.std.proofs.Common.{◌≡◌, ℕ, [], ◌∷◌, true, filter, Some, refl, sym, ap, ◌∙◌}
+use Rattle.std.proofs.Common.{◌≡◌, ℕ, [], ◌∷◌, true, filter, refl, sym, ap, ◌∙◌}
 use Rattle.std.proofs.lemmas.Bool.{eq-eqb}
-use Rattle.xm_num.specs.declared.Enclave.{Enclave}
 use Rattle.xemem_language.specs.declared.record.Record.{Record}
 use Rattle.global_model.specs.Facts.{Facts, after_lines, is_living_enclave, no_facts}
 use Rattle.global_model.specs.Flow.{IsFlowing}
 use Rattle.global_model.specs.Rest.{IsAtRest}
 use Rattle.global_model.specs.Pauses.{Step, written_by, IsPause, MayCome}
 use Rattle.global_model.specs.Tree.{parent_of}
-use Rattle.discovery_laws.specs.Known.{back_of, is_admitted_at, knows, route_of}
+use Rattle.discovery_laws.specs.Known.{is_admitted_at, knows}
 use Rattle.discovery_laws.specs.Laws.{Laws}
 use Rattle.discovery_laws.specs.Ways.{IsLeading}
 use Rattle.discovery_laws.proofs.Asked.{IsAsked, asked_first, asked_leads, asked_led, asked_step}

@@ -1,7 +1,7 @@
 -- At rest nothing is under way; so where an enclave holds the name server all know the way to it.
 use Rattle.std.proofs.Common.{◌≡◌, ◌+◌, ◌-◌, ◌<◌, ◌≤◌, ℕ, zero, suc, List, [], ◌∷◌, Bool, true, false, cond, not, eqb, leb, drop, take, length, is_some, Option, None, Some, refl, sym, ap, ◌∙◌, arith, length-append, length-drop}
 use Rattle.std.proofs.lemmas.List.{length-take}
-use Rattle.std.proofs.lemmas.Bool.{eqb-true, eqb-false, ltb-true, eq-eqb, ne_eqb, le-leb, lt-ltb, and_from, or_left}
+use Rattle.std.proofs.lemmas.Bool.{eqb-true, eqb-false, eq-eqb, ne_eqb, le-leb, lt-ltb, and_from, or_left}
 use Rattle.xemem_language.specs.declared.record.Record.{Record}
 use Rattle.xemem_wire.specs.Spelling.{spelling_of, spellings_of}
 use Rattle.global_model.specs.Facts.{Facts, EnclaveFact, fact_of, has_parent, is_living_enclave, lives_at}
@@ -40,8 +40,13 @@ rest_flight G flowing uncut rest x y = by (is_neighbour G x y) refl
         let living = flowing.tree.all_live y (near_born G y x flowing.tree (near_turned G x y near)) in
         let none : length (waiting_of (G.channel x y)) ≡ 0 = ap length (waits living) in
         let taken : length bytes ≤ (G.channel x y).taken
-        = omega (arith, none, uncut x y, length-drop (G.channel x y).taken (take (length bytes - (G.channel x y).cut) bytes),
-        length-take (length bytes - (G.channel x y).cut) bytes) in
+        = omega (
+          arith,
+          none,
+          uncut x y,
+          length-drop (G.channel x y).taken (take (length bytes - (G.channel x y).cut) bytes),
+          length-take (length bytes - (G.channel x y).cut) bytes,
+        ) in
         ap (drop (G.channel x y).got) (sym (all_whole (G.channel x y).taken (G.channel x y).sent taken)) ∙ flowing.arrived x y
 
 -- ---- all know the way

@@ -12,8 +12,8 @@ ghost use Rattle.discovery_laws.specs.Ways.{IsLeading, ways_in};
 ghost use Rattle.discovery_laws.specs.Once.{IsOnce};
 
 use global_model::{
-    journals_are_carried, journals_are_in_steps, journals_grow, pasts_grow, trees_have_paths,
-    lines_are_seen,
+    journals_are_carried, journals_are_in_steps, journals_grow, lines_are_seen, pasts_grow,
+    trees_have_paths,
 };
 use xm_num::Enclave;
 use xm_num::laws::{row_laws, rows};

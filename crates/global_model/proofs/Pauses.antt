@@ -1,5 +1,5 @@
 -- Every journal is one in steps.
-use Rattle.std.proofs.Common.{◌≡◌, ◌+◌, ◌/◌, ◌<◌, ◌≤◌, ℕ, zero, suc, min, List, [], ◌∷◌, ◌++◌, length, take, map, Bool, true, false, cond, not, ◌&&◌, eqb, ltb, leb, is_some, Option, None, Some, refl, sym, ap, ◌∙◌, subst, arith, append-nil, append_assoc}
+use Rattle.std.proofs.Common.{◌≡◌, ◌+◌, ◌/◌, ◌≤◌, ℕ, zero, suc, min, List, [], ◌∷◌, ◌++◌, length, take, map, Bool, true, false, cond, ◌&&◌, eqb, leb, Option, None, Some, refl, sym, ap, ◌∙◌, subst, arith, append-nil, append_assoc}
 use Rattle.std.specs.List.{range_with_len}
 use Rattle.std.specs.Option.{option_map_or}
 use Rattle.std.proofs.lemmas.Bool.{eqb-false, eqb-true, and_parts, leb-false}
@@ -17,21 +17,21 @@ use Rattle.xemem_language.specs.declared.line.Line.TheVariants as lines
 use Rattle.xemem_language.specs.Ranges.{IsInRange}
 use Rattle.enclave_rules.specs.Steps.{handled_lines}
 use Rattle.global_model.specs.Facts.{Facts, after_line, after_lines, no_facts, is_living_enclave}
-use Rattle.global_model.specs.Apt.{IsApt, IsNear, IsTaking, NothingArrives}
+use Rattle.global_model.specs.Apt.{IsNear, NothingArrives}
 use Rattle.global_model.specs.Channels.{arriving, is_neighbour, was_born, waiting_bytes}
 use Rattle.global_model.specs.Views.{view_of}
 use Rattle.global_model.specs.Space.{Mapping, space_of, free_blocks, unused_frames}
 use Rattle.global_model.specs.Refusals.{conditions_of, refusal_of}
 use Rattle.global_model.specs.Place.{may_stand, IsPlacedAfter, IsPlaced}
 use Rattle.global_model.specs.Due.{next_enclave, touched_lines, got_lines, took_lines, deliver_lines, next_rest, first_waiting, settle_end, settle_from, acts_of, step_lines, journal_from, journal_of}
-use Rattle.global_model.specs.Pauses.{Step, Written, Hosts, Bears, Takes, Handles, written_by, written_in, AreFirst, MayStandAlone, MayCome, IsPause, AreSteps, IsInSteps}
+use Rattle.global_model.specs.Pauses.{Step, Written, Hosts, Bears, Takes, Handles, written_by, written_in, MayStandAlone, MayCome, IsPause, AreSteps, IsInSteps}
 use Rattle.global_model.proofs.Pasts.{after_lines-append}
 use Rattle.global_model.proofs.Refused.{all_unmet, not_false}
 use Rattle.global_model.proofs.Tree.{near-turned}
 use Rattle.global_model.proofs.Ways.{ways_near}
 use Rattle.global_model.proofs.Tells.{MayTell, tells_end, tells_bytes, tells_routes, tells_states}
 use Rattle.global_model.proofs.Writes.{EachIs}
-use Rattle.global_model.proofs.Sound.{IsSound, sound_line, sound_start}
+use Rattle.global_model.proofs.Sound.{IsSound, sound_line}
 use Rattle.global_model.proofs.Turns.{at_pair_same, IsTurn, begin_turn, end_turn, other_turn, lives_in, IsClose, IsProper, IsUpTo, proper_lines, got_step}
 use Rattle.global_model.proofs.Waiting.{IsWaiting, first_waits, rest_waits}
 use Rattle.global_model.proofs.Deliveries.{took, IsTook, deliver_up_to, settle_at}
@@ -196,13 +196,16 @@ module _ (G : Facts) (sound : IsSound G) (got : NothingArrives G) where
       let after : IsSound B = sound_line G (lines.Do c) sound tt in
       with_refusal c tt after got (λ none.
       let unmet = all_unmet (conditions_of G c) none in
-      one_in_steps B (Bears (next_enclave B) kind parent ns (take count (free_blocks B))) (pause_sound B after) (got, record {
-        next = refl;
-        room = leb-false 256 B.born unmet.1.0;
-        living = not_false _ unmet.0;
-        server = not_taken ns B.server unmet.1.1.0;
-        lent = record { count = count; is = refl };
-      }))
+      one_in_steps B (Bears (next_enclave B) kind parent ns (take count (free_blocks B))) (pause_sound B after) (
+        got,
+        record {
+          next = refl;
+          room = leb-false 256 B.born unmet.1.0;
+          living = not_false _ unmet.0;
+          server = not_taken ns B.server unmet.1.1.0;
+          lent = record { count = count; is = refl };
+        },
+      ))
 
   host_in_steps : (count : ℕ) (ns : Bool) → G.born ≡ 0 → IsInSteps G (step_lines G (commands.Host count ns))
   host_in_steps count ns first =

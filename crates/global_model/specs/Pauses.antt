@@ -1,7 +1,7 @@
 -- A journal as steps, between which there are pauses: a line by itself, a birth with all that follows it, the bytes that are taken,
 -- and a record that is got with what its receiver makes of it. So a law that holds at the first pause, and is kept by each step,
 -- holds at every pause, whatever the commands were.
-use Rattle.std.specs.Prelude.{◌≡◌, ◌+◌, ◌/◌, Some, None, ◌<◌, ◌≤◌, ℕ, List, [], ◌∷◌, ◌++◌, length, take, Bool, true, false}
+use Rattle.std.specs.Prelude.{◌≡◌, ◌+◌, ◌/◌, Some, None, ◌<◌, ℕ, List, [], ◌∷◌, ◌++◌, take, Bool, true, false}
 use Rattle.xm_num.specs.declared.Enclave.{Enclave}
 use Rattle.xm_num.specs.declared.Kind.{Kind}
 use Rattle.xm_num.specs.declared.Block.{Block}
