@@ -22,9 +22,11 @@ pub never_bad : Laws → (link : Channel) (d : Decoding) → IsFlowing link d �
 unfolding after_piece
 never_bad laws link d f n bad is =
     let waiting = waiting_bytes link in
-    let whole : (d.rest ++ take n waiting) ++ drop n waiting ≡ spellings_of f.coming =
-    append_assoc d.rest (take n waiting) (drop n waiting) ∙ ap (λ xs. d.rest ++ xs) (take-append-drop n waiting) ∙ f.bytes in
-    let fine : first_bad (d.rest ++ take n waiting) ≡ None = laws.fine f.coming (d.rest ++ take n waiting) (drop n waiting) f.valid whole in
+    let taken : (d.rest ++ take n waiting) ++ drop n waiting ≡ d.rest ++ waiting =
+    append_assoc d.rest (take n waiting) (drop n waiting) ∙ ap (λ xs. d.rest ++ xs) (take-append-drop n waiting) in
+    let whole : (d.rest ++ take n waiting) ++ (drop n waiting ++ f.off) ≡ spellings_of f.coming =
+    sym (append_assoc (d.rest ++ take n waiting) (drop n waiting) f.off) ∙ ap (λ xs. xs ++ f.off) taken ∙ f.bytes in
+    let fine : first_bad (d.rest ++ take n waiting) ≡ None = laws.fine f.coming (d.rest ++ take n waiting) (drop n waiting ++ f.off) f.valid whole in
     let made : (after_piece d (take n waiting)).bad ≡ None = rw (f.fine, fine) refl in
     let clash : None ≡ Some bad = sym made ∙ is in
     cc
@@ -49,7 +51,7 @@ take_up m x y i ready hop =
     subst (λ c. CanTake (pair_at m.pairs i).up (node_at m.nodes y.0) (enclave c)) (sym k.child_is)
     (subst (λ e. CanTake (pair_at m.pairs i).up (node_at m.nodes e) (enclave (i + 1))) parent (h.up (ap (has_node m.nodes) parent ∙ both.0)))
 
-pub take_down : (m : MachineView) (x y : Enclave) (i : ℕ) → IsReady m → hop_in m x y ≡ hops.Down i → CanTake (pair_at m.pairs i).down (node_at m.nodes y.0) x × ((node_at m.nodes y.0).view.parent ≡ x)
+pub take_down : (m : MachineView) (x y : Enclave) (i : ℕ) → IsReady m → hop_in m x y ≡ hops.Down i → CanTake (pair_at m.pairs i).down (node_at m.nodes y.0) x × ((node_at m.nodes y.0).view.core.parent ≡ x)
 take_down m x y i ready hop =
     let known = are_known m.nodes x y in
     let both = and_parts _ _ (is_known m.pairs known x y (λ none. let no : hops.Down i ≡ hops.NoEnclave = sym hop ∙ none in cc)) in
@@ -59,5 +61,5 @@ take_down m x y i ready hop =
     let child = sym k.child_is in
     let lives : has_node m.nodes (i + 1) ≡ true = ap (has_node m.nodes) child ∙ both.0 in (
       subst (λ c. CanTake (pair_at m.pairs i).down (node_at m.nodes c) x) child (subst (CanTake (pair_at m.pairs i).down (node_at m.nodes (i + 1))) parent (h.down lives)),
-      ap (λ c. (node_at m.nodes c).view.parent) (sym child) ∙ h.parent lives ∙ parent,
+      ap (λ c. (node_at m.nodes c).view.core.parent) (sym child) ∙ h.parent lives ∙ parent,
     )

@@ -15,12 +15,14 @@ use Rattle.xemem_language.specs.declared.command.Command.{Command}
 use Rattle.xemem_language.specs.declared.command.Command.TheVariants as commands
 use Rattle.xemem_language.specs.declared.line.Line.{Line}
 use Rattle.xemem_language.specs.declared.line.Line.TheVariants as lines
-use Rattle.enclave_rules.specs.View.{host}
+use Rattle.frame_pool.specs.Blocks.{free_blocks}
+use Rattle.enclave_rules.specs.Core.{host}
+use Rattle.enclave_rules.specs.Hand.{Nothing, Calls}
 use Rattle.xemem_language.specs.declared.call.ProcessCall.{ProcessCall}
 use Rattle.xemem_language.specs.declared.call.NodeShow.{NodeShow}
 use Rattle.xemem_language.specs.Calls.{call_of, show_of}
 use Rattle.enclave_rules.specs.Calls.{call_lines, show_lines}
-use Rattle.enclave_rules.specs.Steps.{refusal, birth_lines, adopt_lines, host_lines, first_blocks, start_lines, touch_answer, answer_lines, free_from, bytes_lines}
+use Rattle.enclave_rules.specs.Steps.{refusal, birth_lines, adopt_lines, host_lines, first_blocks, start_lines, touch_answer, answer_lines, bytes_lines}
 use Rattle.enclave_node.specs.Nodes.{NodeView, unborn_node, wrote, new_host, new_node, lent, adopted, fed_lines, after_feed}
 use Rattle.node_machine.specs.declared.pair.Pair.{Pair}
 use Rattle.node_machine.specs.declared.pair.Hop.{Hop}
@@ -121,9 +123,9 @@ with_link pairs hops.NoLink link = pairs
 with_link pairs (hops.Up i) link = slice_set pairs i (record (pair_at pairs i) { up = link })
 with_link pairs (hops.Down i) link = slice_set pairs i (record (pair_at pairs i) { down = link })
 
--- a record goes over a channel
+-- a record goes over a channel, where that hasn't ended
 abbrev pub carried_over : List Pair → Hop → Record → List Pair
-carried_over pairs hop r = with_link pairs hop (sent (link_of pairs hop) (spelling_of r))
+carried_over pairs hop r = if (link_of pairs hop).ended then pairs else with_link pairs hop (sent (link_of pairs hop) (spelling_of r))
 
 -- what the lines send goes over the channels; what is sent to an enclave that doesn't live is lost
 abbrev pub carried : List NodeView → List Pair → List Line → List Pair
@@ -149,7 +151,7 @@ next_enclave m = record { 0 = length m.nodes }
 
 -- the free blocks, by what the host keeps
 abbrev pub free_of : MachineView → List Block
-free_of m = free_from 0 (node_at m.nodes 0).view.host.states
+free_of m = free_blocks (node_at m.nodes 0).view.host.states
 
 abbrev pub is_full : MachineView → Bool
 is_full m = nat_le 256 (length m.nodes)
@@ -159,7 +161,7 @@ is_short m blocks = nat_lt (length (free_of m)) blocks
 
 abbrev pub booted_lines : MachineView → Kind → Enclave → ℕ → Bool → List Line
 booted_lines m kind parent blocks ns =
-    birth_lines (next_enclave m) kind parent (take blocks (free_of m)) ns (node_at m.nodes parent.0).view.heard ++ adopt_lines (node_at m.nodes parent.0).view (next_enclave m)
+    birth_lines (next_enclave m) kind parent (take blocks (free_of m)) ns (node_at m.nodes parent.0).view.core.heard ++ adopt_lines (node_at m.nodes parent.0).view (next_enclave m)
 
 abbrev pub boot_by : MachineView → Kind → Enclave → ℕ → Bool → List Line
 boot_by m kind parent blocks ns =
@@ -171,12 +173,12 @@ boot_by m kind parent blocks ns =
 -- the child is new to the node
 pub record IsStranger (node : NodeView) (child : Enclave) : Type 0 where
   pub feed : at node.feeds child.0 ≡ None
-  pub kin : at node.view.children child.0 ≡ None
+  pub kin : at node.view.core.children child.0 ≡ None
 
 -- what is written when a child of the parent is born with these blocks
 abbrev pub borne_lines : MachineView → Enclave → Kind → Enclave → List Block → Bool → List Line
 borne_lines m child kind parent blocks ns =
-    birth_lines child kind parent blocks ns (node_at m.nodes parent.0).view.heard ++ adopt_lines (node_at m.nodes parent.0).view child
+    birth_lines child kind parent blocks ns (node_at m.nodes parent.0).view.core.heard ++ adopt_lines (node_at m.nodes parent.0).view child
 
 -- the parent takes the child, and the child is born
 abbrev pub after_birth : MachineView → Enclave → Kind → Enclave → List Block → Bool → MachineView
@@ -184,7 +186,7 @@ after_birth m child kind parent blocks ns =
     let node = node_at m.nodes parent.0 in
     record m {
       server = m.server || ns;
-      nodes = slice_set m.nodes parent.0 (wrote (adopted node child kind) (adopt_lines node.view child)) ++ new_node child kind parent blocks ns node.view.heard ∷ [];
+      nodes = slice_set m.nodes parent.0 (wrote Nothing (adopted node child kind) (adopt_lines node.view child)) ++ new_node child kind parent blocks ns node.view.core.heard ∷ [];
       pairs = m.pairs ++ record { parent = parent; up = fresh; down = fresh } ∷ [];
     }
 
@@ -194,8 +196,8 @@ booted_nodes m kind parent blocks ns =
     let child = next_enclave m in
     let lending = slice_set m.nodes 0 (lent (node_at m.nodes 0) child parent (take blocks (free_of m))) in
     let taking = adopted (node_at lending parent.0) child kind in
-    slice_set lending parent.0 (wrote taking (adopt_lines (node_at m.nodes parent.0).view child))
-    ++ new_node child kind parent (take blocks (free_of m)) ns (node_at m.nodes parent.0).view.heard ∷ []
+    slice_set lending parent.0 (wrote Nothing taking (adopt_lines (node_at m.nodes parent.0).view child))
+    ++ new_node child kind parent (take blocks (free_of m)) ns (node_at m.nodes parent.0).view.core.heard ∷ []
 
 abbrev pub after_boot : MachineView → Kind → Enclave → ℕ → Bool → MachineView
 after_boot m kind parent blocks ns =
@@ -214,7 +216,7 @@ abbrev pub after_start : MachineView → Enclave → ℕ → ℕ → MachineView
 after_start m e uid gid =
     if not (has_node m.nodes e.0) then m
     else (if nat_le 1024 m.starts then m
-    else record (with_node m e.0 (wrote (node_at m.nodes e.0) (start_lines (node_at m.nodes e.0).view uid gid))) { starts = m.starts + 1 })
+    else record (with_node m e.0 (wrote Nothing (node_at m.nodes e.0) (start_lines (node_at m.nodes e.0).view uid gid))) { starts = m.starts + 1 })
 
 abbrev pub touch_by : MachineView → Enclave → Pid → ℕ → Want → List Line
 touch_by m e p addr want = answer_lines e p (touch_answer (node_at m.nodes e.0).view p addr want)
@@ -224,7 +226,7 @@ abbrev pub call_by : MachineView → ProcessCall → List Line
 call_by m k = call_lines (node_at m.nodes k.enclave.0).view k.pid k.call
 
 abbrev pub after_call : MachineView → ProcessCall → MachineView
-after_call m k = if has_node m.nodes k.enclave.0 then with_node m k.enclave.0 (wrote (node_at m.nodes k.enclave.0) (call_by m k)) else m
+after_call m k = if has_node m.nodes k.enclave.0 then with_node m k.enclave.0 (wrote (Calls k) (node_at m.nodes k.enclave.0) (call_by m k)) else m
 
 -- what is shown of the node of the enclave
 abbrev pub node_shown : MachineView → NodeShow → List Line

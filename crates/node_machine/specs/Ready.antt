@@ -1,5 +1,5 @@
 -- What the machine keeps between commands, and what a step asks of its command, so that each call of a node may be made.
-use Rattle.std.specs.Prelude.{◌≡◌, ◌+◌, ◌-◌, ◌≤◌, ◌<◌, ℕ, List, length, true, false, None, IsSome}
+use Rattle.std.specs.Prelude.{◌≡◌, ◌+◌, ◌-◌, ◌≤◌, ◌<◌, ℕ, length, true, false, None, IsSome}
 use Rattle.xm_num.specs.declared.Kind.TheVariants as kinds
 use Rattle.xm_num.specs.declared.Enclave.{Enclave}
 use Rattle.xm_num.specs.Rows.{at}
@@ -25,13 +25,9 @@ pub record CanTake (link : Channel) (node : NodeView) (x : Enclave) : Type 0 whe
 -- child c lies below its parent, and each of the two that lives may take what the other sent
 pub record IsPairReady (m : MachineView) (c : ℕ) (pair : Pair) : Type 0 where
   pub above : pair.parent.0 < c
-  pub parent : has_node m.nodes c ≡ true → (node_at m.nodes c).view.parent ≡ pair.parent
+  pub parent : has_node m.nodes c ≡ true → (node_at m.nodes c).view.core.parent ≡ pair.parent
   pub up : has_node m.nodes pair.parent.0 ≡ true → CanTake pair.up (node_at m.nodes pair.parent.0) (enclave c)
   pub down : has_node m.nodes c ≡ true → CanTake pair.down (node_at m.nodes c) pair.parent
-
--- no channel has ended
-abbrev pub AreOpen : List Pair → Type 0
-AreOpen pairs = (i : ℕ) → i < length pairs → ((pair_at pairs i).up.ended ≡ false) × ((pair_at pairs i).down.ended ≡ false)
 
 pub record IsReady (m : MachineView) : Type 0 where
   pub most : length m.nodes ≤ 256
@@ -39,10 +35,9 @@ pub record IsReady (m : MachineView) : Type 0 where
   pub root : 0 < length m.nodes → has_node m.nodes 0 ≡ true
   pub nodes : (e : ℕ) → has_node m.nodes e ≡ true → IsNodeReady e (node_at m.nodes e)
   pub links : (i : ℕ) → i < length m.pairs → IsPairReady m (i + 1) (pair_at m.pairs i)
-  pub open_ends : AreOpen m.pairs
   pub recorded : 1 ≤ length m.nodes → length (node_at m.nodes 0).view.host.parents ≡ length m.nodes
   pub strangers : (e c : ℕ) → length m.nodes ≤ c → at (node_at m.nodes e).feeds c ≡ None
-  pub unborn : (e c : ℕ) → length m.nodes ≤ c → at (node_at m.nodes e).view.children c ≡ None
+  pub unborn : (e c : ℕ) → length m.nodes ≤ c → at (node_at m.nodes e).view.core.children c ≡ None
 
 -- a settle is no step of the machine
 abbrev pub IsNoSettle : Command → Type 0

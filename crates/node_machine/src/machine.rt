@@ -5,10 +5,11 @@ ghost use Rattle.xemem_wire.specs.Spelling.{AreValid, is_valid};
 ghost use Rattle.xemem_language.specs.declared.line.Line.TheVariants as lines;
 ghost use Rattle.xemem_language.specs.Calls.{IsCallInRange, IsShowable};
 ghost use Rattle.xm_num.specs.Rows.{at};
+ghost use Rattle.enclave_rules.specs.Pages.{AreBlocks};
 ghost use Rattle.enclave_node.specs.Nodes.{feed_at, number_of};
 ghost use Rattle.node_machine.specs.Links.{IsFlowing, sent_in};
 ghost use Rattle.node_machine.specs.Machine as spec;
-ghost use Rattle.node_machine.specs.Ready.{IsReady, CanStep, AreOpen};
+ghost use Rattle.node_machine.specs.Ready.{IsReady, CanStep};
 
 use crate::channels::Channels;
 use crate::delivery::{refuse, show};
@@ -117,7 +118,6 @@ impl Machine {
         requires can { CanStep self.old command.now }
         ensures lines { OnOk result (out.new ≡ out.old ++ spec.lines_by self.old command.now) }
         ensures after { OnOk result (self.new ≡ spec.acted self.old command.now) }
-        ensures open_ends { OnOk result (AreOpen self.new.pairs) }
     {
         if let Some(asked) = call_of(command) {
             return self.call(&asked, out);
@@ -237,6 +237,7 @@ impl Machine {
         requires born { parent.0 < length self.old.nodes }
         requires kind { kind ≡ kinds.Cokernel }
         requires some { 1 ≤ length blocks.now }
+        requires blocks { AreBlocks blocks.now }
         requires me { (spec.node_at self.old.nodes parent.0).view.me.0 ≡ parent.0 }
         requires going { (spec.node_at self.old.nodes parent.0).failed ≡ false }
         requires stranger { spec.IsStranger (spec.node_at self.old.nodes parent.0) child }
@@ -286,6 +287,7 @@ impl Machine {
 
     // A call of a process, which its node carries out.
     fn call(&mut self, asked: &ProcessCall, out: &mut Lines) -> Result<(), AllocError>
+        requires ready { IsReady self.old }
         requires range { IsCallInRange asked.now.call }
         ensures lines { OnOk result (out.new ≡ out.old ++ spec.at_node self.old asked.now.enclave (spec.call_by self.old asked.now)) }
         ensures after { OnOk result (self.new ≡ spec.after_call self.old asked.now) }
@@ -405,7 +407,6 @@ impl Machine {
     // Gives the records that the lines send to their channels, in order.
     fn carry(&mut self, lines: &[Line]) -> Result<(), AllocError>
         requires valid { AreValid (sent_in lines.now) }
-        requires open_ends { AreOpen self.old.pairs }
         ensures { OnOk result (self.new ≡ spec.with_carried self.old lines.now) }
     {
         for line in lines {
@@ -418,9 +419,7 @@ impl Machine {
 
     fn send(&mut self, from: Enclave, to: Enclave, rec: &Record) -> Result<(), AllocError>
         requires valid { IsTrue (is_valid rec.now) }
-        requires open_ends { AreOpen self.old.pairs }
         ensures sent { OnOk result (self.new ≡ record self.old { pairs = spec.carried_over self.old.pairs (spec.hop_in self.old from to) rec.now }) }
-        ensures open_ends { AreOpen self.new.pairs }
     {
         let hop = self.hop(from, to);
         self.channels.send(hop, rec, &mut self.bytes)

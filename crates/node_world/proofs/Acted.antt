@@ -10,7 +10,7 @@ use Rattle.node_machine.specs.declared.pair.Pair.{Pair}
 use Rattle.node_world.specs.Links.{feed_of}
 use Rattle.node_machine.specs.Machine.{MachineView, has_node, node_at, pair_at, with_carried, carried}
 use Rattle.node_world.specs.Shown.{IsNodeOf, IsPairOf, IsShown}
-use Rattle.node_world.proofs.Flows.{link_of_channel, channel_of, feed_is}
+use Rattle.node_world.proofs.Flows.{feed_is}
 use Rattle.node_world.proofs.Carriage.{IsLinked, AreLinked, ArePlain, AreWithin, feed_by, carried-parent, carried-length, linked_lines, fed_lines, counted_lines}
 use Rattle.node_world.specs.Laws.{Laws}
 
@@ -44,7 +44,9 @@ shown_of laws G ls m plain flowing h =
     let count = counted_lines ls G plain in
     let size = carried-length m.nodes ls m.pairs in
     let now : length m.pairs ≡ length m.nodes - 1 = h.pairs ∙ ap (λ n. n - 1) (sym h.born) in
-    let linked = linked_lines laws m.nodes ls G m.pairs now h.living plain h.links in
+    -- all that were born live so far
+    let alive : (e : ℕ) → e < length m.nodes → lives_at G e ≡ true = λ e within. sym (count.living e) ∙ flowing.tree.all_live e (let mine = h.born in let same = count.born in omega (arith, mine, same, within)) in
+    let linked = linked_lines laws m.nodes ls G m.pairs now h.living alive plain h.links in
     let born = count.born in
     record {
       pool = h.pool ∙ sym count.pool;
@@ -65,7 +67,6 @@ shown_of laws G ls m plain flowing h =
     pair : (i : ℕ) → IsLinked (after_lines G ls).enclave (after_lines G ls).channel i (pair_at (carried m.nodes m.pairs ls) i) → i < length m.pairs
         → IsPairOf (after_lines G ls) (with_carried m ls) (i + 1) (pair_at (carried m.nodes m.pairs ls) i)
     pair i k within =
-        let H = after_lines G ls in
         let p = (pair_at (carried m.nodes m.pairs ls) i).parent in
         let same : (pair_at m.pairs i).parent ≡ p = sym (carried-parent m.nodes ls m.pairs i) in
         let feeds = h.feeds i within in
@@ -74,11 +75,11 @@ shown_of laws G ls m plain flowing h =
           parent = k.parent;
           above = k.above;
           up = λ lives. record {
-            bytes = channel_of (H.channel (i + 1) p.0) _ (flowing.flows (i + 1) p.0) (k.up lives);
+            bytes = k.up lives;
             feed = feed (i + 1) p.0 (subst (λ (e : Enclave). lives_at G e.0 ≡ true → HasFeed G.channel m.nodes (i + 1) e.0) same feeds.up (sym (before p.0) ∙ lives));
           };
           down = λ lives. record {
-            bytes = channel_of (H.channel p.0 (i + 1)) _ (flowing.flows p.0 (i + 1)) (k.down lives);
+            bytes = k.down lives;
             feed = feed p.0 (i + 1) (subst (λ (e : Enclave). HasFeed G.channel m.nodes e.0 (i + 1)) same (feeds.down (sym (before (i + 1)) ∙ lives)));
           };
         }
@@ -94,10 +95,10 @@ module _ (G : Facts) (m : MachineView) (flowing : IsFlowing G) (h : IsShown G m)
   linked_of i within =
       let k = h.links i within in
       let p = (pair_at m.pairs i).parent.0 in
-      record { parent = k.parent; above = k.above; up = λ lives. link_of_channel (G.channel (i + 1) p) _ _ (k.up lives).bytes; down = λ lives. link_of_channel (G.channel p (i + 1)) _ _ (k.down lives).bytes }
+      record { parent = k.parent; above = k.above; up = λ lives. (k.up lives).bytes; down = λ lives. (k.down lives).bytes }
 
   pub within_of : AreWithin G.channel
-  within_of a b = (flowing.flows a b).taken
+  within_of a b = let few = (flowing.flows a b).taken in omega (arith, few)
 
   pub fed_of : (i : ℕ) → i < length m.pairs → IsFedPair G m.nodes i (pair_at m.pairs i)
   fed_of i within =

@@ -30,7 +30,8 @@ use Rattle.node_machine.specs.Machine.{MachineView, has_node, no_pair, node_at, 
 use Rattle.node_machine.specs.Machine.{enclave}
 use Rattle.node_world.specs.Shown.{IsNodeOf, IsShown}
 use Rattle.node_world.proofs.Lists.{cond_case, has-before, has-last, has-set, node_within, push_case, set_case, set_field}
-use Rattle.node_world.proofs.Flows.{IsLinkOf, fresh_link}
+use Rattle.node_world.specs.Links.{IsLinkOf}
+use Rattle.node_world.proofs.Flows.{fresh_link}
 use Rattle.node_world.proofs.Carriage.{IsLinked, AreLinked, ArePlain, plain_append, feed_by, counted_lines}
 use Rattle.node_world.proofs.Acted.{IsActed, HasFeed, IsFedPair, shown_by, linked_of, within_of, fed_of}
 use Rattle.node_world.proofs.Stills.{IsStep, IsTied, AreStill, tied_still, at_is}
@@ -329,23 +330,27 @@ module _ (G H : Facts) (m : MachineView) (kind : Kind) (parent : Enclave) (block
       let other : eqb (i + 1) child.0 ≡ false = ne_eqb (i + 1) child.0 (λ same. omega (arith, same, count, pairs, within)) in
       let same : (fact_of (K.enclave (i + 1))).parent ≡ (fact_of (G.enclave (i + 1))).parent = rw other refl in
       let above = k.above in
+      let p = (pair_at m.pairs i).parent.0 in
+      let above_same : lives_at K p ≡ lives_at G p = before p (λ is. omega (arith, is, above, count, pairs, within)) in
+      let below_same : lives_at K (i + 1) ≡ lives_at G (i + 1) = before (i + 1) (λ is. omega (arith, is, count, pairs, within)) in
       record {
         parent = k.parent ∙ sym same;
         above = above;
-        up = λ there. k.up (sym (before (pair_at m.pairs i).parent.0 (λ is. omega (arith, is, above, count, pairs, within))) ∙ there);
-        down = λ there. k.down (sym (before (i + 1) (λ is. omega (arith, is, count, pairs, within))) ∙ there);
+        up = λ there. subst (λ dead. IsLinkOf dead (G.channel (i + 1) p) (pair_at m.pairs i).up) (sym (ap not below_same)) (k.up (sym above_same ∙ there));
+        down = λ there. subst (λ dead. IsLinkOf dead (G.channel p (i + 1)) (pair_at m.pairs i).down) (sym (ap not above_same)) (k.down (sym below_same ∙ there));
       }
 
   new_linked : (i : ℕ) → i ≡ length m.pairs → IsLinked K.enclave K.channel i new_pair
   new_linked i last =
       let count = h.born in let pairs = h.pairs in
+      let next : i + 1 ≡ length m.nodes = omega (arith, count, pairs, last, lives) in
       let is : eqb (i + 1) child.0 ≡ true = eq-eqb (i + 1) child.0 (omega (arith, count, pairs, last, lives)) in
       let quiet = silent G step.before (i + 1) parent.0 (omega (arith, pairs, last)) lives in
       record {
         parent = rw is refl;
         above = omega (arith, count, pairs, last, lives);
-        up = λ there. subst (λ f. IsLinkOf f fresh) (sym quiet.0) fresh_link;
-        down = λ there. subst (λ f. IsLinkOf f fresh) (sym quiet.1) fresh_link;
+        up = λ there. subst (λ dead. IsLinkOf dead (G.channel (i + 1) parent.0) fresh) (sym (ap not (ap (lives_at K) next ∙ born_lives))) (subst (λ f. IsLinkOf false f fresh) (sym quiet.0) fresh_link);
+        down = λ there. subst (λ dead. IsLinkOf dead (G.channel parent.0 (i + 1)) fresh) (sym (ap not (before parent.0 (λ same. omega (arith, same, count, lives)) ∙ alive))) (subst (λ f. IsLinkOf false f fresh) (sym quiet.1) fresh_link);
       }
 
   linked_then : AreLinked K.enclave K.channel w.pairs

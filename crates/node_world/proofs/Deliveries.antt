@@ -31,11 +31,11 @@ use Rattle.node_machine.specs.Machine.{enclave}
 use Rattle.node_world.specs.Shown.{IsNodeOf, IsShown}
 use Rattle.node_world.specs.Laws.{WireLaws, ViewLaws}
 use Rattle.node_world.proofs.Lists.{cond_case, has-set, node_within, same_either, set_case}
-use Rattle.node_world.proofs.Flows.{waiting-length, link_taken, got_is, IsFed, feed_from, feed_fed}
+use Rattle.node_world.proofs.Flows.{waiting-length, link_taken, uncut_waiting, got_is, IsFed, feed_from, feed_fed}
 use Rattle.node_world.proofs.Carriage.{AreWithin, ArePlain, plain_append, feed_by, pair_here, pair_other, pair_case, over, with_link-parent, with_link-length, counted_lines}
 use Rattle.node_world.proofs.Acted.{IsActed, HasFeed, IsFedPair, shown_by, linked_of, fed_of}
 use Rattle.node_world.proofs.Stills.{IsStep, IsTied, AreStill, tied_still}
-use Rattle.node_world.proofs.Neighbours.{IsOver, cause_of, refused_is, over_up, over_down}
+use Rattle.node_world.proofs.Neighbours.{IsOver, cause_of, refused_is, over_up, over_down, over_waits}
 
 -- ---- the lines of records are plain
 
@@ -108,9 +108,9 @@ module _ (wire : WireLaws) (views : ViewLaws) (G H : Facts) (m : MachineView) (x
 
   is_fed : IsFed f.sent f.taken n d
   is_fed =
-      let size = waiting-length f link k.link in
+      let size = waiting-length _ f link k.link in
       let feed : feed_at node.feeds x ≡ feed_from f.sent f.taken = ap (λ (o : Option Decoding). option_map_or (λ d. d) o nothing_taken) k.feed in
-      let piece : piece_of m count hop ≡ take n (drop f.taken (spellings_of f.sent)) = ap (take n) k.link.waiting in
+      let piece : piece_of m count hop ≡ take n (drop f.taken (spellings_of f.sent)) = ap (take n) (k.link.waiting ∙ uncut_waiting f k.link.uncut) in
       let same : after_piece (feed_from f.sent f.taken) (take n (drop f.taken (spellings_of f.sent))) ≡ d = sym (ap (λ d. after_piece d (piece_of m count hop)) feed ∙ ap (after_piece (feed_from f.sent f.taken)) piece) in
       subst (IsFed f.sent f.taken n) same (feed_fed wire f.sent f.taken n (step.before.flows x.0 y.0).valid (omega (arith, size, fits)))
 
@@ -124,7 +124,7 @@ module _ (wire : WireLaws) (views : ViewLaws) (G H : Facts) (m : MachineView) (x
       let come : arriving (T.channel x.0 y.0) ≡ d.records = ap arriving taken_is ∙ ap (λ got. drop got (whole_records (f.taken + n) f.sent)) (got_is f (step.before.flows x.0 y.0) (step.before.arrived x.0 y.0)) ∙ sym is_fed.came in
       let view : view_of G y ≡ node.view = sym (h.nodes y.0 k.yours).view in
       let got : got_lines T x y (arriving (T.channel x.0 y.0)) ≡ busy_lines m x y count hop = ap (got_lines T x y) come ∙ views.records T x y d.records k.yours ∙ ap (λ v. lines_of_records v x d.records) view in
-      ap (λ bytes. cond (eqb (length bytes) 0) (lines.Idle x y ∷ []) (took_lines G x y (min count (length bytes)))) (sym k.link.waiting)
+      ap (λ bytes. cond (eqb (length bytes) 0) (lines.Idle x y ∷ []) (took_lines G x y (min count (length bytes)))) (over_waits G m x y hop k)
       ∙ ap (λ ls. cond (is_idle link) (lines.Idle x y ∷ []) (lines.Took x y n ∷ ls)) got
 
   -- the node after it, and what it writes
@@ -178,8 +178,9 @@ module _ (wire : WireLaws) (views : ViewLaws) (G H : Facts) (m : MachineView) (x
 
   within_after : AreWithin T.channel
   within_after a b =
-      let size = waiting-length f link k.link in
-      pair_case (λ (g : ChannelFact). g.taken ≤ length (spellings_of g.sent)) x.0 y.0 (with_taken n) G.channel a b (omega (arith, size, fits)) (step.before.flows a b).taken
+      let size = waiting-length _ f link k.link in
+      let few = (step.before.flows a b).taken in
+      pair_case (λ (g : ChannelFact). g.taken ≤ length (spellings_of g.sent)) x.0 y.0 (with_taken n) G.channel a b (omega (arith, size, fits)) (omega (arith, few))
 
   busy_acted : command_lines G (commands.Deliver x y count) ≡ lines.Took x y n ∷ ls → ((e : ℕ) → lives_at H e ≡ lives_at G e) → IsActed T H w
   busy_acted is living =
@@ -192,7 +193,7 @@ module _ (wire : WireLaws) (views : ViewLaws) (G H : Facts) (m : MachineView) (x
         pairs = with_link-length m.pairs hop (taken link n) ∙ h.pairs;
         living = λ e. has-set m.nodes y.0 e after ∙ h.living e;
         nodes = node_after is living;
-        links = over step.laws G.enclave G.channel m.pairs (linked_of G m step.before h) m.nodes count h.living x y (with_taken n) (taken link n) hop k.hop_is (λ old. link_taken step.laws.links f link n fits old);
+        links = over step.laws G.enclave G.channel m.pairs (linked_of G m step.before h) m.nodes count h.living x y (with_taken n) (taken link n) hop k.hop_is (λ dead old. link_taken step.laws.links dead f link n fits old);
         within = within_after;
         feeds = pair_after;
         strangers = stranger_after;

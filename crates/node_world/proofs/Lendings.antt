@@ -20,7 +20,7 @@ use Rattle.node_machine.specs.Machine.{MachineView, has_node, node_at, node_of, 
 use Rattle.node_world.specs.Shown.{IsNodeOf, Feeds, IsFedBy, IsShown}
 use Rattle.node_world.specs.World.{IsHistoryOf}
 use Rattle.node_world.proofs.Flows.{feed_is}
-use Rattle.node_world.proofs.Neighbours.{cause_of, refused_is, over_up, over_down}
+use Rattle.node_world.proofs.Neighbours.{cause_of, refused_is, over_up, over_down, over_waits}
 use Rattle.global_model.specs.Journals.{do_commands, onto}
 
 -- ---- what is lent
@@ -89,8 +89,8 @@ link_waits laws G m flowing h x y link is = by (hop_in m x y) refl is
     by : (hop : Hop) → hop_in m x y ≡ hop → link_by m.pairs hop ≡ Some link → waiting_bytes link ≡ waiting_in G x.0 y.0
     by hops.NoEnclave is none = cc
     by hops.NoLink is none = cc
-    by (hops.Up i) is some = let same : (pair_at m.pairs i).up ≡ link = cc in ap waiting_bytes (sym same) ∙ (over_up G m flowing h laws x y i is).link.waiting
-    by (hops.Down i) is some = let same : (pair_at m.pairs i).down ≡ link = cc in ap waiting_bytes (sym same) ∙ (over_down G m flowing h laws x y i is).link.waiting
+    by (hops.Up i) is some = let same : (pair_at m.pairs i).up ≡ link = cc in ap waiting_bytes (sym same) ∙ sym (over_waits G m x y (hops.Up i) (over_up G m flowing h laws x y i is))
+    by (hops.Down i) is some = let same : (pair_at m.pairs i).down ≡ link = cc in ap waiting_bytes (sym same) ∙ sym (over_waits G m x y (hops.Down i) (over_down G m flowing h laws x y i is))
 
 pub link_none : (G : Facts) (m : MachineView) → IsFlowing G → IsShown G m → (x y : Enclave) → link_between m x y ≡ None → is_neighbour G x.0 y.0 ≡ false
 link_none G m flowing h x y none = by (is_neighbour G x.0 y.0) refl (hop_in m x y) refl none

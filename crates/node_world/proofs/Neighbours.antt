@@ -1,5 +1,5 @@
 -- The machine's channels go between the neighbours that the facts have, and a link is shown as by the facts.
-use Rattle.std.proofs.Common.{◌≡◌, ◌+◌, ◌-◌, ◌<◌, ℕ, List, [], ◌∷◌, length, Bool, true, false, eqb, ltb, leb, not, ◌&&◌, ◌||◌, Option, None, Some, refl, sym, ap, ◌∙◌, subst, arith}
+use Rattle.std.proofs.Common.{◌≡◌, ◌+◌, ◌-◌, ◌<◌, ℕ, List, [], ◌∷◌, length, Bool, true, false, cond, eqb, ltb, leb, not, ◌&&◌, ◌||◌, Option, None, Some, refl, sym, ap, ◌∙◌, subst, arith}
 use Rattle.std.specs.Prelude.{if◌then◌else◌, slice_get, is_some}
 use Rattle.std.proofs.lemmas.Bool.{leb-true, leb-false, ltb-true, lt-ltb, ne_eqb, and_parts}
 use Rattle.std.proofs.lemmas.Option.{slice_get-get_or}
@@ -9,7 +9,7 @@ use Rattle.xm_num.specs.declared.Cause.TheVariants as causes
 use Rattle.xemem_language.specs.declared.command.Command.TheVariants as commands
 use Rattle.xemem_language.specs.declared.line.Line.{Line}
 use Rattle.global_model.specs.Facts.{Facts, EnclaveFact, has_parent, fact_of, lives_at}
-use Rattle.global_model.specs.Channels.{is_child_of, is_neighbour}
+use Rattle.global_model.specs.Channels.{is_child_of, is_neighbour, waiting_bytes as waiting_in, waiting_of}
 use Rattle.global_model.specs.Flow.{IsFlowing}
 use Rattle.global_model.specs.Refusals.{when, link_conditions, first_cause}
 use Rattle.enclave_rules.specs.Steps.{refusal, bytes_lines}
@@ -20,7 +20,7 @@ use Rattle.node_machine.specs.declared.pair.Hop.TheVariants as hops
 use Rattle.node_machine.specs.Machine.{MachineView, are_known, has_node, no_pair, pair_at, is_parent, hop_in, hop_of, link_of, lines_by, shown_by}
 use Rattle.node_world.specs.Shown.{IsShown}
 use Rattle.node_world.proofs.Lists.{node_within}
-use Rattle.node_world.proofs.Flows.{IsLinkOf}
+use Rattle.node_world.specs.Links.{IsLinkOf}
 use Rattle.node_world.proofs.Acted.{HasFeed, linked_of, fed_of}
 use Rattle.node_world.proofs.Stills.{IsStep, IsTied, AreStill, tied_still, still_bytes}
 use Rattle.node_world.specs.Laws.{Laws}
@@ -43,8 +43,12 @@ pub record IsOver (G : Facts) (m : MachineView) (x y : Enclave) (hop : Hop) : Ty
   pub hop_is : hop_in m x y ≡ hop
   pub mine : x.0 < G.born
   pub yours : lives_at G y.0 ≡ true
-  pub link : IsLinkOf (G.channel x.0 y.0) (link_of m.pairs hop)
+  pub link : IsLinkOf (not (lives_at G x.0)) (G.channel x.0 y.0) (link_of m.pairs hop)
   pub feed : HasFeed G.channel m.nodes x.0 y.0
+
+-- what waits in its link waits by the facts
+pub over_waits : (G : Facts) (m : MachineView) (x y : Enclave) (hop : Hop) → IsOver G m x y hop → waiting_in G x.0 y.0 ≡ waiting_bytes (link_of m.pairs hop)
+over_waits G m x y hop k = ap (λ b. cond b (waiting_of (G.channel x.0 y.0)) []) k.yours ∙ sym k.link.waiting
 
 module _ (G : Facts) (m : MachineView) (flowing : IsFlowing G) (h : IsShown G m) where
   pub child_same : (c p : ℕ) → c < G.born → is_parent m.pairs c p ≡ is_child_of G c p
@@ -107,7 +111,7 @@ module _ (G : Facts) (m : MachineView) (flowing : IsFlowing G) (h : IsShown G m)
         hop_is = is;
         mine = omega (arith, child, pairs, lt);
         yours = lives;
-        link = subst (λ a. IsLinkOf (G.channel a y.0) (pair_at m.pairs i).up) (sym child) (subst (λ b. IsLinkOf (G.channel (i + 1) b) (pair_at m.pairs i).up) parent (linked.up (ap (lives_at G) parent ∙ lives)));
+        link = subst (λ a. IsLinkOf (not (lives_at G a)) (G.channel a y.0) (pair_at m.pairs i).up) (sym child) (subst (λ b. IsLinkOf (not (lives_at G (i + 1))) (G.channel (i + 1) b) (pair_at m.pairs i).up) parent (linked.up (ap (lives_at G) parent ∙ lives)));
         feed = subst (λ a. HasFeed G.channel m.nodes a y.0) (sym child) (subst (HasFeed G.channel m.nodes (i + 1)) parent (fed.up (ap (lives_at G) parent ∙ lives)));
       }
 
@@ -123,14 +127,14 @@ module _ (G : Facts) (m : MachineView) (flowing : IsFlowing G) (h : IsShown G m)
         hop_is = is;
         mine = omega (arith, parent, pairs, lt, low);
         yours = lives;
-        link = subst (λ a. IsLinkOf (G.channel x.0 a) (pair_at m.pairs i).down) (sym child) (subst (λ b. IsLinkOf (G.channel b (i + 1)) (pair_at m.pairs i).down) parent (linked.down (ap (lives_at G) (sym child) ∙ lives)));
+        link = subst (λ a. IsLinkOf (not (lives_at G x.0)) (G.channel x.0 a) (pair_at m.pairs i).down) (sym child) (subst (λ b. IsLinkOf (not (lives_at G b)) (G.channel b (i + 1)) (pair_at m.pairs i).down) parent (linked.down (ap (lives_at G) (sym child) ∙ lives)));
         feed = subst (λ a. HasFeed G.channel m.nodes x.0 a) (sym child) (subst (λ b. HasFeed G.channel m.nodes b (i + 1)) parent (fed.down (ap (lives_at G) (sym child) ∙ lives)));
       }
 
 -- ---- a link is shown
 
 show_over : (G : Facts) (m : MachineView) (x y : Enclave) (hop : Hop) → IsOver G m x y hop → link_lines G x y ≡ bytes_lines x y (length (waiting_bytes (link_of m.pairs hop))) 0 (waiting_bytes (link_of m.pairs hop))
-show_over G m x y hop k = ap (λ bytes. bytes_lines x y (length bytes) 0 bytes) (sym k.link.waiting)
+show_over G m x y hop k = ap (λ bytes. bytes_lines x y (length bytes) 0 bytes) (over_waits G m x y hop k)
 
 pub tied_show_link : (G H : Facts) (m : MachineView) (x y : Enclave) → IsStep G H (commands.ShowLink x y) → IsShown G m → IsTied G H (commands.ShowLink x y) m
 tied_show_link G H m x y step h = by (hop_in m x y) refl

@@ -51,20 +51,10 @@ module _ (G : Facts) (m : MachineView) (flowing : IsFlowing G) (h : IsShown G m)
         above = k.above;
         parent = λ has. ap (λ (v : View). v.parent) (h.nodes (i + 1) (sym (h.living (i + 1)) ∙ has)).view ∙ sym k.parent;
         up = λ has. let up = k.up (sym (h.living p.parent.0) ∙ has) in
-            can_take p.up (node_at m.nodes p.parent.0) (enclave (i + 1)) _ up.feed (flowing_of (G.channel (i + 1) p.parent.0) p.up _ up.bytes);
+            can_take p.up (node_at m.nodes p.parent.0) (enclave (i + 1)) _ up.feed (flowing_of _ (G.channel (i + 1) p.parent.0) p.up (flowing.flows (i + 1) p.parent.0) up.bytes);
         down = λ has. let down = k.down (sym (h.living (i + 1)) ∙ has) in
-            can_take p.down (node_at m.nodes (i + 1)) p.parent _ down.feed (flowing_of (G.channel p.parent.0 (i + 1)) p.down _ down.bytes);
+            can_take p.down (node_at m.nodes (i + 1)) p.parent _ down.feed (flowing_of _ (G.channel p.parent.0 (i + 1)) p.down (flowing.flows p.parent.0 (i + 1)) down.bytes);
       }
-
-  -- no channel has ended, as all live so far
-  open_pair : (i : ℕ) → i < length m.pairs → ((pair_at m.pairs i).up.ended ≡ false) × ((pair_at m.pairs i).down.ended ≡ false)
-  open_pair i within =
-      let count = h.pairs in
-      let k = h.links i within in
-      let above = k.above in (
-        (k.up (flowing.tree.all_live (pair_at m.pairs i).parent.0 (omega (arith, count, within, above)))).bytes.open_end,
-        (k.down (flowing.tree.all_live (i + 1) (omega (arith, count, within)))).bytes.open_end,
-      )
 
   -- no node has a child that isn't born
   no_child : (e c : ℕ) → length m.nodes ≤ c → at (node_at m.nodes e).view.children c ≡ None
@@ -87,7 +77,6 @@ module _ (G : Facts) (m : MachineView) (flowing : IsFlowing G) (h : IsShown G m)
         root = λ some. h.living 0 ∙ flowing.tree.root (omega (arith, born, some));
         nodes = λ e has. let k = h.nodes e (sym (h.living e) ∙ has) in record { me = ap (λ (v : View). v.me) k.view; going = k.going };
         links = pair_ready;
-        open_ends = λ i within. open_pair i within;
         recorded = λ some. ap (λ (v : View). length v.host.parents) (h.nodes 0 (flowing.tree.root (omega (arith, born, some)))).view ∙ parents ∙ sym h.born;
         strangers = λ e c far. h.strangers e c (omega (arith, born, far));
         unborn = no_child;

@@ -1,5 +1,5 @@
 -- The machine shows the facts of the journal so far.
-use Rattle.std.specs.Prelude.{◌≡◌, ◌+◌, ◌-◌, ◌<◌, ◌≤◌, ℕ, length, true, false, None, Some}
+use Rattle.std.specs.Prelude.{◌≡◌, ◌+◌, ◌-◌, ◌<◌, ◌≤◌, ℕ, length, true, false, not, None, Some}
 use Rattle.xm_num.specs.Rows.{at}
 use Rattle.global_model.specs.Facts.{Facts, fact_of, lives_at}
 use Rattle.global_model.specs.Channels.{is_neighbour}
@@ -7,7 +7,7 @@ use Rattle.global_model.specs.Views.{view_of}
 use Rattle.enclave_node.specs.Nodes.{NodeView}
 use Rattle.byte_link.specs.Channel.{Channel}
 use Rattle.node_machine.specs.declared.pair.Pair.{Pair}
-use Rattle.node_world.specs.Links.{IsChannel, feed_of}
+use Rattle.node_world.specs.Links.{IsLinkOf, feed_of}
 use Rattle.node_machine.specs.Machine.{MachineView, enclave, has_node, node_at, pair_at}
 
 -- the node is seen as the view of its enclave, and hasn't failed
@@ -21,7 +21,7 @@ Feeds G x e node = at node.feeds x ≡ Some (feed_of (G.channel x e))
 
 -- the link and the decoder at its end show the channel from x to y
 pub record IsLinkFrom (G : Facts) (m : MachineView) (x y : ℕ) (link : Channel) : Type 0 where
-  pub bytes : IsChannel (G.channel x y) link (feed_of (G.channel x y))
+  pub bytes : IsLinkOf (not (lives_at G x)) (G.channel x y) link
   pub feed : Feeds G x y (node_at m.nodes y)
 
 -- the channels between child c and its parent, each where its receiver lives
