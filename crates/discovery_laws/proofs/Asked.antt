@@ -81,7 +81,7 @@ module _ (laws : Laws) (G : Facts) (x y : Enclave) (r : Record) (behind : List R
 pub asked_step : (laws : Laws) (G : Facts) (step : Step) → IsPause G → MayCome G step → IsAsked G → IsAsked (after_lines G (written_by G step))
 asked_step laws G (Written line) pause may old = calm_line laws.tree none_owed G line (calm_alone G line may.1) old
 asked_step laws G (Hosts ns blocks) pause may old = asked_host laws G pause old ns blocks may.1
-asked_step laws G (Bears child kind parent ns blocks) pause may old = asked_boot laws G pause old child parent kind ns blocks may.1
+asked_step laws G (Bears child kind parent ns blocks) pause may old = asked_boot laws G pause old child parent kind ns blocks may.1 may.2
 asked_step laws G (Takes x y n) pause may old = calm_line laws.tree none_owed G (lines.Took x y n) tt old
 asked_step laws G (Handles x y r) pause may old =
     let first = next_flight G x.0 y.0 r may.others may.next in

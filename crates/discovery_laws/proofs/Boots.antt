@@ -11,7 +11,8 @@ use Rattle.xemem_language.specs.declared.line.Line.TheVariants as lines
 use Rattle.enclave_rules.specs.Core.{host}
 use Rattle.enclave_rules.specs.Steps.{query_of, child_lines, adopt_lines, birth_lines, host_lines}
 use Rattle.global_model.specs.Facts.{Facts, after_line, after_lines}
-use Rattle.global_model.specs.Pauses.{MayBear, MayHost, IsPause}
+use Rattle.global_model.specs.Pauses.{IsPause}
+use Rattle.global_model.specs.Apt.{IsBirth}
 use Rattle.global_model.specs.Tree.{IsRooted, parent_of}
 use Rattle.global_model.specs.Views.{view_of}
 use Rattle.discovery_laws.specs.Known.{knows}
@@ -54,6 +55,11 @@ add_unless : (t : Bool) (x y : ℕ) → 1 ≤ one_if t + add (not t) x y x y
 add_unless true x y = omega arith
 add_unless false x y = let one = add-here x y in omega (arith, one)
 
+-- the name server is taken once
+not_taken : (ns server : Bool) → (ns && server) ≡ false → ns ≡ true → server ≡ false
+not_taken true server none has = none
+not_taken false server none has = absurd (cc)
+
 module _ (laws : Laws) (G : Facts) (pause : IsPause G) (old : IsAsking none_owed G) where
   rooted_born : (child parent : Enclave) (kind : Kind) (ns : Bool) (blocks : List Block) → (0 < child.0 → parent.0 < child.0)
       → IsRooted (parent_of (after_line G (lines.Born child kind parent ns blocks)))
@@ -78,14 +84,14 @@ module _ (laws : Laws) (G : Facts) (pause : IsPause G) (old : IsAsking none_owed
           absurd (omega (arith, low, first))
       by false is = refl
 
-  pub asked_host : (ns : Bool) (blocks : List Block) → MayHost G blocks → IsAsking none_owed (after_lines G (host_lines blocks ns))
+  pub asked_host : (ns : Bool) (blocks : List Block) → IsBirth G host kinds.Host host ns blocks → IsAsking none_owed (after_lines G (host_lines blocks ns))
   asked_host ns blocks may =
-      let next : host.0 ≡ G.born = sym may.first in
+      let next : host.0 ≡ G.born = may.next in
       let H = born G host host kinds.Host ns blocks pause.tree pause.ways next in
       calm_lines laws.tree none_owed (cond ns (lines.Admitted host ∷ []) []) H (by ns) (record {
         counted = counted_born G host host kinds.Host ns blocks pause.tree pause.ways next none_owed pause.apart (λ a b. omega arith)
             (λ a b. omega arith) (λ near. absurd (cc)) (λ near. absurd (cc)) old.counted;
-        known = known_born G host host kinds.Host ns blocks pause.tree pause.ways next laws.tree old.rooted (λ is. none_served may.first) old.known;
+        known = known_born G host host kinds.Host ns blocks pause.tree pause.ways next laws.tree old.rooted (λ is. none_served (sym may.next)) old.known;
         rooted = rooted_born host host kinds.Host ns blocks (λ some. some);
       })
     where
@@ -95,7 +101,7 @@ module _ (laws : Laws) (G : Facts) (pause : IsPause G) (old : IsAsking none_owed
 
   -- ---- a child
 
-  module _ (child parent : Enclave) (kind : Kind) (ns : Bool) (blocks : List Block) (may : MayBear G child parent ns blocks) where
+  module _ (child parent : Enclave) (kind : Kind) (ns : Bool) (blocks : List Block) (may : IsBirth G child kind parent ns blocks) (some : 0 < child.0) where
     abbrev H : Facts
     H = born G child parent kind ns blocks pause.tree pause.ways may.next
 
@@ -108,7 +114,7 @@ module _ (laws : Laws) (G : Facts) (pause : IsPause G) (old : IsAsking none_owed
 
     above : parent.0 < child.0
     above =
-        let low : parent.0 < G.born = living_born G parent.0 pause.tree may.living in
+        let low : parent.0 < G.born = living_born G parent.0 pause.tree (may.under some) in
         omega (arith, low, may.next)
 
     asking_born : IsAsking both_owed H
@@ -119,7 +125,7 @@ module _ (laws : Laws) (G : Facts) (pause : IsPause G) (old : IsAsking none_owed
           (λ near. omega (arith, add_unless ns parent.0 child.0))
           (λ near. omega (arith, add_unless (knows G parent.0) child.0 parent.0))
           old.counted;
-      known = known_born G child parent kind ns blocks pause.tree pause.ways may.next laws.tree old.rooted may.server old.known;
+      known = known_born G child parent kind ns blocks pause.tree pause.ways may.next laws.tree old.rooted (not_taken ns G.server may.one) old.known;
       rooted = rooted_born child parent kind ns blocks (λ some. above);
     }
 

@@ -85,7 +85,7 @@ kept_step laws G (Handles x y r) pause may =
 kept_step laws G (Hosts ns blocks) pause may =
     let G1 = after_line G (lines.Born host kinds.Host host ns blocks) in
     let more = cond ns (lines.Admitted host ∷ []) [] in
-    kept-trans G G1 (after_lines G1 more) (kept_born G host kinds.Host host ns blocks pause.tree (sym may.1.first))
+    kept-trans G G1 (after_lines G1 more) (kept_born G host kinds.Host host ns blocks pause.tree may.1.next)
     (kept_lines laws.row G1 more (inner_either ns (lines.Admitted host ∷ []) [] (tt, tt) tt) (pause_bounded G pause))
 kept_step laws G (Bears child kind parent ns blocks) pause may =
     let G1 = after_line G (lines.Born child kind parent ns blocks) in

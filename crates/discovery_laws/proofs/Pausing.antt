@@ -262,7 +262,7 @@ registered_step laws G (Hosts ns blocks) pause may led led' rooted' d registered
     IsRegistered (parent_of (after_lines G (lines.Born host kinds.Host host ns blocks ∷ ls))) (after_lines G (lines.Born host kinds.Host host ns blocks ∷ ls)).born
     (after_lines G (lines.Born host kinds.Host host ns blocks ∷ ls)) d in
     subst P (append-nil (cond ns (lines.Admitted host ∷ []) []))
-    (bears laws G host kinds.Host host ns blocks [] [] pause (sym may.1.first) (λ d. tt) (λ d. tt) d registered)
+    (bears laws G host kinds.Host host ns blocks [] [] pause may.1.next (λ d. tt) (λ d. tt) d registered)
 registered_step laws G (Bears child kind parent ns blocks) pause may led led' rooted' d registered =
     let P : List Enclave → Type 0 = λ heard.
     let ls : List Line = birth_lines child kind parent blocks ns heard ++ adopt_lines (view_of G parent) child in

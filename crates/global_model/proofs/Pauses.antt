@@ -1,8 +1,8 @@
 -- Every journal is one in steps.
-use Rattle.std.proofs.Common.{◌≡◌, ◌+◌, ◌/◌, ◌≤◌, ℕ, zero, suc, min, List, [], ◌∷◌, ◌++◌, length, take, map, Bool, true, false, cond, ◌&&◌, eqb, leb, Option, None, Some, refl, sym, ap, ◌∙◌, subst, arith, append-nil, append_assoc}
+use Rattle.std.proofs.Common.{◌≡◌, ◌<◌, ◌+◌, ◌/◌, ◌≤◌, ℕ, zero, suc, min, List, [], ◌∷◌, ◌++◌, length, take, map, Bool, true, false, cond, ◌&&◌, eqb, leb, Option, None, Some, refl, sym, ap, ◌∙◌, subst, arith, append-nil, append_assoc}
 use Rattle.std.specs.List.{range_with_len}
 use Rattle.std.specs.Option.{option_map_or}
-use Rattle.std.proofs.lemmas.Bool.{eqb-false, eqb-true, and_parts, leb-false}
+use Rattle.std.proofs.lemmas.Bool.{eqb-false, eqb-true, and_parts, leb-false, and_right}
 use Rattle.xm_num.specs.declared.Enclave.{Enclave}
 use Rattle.xm_num.specs.declared.Pid.{Pid}
 use Rattle.xm_num.specs.declared.Vpn.{Vpn}
@@ -15,6 +15,7 @@ use Rattle.xemem_language.specs.declared.command.Command.TheVariants as commands
 use Rattle.xemem_language.specs.declared.line.Line.{Line}
 use Rattle.xemem_language.specs.declared.line.Line.TheVariants as lines
 use Rattle.xemem_language.specs.Ranges.{IsInRange}
+use Rattle.enclave_rules.specs.Core.{is_guest}
 use Rattle.enclave_rules.specs.Steps.{handled_lines}
 use Rattle.global_model.specs.Facts.{Facts, after_line, after_lines, no_facts, is_living_enclave}
 use Rattle.global_model.specs.Apt.{IsNear, NothingArrives}
@@ -27,7 +28,7 @@ use Rattle.global_model.specs.Due.{next_enclave, touched_lines, got_lines, took_
 use Rattle.global_model.specs.Pauses.{Step, Written, Hosts, Bears, Takes, Handles, written_by, written_in, MayStandAlone, MayCome, IsPause, AreSteps, IsInSteps}
 use Rattle.global_model.proofs.Pasts.{after_lines-append}
 use Rattle.global_model.proofs.Refused.{all_unmet, not_false}
-use Rattle.global_model.proofs.Tree.{near-turned}
+use Rattle.global_model.proofs.Tree.{near-turned, living_born}
 use Rattle.global_model.proofs.Ways.{ways_near}
 use Rattle.global_model.proofs.Tells.{MayTell, tells_end, tells_bytes, tells_routes, tells_states}
 use Rattle.global_model.proofs.Writes.{EachIs}
@@ -35,7 +36,7 @@ use Rattle.global_model.proofs.Sound.{IsSound, sound_line}
 use Rattle.global_model.proofs.Turns.{at_pair_same, IsTurn, begin_turn, end_turn, other_turn, lives_in, IsClose, IsProper, IsUpTo, proper_lines, got_step}
 use Rattle.global_model.proofs.Waiting.{IsWaiting, first_waits, rest_waits}
 use Rattle.global_model.proofs.Deliveries.{took, IsTook, deliver_up_to, settle_at}
-use Rattle.global_model.proofs.Commands.{IsReady, IsRun, begun, run_step, ready_start}
+use Rattle.global_model.proofs.Commands.{IsReady, IsRun, begun, run_step, ready_start, cokernel_plain}
 
 -- ---- steps one after the other
 
@@ -169,11 +170,6 @@ module _ (near : ℕ → ℕ → Bool) (lives : ℕ → Bool) where
 told_sound : (ls : List Line) (G : Facts) → EachIs IsAside ls → IsSound G → NothingArrives G → IsInSteps G ls
 told_sound ls G told sound none = told_in_steps (is_neighbour G) (lives_in G) ls G told (begin_turn 0 0 G sound none)
 
--- the name server is taken once
-not_taken : (ns server : Bool) → (ns && server) ≡ false → ns ≡ true → server ≡ false
-not_taken true server none has = none
-not_taken false server none has = cc
-
 -- a command, where every whole record was got before it and is after its line
 module _ (G : Facts) (sound : IsSound G) (got : NothingArrives G) where
   alone_in_steps : (line : Line) → MayStandAlone G line → IsInSteps G (line ∷ [])
@@ -189,31 +185,48 @@ module _ (G : Facts) (sound : IsSound G) (got : NothingArrives G) where
       by None is = acts is
       by (Some cause) is = told_sound (lines.Refused cause ∷ []) (begun G c) (record { proper = λ near lives. tt; alone = λ G. tt }, tt) after none
 
-  boot_in_steps : (kind : Kind) (parent : Enclave) (count : ℕ) (ns : Bool) → IsInSteps G (step_lines G (commands.Boot kind parent count ns))
-  boot_in_steps kind parent count ns =
+  boot_in_steps : (kind : Kind) (parent : Enclave) (count : ℕ) (ns : Bool) → is_guest kind ≡ false → IsInSteps G (step_lines G (commands.Boot kind parent count ns))
+  boot_in_steps kind parent count ns plain =
       let c = commands.Boot kind parent count ns in
       let B = begun G c in
       let after : IsSound B = sound_line G (lines.Do c) sound tt in
       with_refusal c tt after got (λ none.
       let unmet = all_unmet (conditions_of G c) none in
+      let lives : is_living_enclave (B.enclave parent.0) ≡ true = not_false _ unmet.0 in
+      let lower : parent.0 < B.born = living_born B parent.0 after.tree lives in
       one_in_steps B (Bears (next_enclave B) kind parent ns (take count (free_blocks B))) (pause_sound B after) (
         got,
         record {
-          next = refl;
           room = leb-false 256 B.born unmet.1.0;
-          living = not_false _ unmet.0;
-          server = not_taken ns B.server unmet.1.1.0;
-          lent = record { count = count; is = refl };
+          next = refl;
+          under = λ some. lives;
+          root = λ first. absurd (omega (arith, first, lower));
+          plain = plain;
+          one = unmet.1.1.0;
+          count = count;
+          lowest = refl;
         },
+        omega (arith, lower),
       ))
 
   host_in_steps : (count : ℕ) (ns : Bool) → G.born ≡ 0 → IsInSteps G (step_lines G (commands.Host count ns))
-  host_in_steps count ns first =
+  host_in_steps count ns none =
       let c = commands.Host count ns in
       let B = begun G c in
       let after : IsSound B = sound_line G (lines.Do c) sound tt in
-      with_refusal c tt after got (λ none. one_in_steps B (Hosts ns (take count (free_blocks B))) (pause_sound B after)
-      (got, record { first = first; lent = record { count = count; is = refl } }))
+      with_refusal c tt after got (λ allowed. one_in_steps B (Hosts ns (take count (free_blocks B))) (pause_sound B after) (
+        got,
+        record {
+          room = omega (arith, none);
+          next = sym none;
+          under = λ some. absurd (omega (arith, some));
+          root = λ first. refl;
+          plain = refl;
+          one = and_right ns B.server (after.unserved none);
+          count = count;
+          lowest = refl;
+        },
+      ))
 
   proc_in_steps : (e : Enclave) (uid gid : ℕ) → IsInSteps G (step_lines G (commands.Proc e uid gid))
   proc_in_steps e uid gid =
@@ -280,7 +293,8 @@ command_in_steps before G ready (commands.Pool blocks) may range =
 command_in_steps before G ready (commands.Host count ns) may range =
     let second : before ≡ 1 = eqb-true before 1 (and_parts _ _ may).0 in
     host_in_steps G ready.sound ready.got count ns (ready.unborn (omega (arith, second)))
-command_in_steps before G ready (commands.Boot kind parent count ns) may range = boot_in_steps G ready.sound ready.got kind parent count ns
+command_in_steps before G ready (commands.Boot kind parent count ns) may range =
+    boot_in_steps G ready.sound ready.got kind parent count ns (cokernel_plain kind (and_parts _ _ may).1)
 command_in_steps before G ready (commands.Proc e uid gid) may range = proc_in_steps G ready.sound ready.got e uid gid
 command_in_steps before G ready (commands.Alloc e p page count) may range = alloc_in_steps G ready.sound ready.got e p page count
 command_in_steps before G ready (commands.Touch e p addr want) may range = touch_in_steps G ready.sound ready.got e p addr want

@@ -4,6 +4,7 @@
 use Rattle.std.specs.Prelude.{◌≡◌, ◌+◌, ◌/◌, Some, None, ◌<◌, ℕ, List, [], ◌∷◌, ◌++◌, take, Bool, true, false}
 use Rattle.xm_num.specs.declared.Enclave.{Enclave}
 use Rattle.xm_num.specs.declared.Kind.{Kind}
+use Rattle.xm_num.specs.declared.Kind.TheVariants as kinds
 use Rattle.xm_num.specs.declared.Block.{Block}
 use Rattle.xm_num.specs.declared.Access.{Access}
 use Rattle.xm_num.specs.declared.Frame.{Frame}
@@ -14,13 +15,14 @@ use Rattle.xemem_language.specs.declared.command.Command.TheVariants as commands
 use Rattle.xemem_language.specs.declared.line.Line.{Line}
 use Rattle.xemem_language.specs.declared.line.Line.TheVariants as lines
 use Rattle.xemem_language.specs.declared.record.Record.{Record}
+use Rattle.enclave_rules.specs.Core.{host}
 use Rattle.enclave_rules.specs.Steps.{adopt_lines, birth_lines, handled_lines, host_lines}
-use Rattle.global_model.specs.Apt.{IsTaking, NothingArrives}
+use Rattle.global_model.specs.Apt.{IsBirth, IsTaking, NothingArrives}
 use Rattle.global_model.specs.Channels.{arriving, is_neighbour}
 use Rattle.global_model.specs.Facts.{Facts, after_lines, lives_at, no_channel}
 use Rattle.global_model.specs.Flow.{AreWays, IsFlow, IsTree}
 use Rattle.global_model.specs.Refusals.{refusal_of}
-use Rattle.global_model.specs.Space.{free_blocks, space_of, unused_frames}
+use Rattle.global_model.specs.Space.{space_of, unused_frames}
 use Rattle.global_model.specs.Views.{view_of}
 
 pub data Step : Type 0 where
@@ -45,11 +47,6 @@ written_in G [] = []
 written_in G (step ∷ steps) = written_by G step ++ written_in (after_lines G (written_by G step)) steps
 
 -- ---- which steps may come
-
--- some first ones of them
-pub record AreFirst {A : Type 0} (taken those : List A) : Type 0 where
-  pub count : ℕ
-  pub is : taken ≡ take count those
 
 -- the lowest unused frames are allocated, so many as the command wants, where it isn't refused
 pub record MayAllocate (G : Facts) (e : Enclave) (p : Pid) (page : Vpn) (frames : List Frame) : Type 0 where
@@ -87,19 +84,6 @@ MayStandAlone G (lines.Killed x cut) = ⊥
 MayStandAlone G (lines.End x y torn) = ⊥
 MayStandAlone G line = Unit {0}
 
--- the host is the first to be born
-pub record MayHost (G : Facts) (blocks : List Block) : Type 0 where
-  pub first : G.born ≡ 0
-  pub lent : AreFirst blocks (free_blocks G)
-
--- a child has the next number and a parent that lives, and the name server where no enclave has it yet
-pub record MayBear (G : Facts) (child parent : Enclave) (ns : Bool) (blocks : List Block) : Type 0 where
-  pub next : child.0 ≡ G.born
-  pub room : G.born < 256
-  pub living : lives_at G parent.0 ≡ true
-  pub server : ns ≡ true → G.server ≡ false
-  pub lent : AreFirst blocks (free_blocks G)
-
 -- the record is the next that is whole at a living neighbour and wasn't got
 pub record MayHandle (G : Facts) (x y : Enclave) (r : Record) : Type 0 where
   pub living : lives_at G y.0 ≡ true
@@ -109,8 +93,8 @@ pub record MayHandle (G : Facts) (x y : Enclave) (r : Record) : Type 0 where
 
 abbrev pub MayCome : Facts → Step → Type 0
 MayCome G (Written line) = NothingArrives G × MayStandAlone G line
-MayCome G (Hosts ns blocks) = NothingArrives G × MayHost G blocks
-MayCome G (Bears child kind parent ns blocks) = NothingArrives G × MayBear G child parent ns blocks
+MayCome G (Hosts ns blocks) = NothingArrives G × IsBirth G host kinds.Host host ns blocks
+MayCome G (Bears child kind parent ns blocks) = NothingArrives G × IsBirth G child kind parent ns blocks × (0 < child.0)
 MayCome G (Takes x y count) = IsTaking G x y count
 MayCome G (Handles x y r) = MayHandle G x y r
 
