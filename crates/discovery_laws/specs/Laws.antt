@@ -1,5 +1,5 @@
 -- The laws on which those of discovery rest, as the functions of the crates below ensure them.
-use Rattle.std.specs.Prelude.{◌≡◌, ◌⊎◌, ◌<◌, ◌≤◌, ◌+◌, true, ℕ, List, [], ◌∷◌, ◌++◌, ◌==◌, Some, if◌then◌else◌}
+use Rattle.std.specs.Prelude.{◌≡◌, ◌⊎◌, ◌<◌, ◌≤◌, ◌+◌, true, ℕ, List, ◌++◌, ◌==◌, Some, if◌then◌else◌}
 use Rattle.xm_num.specs.declared.Enclave.{Enclave}
 use Rattle.xm_num.specs.Rows.{at, put}
 use Rattle.xm_num.specs.RowLaws.{RowLaws as TableLaws}
@@ -10,13 +10,12 @@ use Rattle.enclave_rules.specs.View.{AreOf, View}
 use Rattle.enclave_rules.specs.Steps.{lines_of_records}
 use Rattle.global_model.specs.Facts.{Facts, facts_after, after_lines, facts_at, no_facts}
 use Rattle.global_model.specs.Journals.{onto}
-use Rattle.global_model.specs.Carriage.{IsCarried}
 use Rattle.global_model.specs.Flow.{IsFlowing, IsTree}
 use Rattle.global_model.specs.Pauses.{IsInSteps}
 use Rattle.global_model.specs.Channels.{is_neighbour}
 use Rattle.global_model.specs.Tree.{IsRooted, AreNear, IsToward, distance, parent_of}
 use Rattle.global_model.specs.Place.{IsPlaced}
-use Rattle.global_model.specs.Due.{step_lines, journal_of}
+use Rattle.global_model.specs.Due.{journal_of}
 
 -- what is read off the lines of a journal in turn
 pub record PastLaws : Type 0 where
@@ -26,8 +25,6 @@ pub record PastLaws : Type 0 where
 
 -- the journal of commands
 pub record JournalLaws : Type 0 where
-  pub more : (commands : List Command) (command : Command) → journal_of (commands ++ command ∷ []) ≡ journal_of commands ++ step_lines (facts_after (journal_of commands)) command
-  pub carried : (commands : List Command) → IsPlaced commands → IsCarried (journal_of commands)
   pub flowing : (commands : List Command) → IsPlaced commands → IsFlowing (facts_after (journal_of commands))
   pub steps : (commands : List Command) → IsPlaced commands → IsInSteps no_facts (journal_of commands)
 

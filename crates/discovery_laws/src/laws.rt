@@ -12,8 +12,7 @@ ghost use Rattle.discovery_laws.specs.Ways.{IsLeading, ways_in};
 ghost use Rattle.discovery_laws.specs.Once.{IsOnce};
 
 use global_model::{
-    journals_are_carried, journals_are_in_steps, journals_grow, lines_are_seen, pasts_grow,
-    trees_have_paths,
+    journals_are_carried, journals_are_in_steps, lines_are_seen, pasts_grow, trees_have_paths,
 };
 use xm_num::Enclave;
 use xm_num::laws::{row_laws, rows};
@@ -23,7 +22,6 @@ fn laws()
     ensures { Laws }
 {
     pasts_grow();
-    journals_grow();
     journals_are_carried();
     journals_are_in_steps();
     trees_have_paths();
