@@ -1,9 +1,9 @@
 -- What a command writes follows from the views of the enclaves that it names.
-use Rattle.std.proofs.Common.{subst, ◌≡◌, ◌+◌, ◌-◌, ◌/◌, ◌<◌, ◌≤◌, ℕ, zero, suc, List, [], ◌∷◌, length, take, map, Bool, true, false, cond, not, ◌&&◌, leb, ltb, Option, None, Some, Result, Ok, Err, refl, sym, ap, ◌∙◌, arith}
+use Rattle.std.proofs.Common.{subst, ◌≡◌, ◌+◌, ◌-◌, ◌/◌, ◌≤◌, ℕ, zero, suc, List, [], ◌∷◌, length, take, map, Bool, true, false, cond, not, ◌&&◌, leb, ltb, Option, None, Some, Result, Ok, Err, refl, sym, ap, ◌∙◌, arith}
 use Rattle.std.specs.Prelude.{is_some, is_none}
 use Rattle.std.specs.List.{range_with_len, filter, list_any}
 use Rattle.std.specs.Option.{option_map, option_map_or}
-use Rattle.std.proofs.lemmas.Bool.{ltb-true, ltb-false}
+use Rattle.std.proofs.lemmas.Bool.{ltb-false}
 use Rattle.std.proofs.lemmas.List.FromFn.{take-map-range_with_len}
 use Rattle.xm_num.specs.declared.Enclave.{Enclave}
 use Rattle.xm_num.specs.declared.Pid.{Pid}

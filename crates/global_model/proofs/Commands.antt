@@ -245,7 +245,7 @@ run_pool before G blocks first ready =
     let none : G.born ≡ 0 = ready.unborn (omega (arith, first)) in
     record { apt = (none, tt); ready = record { sound = sound_line G (lines.Do (commands.Pool blocks)) ready.sound none; got = ready.got; unborn = λ few. none } }
 
-cokernel_plain : (kind : Kind) → is_cokernel kind ≡ true → is_guest kind ≡ false
+pub cokernel_plain : (kind : Kind) → is_cokernel kind ≡ true → is_guest kind ≡ false
 cokernel_plain kinds.Host is = refl
 cokernel_plain kinds.Cokernel is = refl
 cokernel_plain kinds.Vm is = cc

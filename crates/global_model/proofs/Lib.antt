@@ -2,6 +2,8 @@ pub mod Pasts
 pub mod Flow
 pub mod Runs
 pub mod Tree
+pub mod Paths
+pub mod Roads
 pub mod Rows
 pub mod Ways
 pub mod Owned
@@ -19,6 +21,7 @@ pub mod Waiting
 pub mod Deliveries
 pub mod Commands
 pub mod Carried
+pub mod Pauses
 pub mod Views
 pub mod Seen
 pub mod Handled

@@ -1,10 +1,10 @@
 -- What waits: the rest of a record, the first channel in which something waits, and rest.
-use Rattle.std.proofs.Common.{◌≡◌, ◌+◌, ◌-◌, ◌<◌, ◌≤◌, ℕ, zero, suc, List, [], ◌∷◌, length, Bool, true, false, cond, not, ◌&&◌, ◌||◌, eqb, leb, ltb, is_some, filter, flat_map, slice_get, Option, None, Some, inl, inr, refl, sym, ap, ◌∙◌, subst, arith, length-drop}
+use Rattle.std.proofs.Common.{◌≡◌, ◌+◌, ◌-◌, ◌<◌, ◌≤◌, ℕ, zero, suc, List, [], ◌∷◌, length, Bool, true, false, cond, not, ◌&&◌, ◌||◌, eqb, leb, ltb, is_some, filter, flat_map, slice_get, Option, None, Some, inl, inr, refl, sym, ap, ◌∙◌, subst, arith}
 use Rattle.std.specs.List.{AllByRecursion, range_with_len}
 use Rattle.std.proofs.lemmas.Bool.{eqb-true, eqb-false, eq-eqb, and_parts, leb-true, leb-false, ltb-true, ltb-false, lt-ltb, or_cases, both_ways, false_from_ne_true}
 use Rattle.xm_num.specs.declared.Enclave.{Enclave}
 use Rattle.xemem_language.specs.declared.record.Record.{Record}
-use Rattle.xemem_wire.specs.Spelling.{spelling_of, header_of, spellings_of}
+use Rattle.xemem_wire.specs.Spelling.{spelling_of, header_of}
 use Rattle.global_model.specs.Facts.{Facts, EnclaveFact, fact_of, has_parent, lives_at, no_channel}
 use Rattle.global_model.specs.Channels.{end_waits, is_child_of, is_neighbour, size_of, waiting_bytes, waiting_of}
 use Rattle.global_model.specs.Flow.{IsTree, IsFlowing}

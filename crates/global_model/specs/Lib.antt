@@ -22,8 +22,10 @@ pub mod Channels
 pub mod Space
 pub mod Refusals
 pub mod Flow
+pub mod Tree
 pub mod Due
 pub mod Handled
 pub mod Known
 pub mod Place
 pub mod Rest
+pub mod Pauses

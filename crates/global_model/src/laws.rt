@@ -1,5 +1,6 @@
 // Laws of the definitions: each is the contract of a function that does nothing, which a crate above calls to have it.
-ghost use Rattle.std.specs.Prelude.{◌≡◌, ◌≢◌, ◌≤◌, ◌-◌, ℕ, List, [], ◌∷◌, ◌++◌, length, take, drop, Bool, true, false, None, nat_lt, if◌then◌else◌, Some};
+ghost use Rattle.std.specs.Prelude.{◌≡◌, ◌==◌, ◌||◌, ◌≢◌, ◌⊎◌, ◌≤◌, ◌<◌, ◌+◌, ◌-◌, ℕ, List, [], ◌∷◌, ◌++◌, length, take, drop, Bool, true, false, None, nat_lt, if◌then◌else◌, Some};
+ghost use Rattle.std.specs.List.{AllByRecursion};
 ghost use Rattle.xm_num.specs.declared.Enclave.{Enclave as Enclaves};
 ghost use Rattle.xm_num.specs.declared.Cause.{Cause as Causes};
 ghost use Rattle.xm_num.specs.declared.Cause.TheVariants as causes;
@@ -13,8 +14,8 @@ ghost use Rattle.enclave_rules.specs.Core.{is_guest};
 ghost use Rattle.enclave_rules.specs.View.{View, own_lines, unborn_view, AreOf, AreAbout};
 ghost use Rattle.enclave_rules.specs.Steps.{refusal, host_lines, first_blocks, lines_of_records};
 ghost use Rattle.global_model.specs.Place.{IsPlaced};
-ghost use Rattle.global_model.specs.Facts.{Facts, after_line, after_lines, facts_at, facts_after, is_living_enclave};
-ghost use Rattle.global_model.specs.Channels.{whole_records};
+ghost use Rattle.global_model.specs.Facts.{Facts, after_line, after_lines, facts_at, facts_after, is_living_enclave, no_facts};
+ghost use Rattle.global_model.specs.Channels.{is_neighbour, whole_records};
 ghost use Rattle.global_model.specs.Views.{view_of, seen_lines};
 ghost use Rattle.global_model.specs.Handled.{AreHandled, SeenAt};
 ghost use Rattle.global_model.specs.Apt.{AptAt, IsTaking, OwnedAt};
@@ -22,10 +23,12 @@ ghost use Rattle.global_model.specs.Known.{IsAnswered};
 ghost use Rattle.global_model.specs.Due.{deliver_lines, next_rest, first_waiting, acts_of, command_lines, journal_of, step_lines};
 ghost use Rattle.global_model.specs.Refusals.{Condition, when, first_cause};
 ghost use Rattle.global_model.specs.Plain.{ArePlain, AreActs, IsQuiet, IsBirth};
-ghost use Rattle.global_model.specs.Flow.{IsFlowing};
+ghost use Rattle.global_model.specs.Flow.{IsFlowing, IsTree};
+ghost use Rattle.global_model.specs.Tree.{IsRooted, AreNear, IsPath, IsToward, is_above, path, hop, distance, parent_of};
 ghost use Rattle.global_model.specs.Journals.{do_commands, onto, Follows};
 ghost use Rattle.global_model.specs.Carriage.{IsCarried};
 ghost use Rattle.global_model.specs.Rest.{EndsSettle, IsRested};
+ghost use Rattle.global_model.specs.Pauses.{IsInSteps};
 
 use xm_num::Page;
 use xm_num::laws::rows;
@@ -74,6 +77,43 @@ pub fn journals_are_apt()
 pub fn journals_are_carried()
     ensures carried { (commands : List Commands) → IsPlaced commands → IsCarried (journal_of commands) }
     ensures flowing { (commands : List Commands) → IsPlaced commands → IsFlowing (facts_after (journal_of commands)) }
+{}
+
+/// The journal of commands, each of which may stand after those before it, is one in steps: each step may come at the pause before
+/// it, where the enclaves are a tree, their ways name neighbours, and each channel flows. So what holds before the first command
+/// and is kept by each step that may come holds at every pause.
+pub fn journals_are_in_steps()
+    ensures { (commands : List Commands) → IsPlaced commands → IsInSteps no_facts (journal_of commands) }
+{}
+
+/// In a tree there is one path from one to another that goes over neighbours and names none twice. It goes on as the path from the
+/// neighbour behind its first, which is nearer to the other end. Of two neighbours one is next from the other to any third. What is
+/// born later changes none of it, and a path goes over those alone that live where its ends do. Who stands above an enclave but
+/// the host is it itself, or stands above its parent.
+pub fn trees_have_paths()
+    ensures rooted { (G : Facts) → IsTree G → IsRooted (parent_of G) }
+    ensures near { (G : Facts) (x y : ℕ) → is_neighbour G x y ≡ true → AreNear (parent_of G) x y }
+    ensures same { (parent : ℕ → ℕ) (a : ℕ) → path parent a a ≡ a ∷ [] }
+    ensures hops { (parent : ℕ → ℕ) (a b : ℕ) → IsRooted parent → a ≢ b → path parent a b ≡ a ∷ path parent (hop parent a b) b }
+    ensures path { (parent : ℕ → ℕ) (a b : ℕ) → IsRooted parent → IsPath parent a b (path parent a b) }
+    ensures one { (parent : ℕ → ℕ) (a b : ℕ) (enclaves : List ℕ) → IsRooted parent → IsPath parent a b enclaves
+        → enclaves ≡ path parent a b }
+    ensures toward { (parent : ℕ → ℕ) (born x d : ℕ) → IsRooted parent → x < born → d < born → x ≢ d
+        → IsToward parent born x d (hop parent x d) }
+    ensures beside { (parent : ℕ → ℕ) (born x d y : ℕ) → IsRooted parent → IsToward parent born x d y → AreNear parent x y }
+    ensures nearer { (parent : ℕ → ℕ) (born x d y : ℕ) → IsRooted parent → IsToward parent born x d y
+        → distance parent x d ≡ distance parent y d + 1 }
+    ensures sides { (parent : ℕ → ℕ) (born x y d : ℕ) → IsRooted parent → AreNear parent x y → x < born → y < born → d < born
+        → IsToward parent born x d y ⊎ IsToward parent born y d x }
+    ensures stays { (parent later : ℕ → ℕ) (born more x d y : ℕ) → IsRooted parent
+        → ((e : ℕ) → 0 < e → e < born → later e ≡ parent e) → born ≤ more → IsToward parent born x d y → IsToward later more x d y }
+    ensures far { (parent later : ℕ → ℕ) (born x d : ℕ) → IsRooted parent → ((e : ℕ) → 0 < e → e < born → later e ≡ parent e)
+        → x < born → d < born → distance later x d ≡ distance parent x d }
+    ensures lives { (parent : ℕ → ℕ) (lives : ℕ → Bool) (a b : ℕ) → ((e : ℕ) → 0 < e → lives e ≡ true → lives (parent e) ≡ true)
+        → lives a ≡ true → lives b ≡ true → AllByRecursion (λ e. lives e ≡ true) (path parent a b) }
+    ensures above { (parent : ℕ → ℕ) (a e : ℕ) → IsRooted parent → 0 < e
+        → is_above parent a e ≡ (a == e || is_above parent a (parent e)) }
+    ensures host { (parent : ℕ → ℕ) (a : ℕ) → is_above parent a 0 ≡ (a == 0) }
 {}
 
 /// The records that are whole among the first bytes stay so when more are sent. Once so many of them were got, those
