@@ -116,6 +116,13 @@ impl Link {
         count
     }
 
+    /// Whether the end mark is set.
+    pub fn has_ended(&self) -> bool
+        ensures { result ≡ self.now.ended }
+    {
+        self.ended
+    }
+
     /// Whether the end mark comes next: it is set, nothing waits before it, and it isn't taken.
     pub fn at_end(&self) -> bool
         ensures { IsTrue result ↔ IsAtEnd self.now }

@@ -1,5 +1,8 @@
 pub mod ListLemmas
 pub mod RowLemmas
+pub mod NumberLemmas
+pub mod FrameLemmas
+pub mod MemoryLemmas
 pub mod PoolLemmas
 pub mod BirthLemmas
 pub mod ReceiveLemmas

@@ -7,7 +7,9 @@ use Rattle.xm_num.specs.declared.Neighbour.{Neighbour}
 use Rattle.xm_num.specs.declared.Neighbour.TheVariants as neighbours
 use Rattle.route_learn.specs.Routes.{place_of}
 use Rattle.xemem_language.specs.declared.line.Line.{Line}
-use Rattle.enclave_rules.specs.View.{place_among, View, own_lines}
+use Rattle.enclave_rules.specs.Ways.{place_among}
+use Rattle.enclave_rules.specs.Hand.{Hand}
+use Rattle.enclave_rules.specs.View.{View, own_lines}
 use Rattle.xemem_language.specs.declared.line.Line.TheVariants as lines
 use Rattle.enclave_rules.specs.Steps.{here_of, told_askers}
 use Rattle.enclave_node.specs.Sides.{enclave_of, side_of}
@@ -33,35 +35,35 @@ known_same p None = refl
 known_same p (Some over) = refl
 
 -- telling those that asked changes nothing that is known
-pub told_kept : (w v : View) (askers : List (ℕ × Enclave)) (rest : List Line) → own_lines w (told_askers v askers ++ rest) ≡ own_lines w rest
-told_kept w v [] rest = refl
-told_kept w v (row ∷ askers) rest = told_kept w v askers rest
+pub told_kept : (hand : Hand) (w v : View) (askers : List (ℕ × Enclave)) (rest : List Line) → own_lines hand w (told_askers v askers ++ rest) ≡ own_lines hand w rest
+told_kept hand w v [] rest = refl
+told_kept hand w v (row ∷ askers) rest = told_kept hand w v askers rest
 
 -- the view once those that asked are told
 abbrev pub unasked : View → View
-unasked v = record v { askers = [] }
+unasked v = record v { ways = record v.ways { askers = [] } }
 
 -- one of those that asked was told
-pub told_step : (v w : View) (out new : List Line) (x : Enclave) → Some x ≡ option_map (λ row. row.1) (slice_get v.askers 0) → w ≡ record v { askers = drop 1 v.askers }
-    → new ≡ out ++ lines.Sent v.me x (here_of v.me) ∷ [] → new ++ told_askers w w.askers ≡ out ++ told_askers v v.askers
-told_step v w out new x first left more = by v.askers first (ap (λ v. v.askers) left)
+pub told_step : (v w : View) (out new : List Line) (x : Enclave) → Some x ≡ option_map (λ row. row.1) (slice_get v.ways.askers 0) → w ≡ record v { ways = record v.ways { askers = drop 1 v.ways.askers } }
+    → new ≡ out ++ lines.Sent v.me x (here_of v.me) ∷ [] → new ++ told_askers w w.ways.askers ≡ out ++ told_askers v v.ways.askers
+told_step v w out new x first left more = by v.ways.askers first (ap (λ v. v.ways.askers) left)
   where
-    by : (askers : List (ℕ × Enclave)) → Some x ≡ option_map (λ row. row.1) (slice_get askers 0) → w.askers ≡ drop 1 askers → new ++ told_askers w w.askers ≡ out ++ told_askers v askers
+    by : (askers : List (ℕ × Enclave)) → Some x ≡ option_map (λ row. row.1) (slice_get askers 0) → w.ways.askers ≡ drop 1 askers → new ++ told_askers w w.ways.askers ≡ out ++ told_askers v askers
     by [] is rest = cc
     by (row ∷ askers) is rest =
         let same : row.1 ≡ x = cc in
         let same_me : w.me ≡ v.me = ap (λ v. v.me) left in
         rw (more, rest, same_me, same) (append_assoc out (lines.Sent v.me x (here_of v.me) ∷ []) (told_askers v askers))
 
-pub asker_left : (v w : View) (x : Enclave) → Some x ≡ option_map (λ row. row.1) (slice_get v.askers 0) → w ≡ record v { askers = drop 1 v.askers } → length w.askers < length v.askers
-asker_left v w x first left = by v.askers first (ap (λ v. v.askers) left)
+pub asker_left : (v w : View) (x : Enclave) → Some x ≡ option_map (λ row. row.1) (slice_get v.ways.askers 0) → w ≡ record v { ways = record v.ways { askers = drop 1 v.ways.askers } } → length w.ways.askers < length v.ways.askers
+asker_left v w x first left = by v.ways.askers first (ap (λ v. v.ways.askers) left)
   where
-    by : (askers : List (ℕ × Enclave)) → Some x ≡ option_map (λ row. row.1) (slice_get askers 0) → w.askers ≡ drop 1 askers → length w.askers < length askers
+    by : (askers : List (ℕ × Enclave)) → Some x ≡ option_map (λ row. row.1) (slice_get askers 0) → w.ways.askers ≡ drop 1 askers → length w.ways.askers < length askers
     by [] is rest = cc
     by (row ∷ askers) is rest = rw rest (omega arith)
 
-pub none_left : (v : View) → None ≡ option_map (λ row. row.1) (slice_get v.askers 0) → v.askers ≡ []
-none_left v first = by v.askers first
+pub none_left : (v : View) → None ≡ option_map (λ row. row.1) (slice_get v.ways.askers 0) → v.ways.askers ≡ []
+none_left v first = by v.ways.askers first
   where
     by : (askers : List (ℕ × Enclave)) → None ≡ option_map (λ row. row.1) (slice_get askers 0) → askers ≡ []
     by [] is = refl

@@ -6,15 +6,22 @@ use Rattle.xm_num.specs.declared.Kind.{Kind}
 use Rattle.xm_num.specs.declared.Kind.TheVariants as kinds
 use Rattle.xemem_language.specs.declared.line.Line.{Line}
 use Rattle.xemem_language.specs.declared.line.Line.TheVariants as lines
-use Rattle.enclave_rules.specs.View.{View, HostView, no_host, frames_of, host}
+use Rattle.enclave_rules.specs.Core.{host}
+use Rattle.enclave_rules.specs.Ways.{no_ways}
+use Rattle.enclave_rules.specs.Memory.{no_memory}
+use Rattle.enclave_rules.specs.Host.{HostView, no_host, with_birth}
+use Rattle.enclave_rules.specs.View.{View, unborn_host}
 use Rattle.enclave_rules.specs.Steps.{first_blocks, birth_lines}
-use Rattle.enclave_node.specs.Blocks.{born_host}
 use Rattle.enclave_node.specs.declared.state.Birth.{Birth}
 
 -- what an enclave keeps as the host, where it is the host
 abbrev pub host_view : Option HostView → HostView
 host_view None = no_host
 host_view (Some host) = host
+
+-- of a pool of so many blocks the host gets the first ones
+abbrev pub born_host : ℕ → ℕ → HostView
+born_host pool blocks = with_birth host host (first_blocks blocks) (unborn_host pool)
 
 -- the host with the first blocks of a new pool
 abbrev pub host_birth : ℕ → ℕ → Bool → Birth
@@ -25,7 +32,6 @@ host_birth pool blocks holder = record {
   blocks = first_blocks blocks;
   holder = holder;
   heard = [];
-  frames = frames_of (first_blocks blocks);
   host = Some (born_host pool blocks);
 }
 
@@ -37,7 +43,6 @@ child_birth me kind parent blocks holder heard = record {
   blocks = blocks;
   holder = holder;
   heard = heard;
-  frames = frames_of blocks;
   host = None;
 }
 
@@ -53,18 +58,16 @@ child_told b = birth_lines b.me b.kind b.parent b.blocks b.holder b.heard
 abbrev pub born_view : Birth → View
 born_view b = record {
   me = b.me;
-  kind = b.kind;
-  parent = b.parent;
-  blocks = b.blocks;
-  holder = b.holder;
-  admitted = b.holder;
-  heard = b.heard;
-  way = None;
-  askers = [];
-  backs = [];
-  routes = [];
-  free = b.frames;
-  processes = [];
-  children = [];
+  core = record {
+    kind = b.kind;
+    parent = b.parent;
+    blocks = b.blocks;
+    holder = b.holder;
+    admitted = b.holder;
+    heard = b.heard;
+    children = [];
+  };
+  ways = no_ways;
+  memory = no_memory;
   host = host_view b.host;
 }

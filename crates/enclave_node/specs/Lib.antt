@@ -1,6 +1,5 @@
 pub mod Nodes
 pub mod Layout
-pub mod Blocks
 pub mod Births
 pub mod Answers
 pub mod Sides

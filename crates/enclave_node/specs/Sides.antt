@@ -6,8 +6,10 @@ use Rattle.xm_num.specs.declared.Neighbour.TheVariants as neighbours
 use Rattle.xm_num.specs.Rows.{put, less}
 use Rattle.xemem_language.specs.declared.line.Line.{Line}
 use Rattle.xemem_language.specs.declared.line.Line.TheVariants as lines
-use Rattle.enclave_rules.specs.View.{place_among, View}
-use Rattle.enclave_rules.specs.Steps.{admit_of, drop_lines}
+use Rattle.enclave_rules.specs.Ways.{place_among}
+use Rattle.enclave_rules.specs.View.{View}
+use Rattle.enclave_rules.specs.Sending.{drop_lines}
+use Rattle.enclave_rules.specs.Steps.{admit_of}
 
 -- the number of a neighbour of an enclave with this parent
 abbrev pub enclave_of : Enclave → Neighbour → Enclave
@@ -24,12 +26,12 @@ rows_of parent rows = map (λ row. (row.0, enclave_of parent row.1)) rows
 
 -- the way goes over the neighbour, which needn't be told
 abbrev pub with_way : View → Enclave → View
-with_way v from = record v { way = Some from; askers = less v.askers (place_among v.parent from) }
+with_way v from = record v { ways = record v.ways { way = Some from; askers = less v.ways.askers (place_among v.core.parent from) } }
 
 -- the enclave lies over the neighbour, where there is one
 abbrev pub with_route : View → Enclave → Option Enclave → View
 with_route v of None = v
-with_route v of (Some over) = record v { routes = put v.routes of.0 over }
+with_route v of (Some over) = record v { ways = record v.ways { routes = put v.ways.routes of.0 over } }
 
 -- the holder of the name server learns a route and admits over it
 abbrev pub admitting_lines : View → Enclave → Enclave → List Line
@@ -37,7 +39,7 @@ admitting_lines v from origin = lines.Route v.me origin from ∷ lines.Sent v.me
 
 -- an admit for the enclave itself makes it ready once
 abbrev pub ready_lines : View → List Line
-ready_lines v = if v.admitted then drop_lines v else lines.Admitted v.me ∷ []
+ready_lines v = if v.core.admitted then drop_lines v else lines.Admitted v.me ∷ []
 
 -- the lines of learned routes
 abbrev pub learned_lines : Enclave → List (ℕ × Enclave) → List Line

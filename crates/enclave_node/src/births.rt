@@ -1,10 +1,10 @@
 // What an enclave is born with, and the lines that tell its birth.
 ghost use Rattle.std.specs.Prelude.{◌≡◌, ◌<◌, ◌≤◌, ◌↔◌, [], ◌∷◌, ◌++◌, if◌then◌else◌, IfOk, OnOk, IsErrOf};
 ghost use Rattle.xemem_language.specs.declared.line.Line.TheVariants as lines;
+ghost use Rattle.enclave_rules.specs.Pages.{AreBlocks};
 ghost use Rattle.enclave_rules.specs.Steps as steps;
 ghost use Rattle.enclave_node.specs.Births as spec;
 
-use crate::frames::Frames;
 use crate::host::HostPart;
 use crate::lists::list_of;
 use crate::state::{Birth, query};
@@ -18,22 +18,19 @@ pub fn host_birth(alloc: Global, pool: u16, n: u16, holder: bool) -> Result<Birt
     requires some { 1 ≤ pool }
     requires most { pool ≤ 4096 }
     ensures birth { IfOk result (λ birth. birth ≡ spec.host_birth pool n holder) }
+    ensures ascend { IfOk result (λ birth. AreBlocks birth.blocks) }
     ensures short { IsErrOf result PoolFault.NoBlocks ↔ (pool < n) }
 {
     let (part, blocks) = HostPart::new(alloc, pool, n)?;
-    match Frames::new(alloc, blocks.as_slice()) {
-        Ok(frames) => Ok(Birth {
-            me: Enclave(0),
-            kind: Kind::Host,
-            parent: Enclave(0),
-            blocks,
-            holder,
-            heard: EnclaveList::new(alloc),
-            frames,
-            host: Some(part),
-        }),
-        Err(AllocError) => Err(PoolFault::Memory),
-    }
+    Ok(Birth {
+        me: Enclave(0),
+        kind: Kind::Host,
+        parent: Enclave(0),
+        blocks,
+        holder,
+        heard: EnclaveList::new(alloc),
+        host: Some(part),
+    })
 }
 
 /// The birth of a child.
@@ -55,7 +52,6 @@ pub fn child_birth(
         blocks: list_of(alloc, blocks)?,
         holder,
         heard: list_of(alloc, heard.as_slice())?,
-        frames: Frames::new(alloc, blocks)?,
         host: None,
     })
 }

@@ -1,8 +1,7 @@
 // The unused frames of an enclave.
-ghost use Rattle.std.specs.Prelude.{◌≡◌, ◌+◌, ◌≤◌, ◌^◌, ◌++◌, length, take, drop, IfOk, OnOk, OnErr};
+ghost use Rattle.std.specs.Prelude.{◌≡◌, ◌+◌, ◌≤◌, ◌^◌, ◌++◌, length, take, drop, IfOk, OnOk};
 ghost use Rattle.std.specs.List.{range_with_len};
-ghost use Rattle.enclave_rules.specs.Pages.{frame_list};
-ghost use Rattle.enclave_rules.specs.View.{frames_of};
+ghost use Rattle.enclave_rules.specs.Pages.{frame_list, frames_of};
 
 use crate::lists::list_of;
 use std::alloc::{AllocError, Global};
@@ -61,16 +60,19 @@ impl Frames {
         self.items.len() - self.next
     }
 
-    /// Hands out the first `n` frames. For want of memory none is handed out.
-    pub fn draw(&mut self, alloc: Global, n: usize) -> Result<FrameList, AllocError>
-        requires { n ≤ length self.old }
-        ensures drawn { IfOk result (λ frames. frames ≡ take n self.old) }
-        ensures rest { OnOk result (self.new ≡ drop n self.old) }
-        ensures err { OnErr result (self.new ≡ self.old) }
+    /// The first `n` frames.
+    pub fn first(&self, alloc: Global, n: usize) -> Result<FrameList, AllocError>
+        requires { n ≤ length self.now }
+        ensures { IfOk result (λ frames. frames ≡ take n self.now) }
     {
-        let end = self.next + n;
-        let frames = list_of(alloc, &self.items[self.next..end])?;
-        self.next = end;
-        Ok(frames)
+        list_of(alloc, &self.items[self.next..self.next + n])
+    }
+
+    /// Hands out the first `n` frames. It takes no memory.
+    pub fn draw(&mut self, n: usize)
+        requires { n ≤ length self.old }
+        ensures { self.new ≡ drop n self.old }
+    {
+        self.next += n;
     }
 }

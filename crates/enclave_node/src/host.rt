@@ -1,8 +1,10 @@
 // What the host keeps for the machine: the pool, and the parent of each enclave.
-ghost use Rattle.std.specs.Prelude.{◌≡◌, ◌+◌, ◌<◌, ◌≤◌, ◌↔◌, [], ◌∷◌, ◌++◌, length, take, IfOk, OnOk, OnErr, IsErrOf};
-ghost use Rattle.enclave_rules.specs.View.{lend_from};
+ghost use Rattle.std.specs.Prelude.{◌≡◌, ◌<◌, ◌≤◌, ◌↔◌, ◌++◌, length, take, IfOk, OnOk, IsErrOf};
+ghost use Rattle.frame_pool.specs.Blocks.{free_blocks};
+ghost use Rattle.enclave_rules.specs.Pages.{AreBlocks};
+ghost use Rattle.enclave_rules.specs.Host.{with_birth};
 ghost use Rattle.enclave_rules.specs.Steps as steps;
-ghost use Rattle.enclave_node.specs.Blocks.{fact_of_state, facts_of, free_in, born_host, lent_host};
+ghost use Rattle.enclave_node.specs.Births.{born_host};
 
 use frame_pool::{BlockState, Pool, PoolFault};
 use std::alloc::{AllocError, Global};
@@ -20,17 +22,16 @@ pub struct HostPart {
 }
 
 impl Model for HostPart {
-    ghost use Rattle.enclave_rules.specs.View.{HostView};
-    ghost use Rattle.enclave_node.specs.Blocks.{facts_of};
+    ghost use Rattle.enclave_rules.specs.Host.{HostView};
 
     ghost Value = { HostView };
 
-    ghost view = { λ h. record { states = facts_of h.pool; parents = h.parents } };
+    ghost view = { λ h. record { states = h.pool; parents = h.parents } };
 }
 
 // The line that tells a block's state.
 fn state_line(block: Block, state: BlockState) -> Line
-    ensures { result ∷ [] ≡ steps.state_line block.0 (fact_of_state state) }
+    ensures { result ≡ steps.state_line block.0 state }
 {
     match state {
         BlockState::Free => Line::BlockFree { block },
@@ -41,7 +42,7 @@ fn state_line(block: Block, state: BlockState) -> Line
 
 // Tells the state of each block.
 fn show_pool(pool: &Pool, out: &mut Lines) -> Result<(), AllocError>
-    ensures { OnOk result (out.new ≡ out.old ++ steps.state_lines 0 (facts_of pool.now)) }
+    ensures { OnOk result (out.new ≡ out.old ++ steps.state_lines 0 pool.now) }
 {
     for number in 0..pool.blocks() {
         let block = Block(number);
@@ -51,17 +52,6 @@ fn show_pool(pool: &Pool, out: &mut Lines) -> Result<(), AllocError>
     Ok(())
 }
 
-// Lends the `n` lowest free blocks. Where too few are free, nothing changes.
-#[tactic(auto, using(crate::proofs::PoolLemmas::pool_facts))]
-fn lend_lowest(pool: &mut Pool, child: Enclave, n: u16) -> Result<BlockList, PoolFault>
-    ensures blocks { IfOk result (λ blocks. blocks ≡ take n (free_in pool.old)) }
-    ensures after { OnOk result (facts_of pool.new ≡ lend_from 0 (take n (free_in pool.old)) child (facts_of pool.old)) }
-    ensures short { IsErrOf result PoolFault.NoBlocks ↔ (length (free_in pool.old) < n) }
-    ensures err { OnErr result (pool.new ≡ pool.old) }
-{
-    pool.lend(n, child)
-}
-
 impl HostPart {
     /// A pool of so many blocks, 1 to 4,096, of which the host gets the first `n`.
     pub fn new(alloc: Global, pool: u16, n: u16) -> Result<(HostPart, BlockList), PoolFault>
@@ -69,6 +59,7 @@ impl HostPart {
         requires most { pool ≤ 4096 }
         ensures part { IfOk result (λ made. made.0 ≡ born_host pool n) }
         ensures blocks { IfOk result (λ made. made.1 ≡ steps.first_blocks n) }
+        ensures ascend { IfOk result (λ made. AreBlocks made.1) }
         ensures short { IsErrOf result PoolFault.NoBlocks ↔ (pool < n) }
     {
         if pool < n {
@@ -90,12 +81,13 @@ impl HostPart {
     /// Lends the `n` lowest free blocks to an enclave that is born, and records its parent. Where too few are free,
     /// nothing changes.
     pub fn lend(&mut self, child: Enclave, parent: Enclave, n: u16) -> Result<BlockList, PoolFault>
-        ensures blocks { IfOk result (λ blocks. blocks ≡ take n (steps.free_from 0 self.old.states)) }
-        ensures after { OnOk result (self.new ≡ lent_host child parent (take n (steps.free_from 0 self.old.states)) self.old) }
-        ensures short { IsErrOf result PoolFault.NoBlocks ↔ (length (steps.free_from 0 self.old.states) < n) }
+        ensures blocks { IfOk result (λ blocks. blocks ≡ take n (free_blocks self.old.states)) }
+        ensures ascend { IfOk result (λ blocks. AreBlocks blocks) }
+        ensures after { OnOk result (self.new ≡ with_birth child parent (take n (free_blocks self.old.states)) self.old) }
+        ensures short { IsErrOf result PoolFault.NoBlocks ↔ (length (free_blocks self.old.states) < n) }
         ensures same { IsErrOf result PoolFault.NoBlocks → self.new ≡ self.old }
     {
-        let blocks = lend_lowest(&mut self.pool, child, n)?;
+        let blocks = self.pool.lend(n, child)?;
         match self.parents.push(parent) {
             Ok(()) => Ok(blocks),
             Err(AllocError) => Err(PoolFault::Memory),

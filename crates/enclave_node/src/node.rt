@@ -1,6 +1,10 @@
 // An enclave with the ends of its channels.
 ghost use Rattle.std.specs.Prelude.{◌≡◌, ℕ, ◌+◌, ◌<◌, ◌≤◌, ◌≢◌, ◌⊎◌, ◌↔◌, true, false, None, Some, [], ◌∷◌, ◌++◌, length, take, IsSome, IfOk, OnOk, OnErr, IsErr, IsErrOf};
 ghost use Rattle.xm_num.specs.Rows.{at, less};
+ghost use Rattle.frame_pool.specs.Blocks.{free_blocks};
+ghost use Rattle.enclave_rules.specs.Pages.{AreBlocks};
+ghost use Rattle.enclave_rules.specs.Core.{AreDeaths};
+ghost use Rattle.enclave_rules.specs.Hand.{Nothing, Calls};
 ghost use Rattle.enclave_rules.specs.Steps as steps;
 ghost use Rattle.xemem_language.specs.Spelling.{words_in};
 ghost use Rattle.enclave_node.specs.Nodes as spec;
@@ -98,9 +102,9 @@ impl<A: AddressSpace> Node<A> {
 
     /// Starts a process. A number past the last one of 32 bits counts as want of memory.
     pub fn start(&mut self, uid: u32, gid: u32, out: &mut Lines) -> Result<Pid, AllocError>
-        ensures pid { IfOk result (λ pid. pid.0 ≡ length self.old.view.processes + 1) }
+        ensures pid { IfOk result (λ pid. pid.0 ≡ self.old.view.memory.started + 1) }
         ensures lines { OnOk result (out.new ≡ out.old ++ steps.start_lines self.old.view uid gid) }
-        ensures after { OnOk result (self.new ≡ spec.wrote self.old (steps.start_lines self.old.view uid gid)) }
+        ensures after { OnOk result (self.new ≡ spec.wrote Nothing self.old (steps.start_lines self.old.view uid gid)) }
         ensures err_lines { OnErr result (out.new ≡ out.old) }
         ensures fails { OnErr result (self.new.failed ≡ true) }
         ensures stays { self.old.failed ≡ true → IsErr result }
@@ -117,7 +121,7 @@ impl<A: AddressSpace> Node<A> {
     pub fn call(&mut self, pid: Pid, call: &Call, out: &mut Lines) -> Result<(), AllocError>
         requires { IsCallInRange call.now }
         ensures lines { OnOk result (out.new ≡ out.old ++ call_lines self.old.view pid call.now) }
-        ensures after { OnOk result (self.new ≡ spec.wrote self.old (call_lines self.old.view pid call.now)) }
+        ensures after { OnOk result (self.new ≡ spec.wrote (Calls (record { enclave = self.old.view.me; pid = pid; call = call.now })) self.old (call_lines self.old.view pid call.now)) }
         ensures err_lines { OnErr result (out.new ≡ out.old) }
         ensures fails { OnErr result (self.new.failed ≡ true) }
         ensures stays { self.old.failed ≡ true → IsErr result }
@@ -136,9 +140,10 @@ impl<A: AddressSpace> Node<A> {
         requires host { self.old.view.me.0 ≡ 0 }
         requires next { child.0 ≡ length self.old.view.host.parents }
         requires recorded { parent.0 < length self.old.view.host.parents }
-        ensures blocks { IfOk result (λ blocks. blocks ≡ take n (steps.free_from 0 self.old.view.host.states)) }
-        ensures after { OnOk result (self.new ≡ spec.lent self.old child parent (take n (steps.free_from 0 self.old.view.host.states))) }
-        ensures short { IsErrOf result PoolFault.NoBlocks ↔ ((self.old.failed ≡ false) × (length (steps.free_from 0 self.old.view.host.states) < n)) }
+        ensures blocks { IfOk result (λ blocks. blocks ≡ take n (free_blocks self.old.view.host.states)) }
+        ensures ascend { IfOk result (λ blocks. AreBlocks blocks) }
+        ensures after { OnOk result (self.new ≡ spec.lent self.old child parent (take n (free_blocks self.old.view.host.states))) }
+        ensures short { IsErrOf result PoolFault.NoBlocks ↔ ((self.old.failed ≡ false) × (length (free_blocks self.old.view.host.states) < n)) }
         ensures same { IsErrOf result PoolFault.NoBlocks → self.new ≡ self.old }
         ensures fails { IsErrOf result PoolFault.Memory → self.new.failed ≡ true }
         ensures stays { self.old.failed ≡ true → IsErrOf result PoolFault.Memory }
@@ -177,10 +182,10 @@ impl<A: AddressSpace> Node<A> {
         requires kind { kind ≡ Kind.Cokernel }
         requires child { (1 ≤ child.0) × (child.0 ≤ 255) }
         requires other { child.0 ≢ self.old.view.me.0 }
-        requires new_child { at self.old.view.children child.0 ≡ None }
+        requires new_child { at self.old.view.core.children child.0 ≡ None }
         requires new_feed { at self.old.feeds child.0 ≡ None }
         ensures lines { OnOk result (out.new ≡ out.old ++ steps.adopt_lines self.old.view child) }
-        ensures after { OnOk result (self.new ≡ spec.wrote (spec.adopted self.old child kind) (steps.adopt_lines self.old.view child)) }
+        ensures after { OnOk result (self.new ≡ spec.wrote Nothing (spec.adopted self.old child kind) (steps.adopt_lines self.old.view child)) }
         ensures err_lines { OnErr result (out.new ≡ out.old) }
         ensures fails { OnErr result (self.new.failed ≡ true) }
         ensures stays { self.old.failed ≡ true → IsErr result }
@@ -317,7 +322,8 @@ impl<A: AddressSpace> Node<A> {
 
     /// The deaths that the node heard of, ascending.
     pub fn heard(&self) -> &EnclaveList
-        ensures { result.now ≡ self.now.view.heard }
+        ensures heard { result.now ≡ self.now.view.core.heard }
+        ensures ascend { AreDeaths result.now }
     {
         self.state.heard()
     }

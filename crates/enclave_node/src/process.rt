@@ -1,9 +1,8 @@
 // A process: its user and group, and its pages.
-ghost use Rattle.std.specs.Prelude.{◌≡◌, ◌+◌, ◌/◌, ◌≤◌, ◌^◌, false, length, map, IfOk, OnOk, OnErr};
-ghost use Rattle.xm_num.specs.Rows.{at, put_all, any_between};
-ghost use Rattle.enclave_rules.specs.Pages.{own_page};
+ghost use Rattle.std.specs.Prelude.{◌≡◌, ◌+◌, ◌/◌, ◌≤◌, ◌^◌, false, length, IfOk, OnOk, OnErr};
+ghost use Rattle.xm_num.specs.Rows.{at, any_between};
 ghost use Rattle.enclave_rules.specs.Pages as spaces;
-ghost use Rattle.enclave_rules.specs.View.{new_process};
+ghost use Rattle.enclave_rules.specs.Memory.{new_process, with_pages};
 ghost use Rattle.enclave_rules.specs.Steps.{page_answer};
 
 use page_table::{AddressSpace, MapFault};
@@ -24,7 +23,7 @@ pub struct Process<A: AddressSpace> {
 }
 
 impl<A: AddressSpace> Model for Process<A> {
-    ghost use Rattle.enclave_rules.specs.View.{ProcessView};
+    ghost use Rattle.enclave_rules.specs.Memory.{ProcessView};
     ghost use Rattle.enclave_node.specs.Layout.{IsSpace};
 
     ghost Value = { ProcessView };
@@ -72,7 +71,7 @@ impl<A: AddressSpace> Process<A> {
         requires low { 1 ≤ at.0 }
         requires high { at.0 + length frames.now ≤ 2 ^ 24 }
         requires free { any_between self.old.pages at.0 (at.0 + length frames.now) ≡ false }
-        ensures ok { OnOk result (self.new ≡ record self.old { pages = put_all self.old.pages at.0 (map own_page frames.now) }) }
+        ensures ok { OnOk result (self.new ≡ with_pages at.0 frames.now self.old) }
         ensures err { OnErr result (self.new ≡ self.old) }
     {
         rows::<Page>();

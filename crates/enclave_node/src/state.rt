@@ -1,6 +1,12 @@
 // All that an enclave knows, and what it does with a record or a call. It decides from that and its arguments alone.
 ghost use Rattle.std.specs.Prelude.{◌≡◌, ◌<◌, ◌↔◌, ◌++◌, length, take, IfOk, OnOk, IsErrOf};
-ghost use Rattle.enclave_rules.specs.View.{own_lines, with_child, with_record};
+ghost use Rattle.frame_pool.specs.Blocks.{free_blocks};
+ghost use Rattle.enclave_rules.specs.Pages.{AreBlocks};
+ghost use Rattle.enclave_rules.specs.Core.{AreDeaths, with_child};
+ghost use Rattle.enclave_rules.specs.Host.{with_birth};
+ghost use Rattle.enclave_rules.specs.Hand.{Nothing};
+ghost use Rattle.enclave_rules.specs.View.{own_lines};
+ghost use Rattle.enclave_rules.specs.Sending as sending;
 ghost use Rattle.enclave_rules.specs.Steps as steps;
 ghost use Rattle.enclave_node.specs.Births.{born_view};
 
@@ -17,7 +23,7 @@ use page_table::AddressSpace;
 use route_learn::Routes;
 use std::alloc::{AllocError, Global};
 use std::marker::Model;
-use xemem_language::{Body, Line, Lines, Record};
+use xemem_language::{Body, Lines, Record};
 use xm_num::{BlockList, Enclave, EnclaveList, Kind};
 
 /// What an enclave is born with.
@@ -30,7 +36,6 @@ pub struct Birth {
     pub blocks: BlockList,
     pub holder: bool,
     pub heard: EnclaveList,
-    pub frames: Frames,
     pub host: Option<HostPart>,
 }
 
@@ -54,27 +59,33 @@ impl<A: AddressSpace> Model for State<A> {
     ghost use Rattle.enclave_rules.specs.View.{View};
     ghost use Rattle.std.specs.Prelude.{option_map};
     ghost use Rattle.enclave_node.specs.Births.{host_view};
+    ghost use Rattle.enclave_node.specs.Layout.{IsKept, memory_of};
     ghost use Rattle.enclave_node.specs.Sides.{enclave_of, rows_of};
 
     ghost Value = { View };
 
     ghost view = { λ s. record {
       me = s.me;
-      kind = s.kind;
-      parent = s.parent;
-      blocks = s.blocks;
-      holder = s.routes.holder;
-      admitted = s.admitted;
-      heard = s.heard;
-      way = option_map (enclave_of s.parent) s.routes.way;
-      askers = rows_of s.parent s.routes.askers;
-      backs = rows_of s.parent s.routes.back;
-      routes = rows_of s.parent s.routes.routes;
-      free = s.frames;
-      processes = s.processes.items;
-      children = s.children;
+      core = record {
+        kind = s.kind;
+        parent = s.parent;
+        blocks = s.blocks;
+        holder = s.routes.holder;
+        admitted = s.admitted;
+        heard = s.heard;
+        children = s.children;
+      };
+      ways = record {
+        way = option_map (enclave_of s.parent) s.routes.way;
+        askers = rows_of s.parent s.routes.askers;
+        backs = rows_of s.parent s.routes.back;
+        routes = rows_of s.parent s.routes.routes;
+      };
+      memory = memory_of s.processes.items;
       host = host_view s.host;
     } };
+
+    ghost invariant = { λ s. IsKept s.blocks s.heard s.frames (memory_of s.processes.items) };
 }
 
 // A record of an enclave that names no destination.
@@ -99,8 +110,11 @@ pub fn query(me: Enclave) -> Record
 impl<A: AddressSpace> State<A> {
     /// The state of an enclave as it is born. The holder of the name server is admitted at its birth.
     pub fn born(alloc: Global, birth: Birth) -> Result<State<A>, AllocError>
+        requires blocks { AreBlocks birth.blocks }
+        requires heard { AreDeaths birth.heard }
         ensures { IfOk result (λ state. state ≡ born_view birth) }
     {
+        let frames = Frames::new(alloc, birth.blocks.as_slice())?;
         Ok(State {
             alloc,
             me: birth.me,
@@ -110,7 +124,7 @@ impl<A: AddressSpace> State<A> {
             admitted: birth.holder,
             heard: birth.heard,
             routes: Routes::new(alloc, birth.holder)?,
-            frames: birth.frames,
+            frames,
             processes: Vec::new(alloc),
             children: Children::new(alloc),
             host: birth.host,
@@ -126,20 +140,21 @@ impl<A: AddressSpace> State<A> {
 
     /// The number of its parent, or 0 at the host.
     pub fn parent(&self) -> Enclave
-        ensures { result ≡ self.now.parent }
+        ensures { result ≡ self.now.core.parent }
     {
         self.parent
     }
 
-    /// The deaths that it heard of.
+    /// The deaths that it heard of, ascending.
     pub fn heard(&self) -> &EnclaveList
-        ensures { result.now ≡ self.now.heard }
+        ensures heard { result.now ≡ self.now.core.heard }
+        ensures ascend { AreDeaths result.now }
     {
         &self.heard
     }
 
     fn knows_way(&self) -> bool
-        ensures { result ≡ steps.knows_way self.now }
+        ensures { result ≡ sending.knows_way self.now }
     {
         self.is_holder() || self.way().is_some()
     }
@@ -148,9 +163,10 @@ impl<A: AddressSpace> State<A> {
     /// free, nothing changes.
     pub fn lend(&mut self, child: Enclave, parent: Enclave, n: u16) -> Result<BlockList, PoolFault>
         requires { parent.0 < length self.old.host.parents }
-        ensures blocks { IfOk result (λ blocks. blocks ≡ take n (steps.free_from 0 self.old.host.states)) }
-        ensures after { OnOk result (self.new ≡ with_record child parent (take n (steps.free_from 0 self.old.host.states)) self.old) }
-        ensures short { IsErrOf result PoolFault.NoBlocks ↔ (length (steps.free_from 0 self.old.host.states) < n) }
+        ensures blocks { IfOk result (λ blocks. blocks ≡ take n (free_blocks self.old.host.states)) }
+        ensures ascend { IfOk result (λ blocks. AreBlocks blocks) }
+        ensures after { OnOk result (self.new ≡ record self.old { host = with_birth child parent (take n (free_blocks self.old.host.states)) self.old.host }) }
+        ensures short { IsErrOf result PoolFault.NoBlocks ↔ (length (free_blocks self.old.host.states) < n) }
         ensures same { IsErrOf result PoolFault.NoBlocks → self.new ≡ self.old }
     {
         match &mut self.host {
@@ -162,17 +178,13 @@ impl<A: AddressSpace> State<A> {
     /// The enclave has a child more. A parent that doesn't know the way asks it.
     pub fn adopt(&mut self, child: Enclave, kind: Kind, out: &mut Lines) -> Result<(), AllocError>
         ensures lines { OnOk result (out.new ≡ out.old ++ steps.adopt_lines self.old child) }
-        ensures after { OnOk result (self.new ≡ own_lines (with_child child kind self.old) (steps.adopt_lines self.old child)) }
+        ensures after { OnOk result (self.new ≡ own_lines Nothing (record self.old { core = with_child child kind self.old.core }) (steps.adopt_lines self.old child)) }
     {
         self.children.insert(child, kind)?;
         if self.knows_way() {
             return Ok(());
         }
-        out.push(Line::Sent {
-            from: self.me,
-            to: child,
-            rec: query(self.me),
-        })
+        self.send(None, Some(child), query(self.me), out)
     }
 
     /// Tells the state of each block, at the host.

@@ -1,6 +1,11 @@
 pub mod Built
-pub mod Blocks
 pub mod Pages
+pub mod Core
+pub mod Ways
+pub mod Memory
+pub mod Host
+pub mod Hand
 pub mod View
+pub mod Sending
 pub mod Steps
 pub mod Calls

@@ -9,7 +9,7 @@ use Rattle.xemem_language.specs.declared.command.Command.{Command}
 use Rattle.xemem_language.specs.declared.command.Command.TheVariants as commands
 use Rattle.xemem_language.specs.declared.line.Line.{Line}
 use Rattle.xemem_language.specs.declared.line.Line.TheVariants as lines
-use Rattle.global_model.specs.Facts.{Facts, after_lines}
+use Rattle.global_model.specs.Facts.{Facts, after_line, after_lines}
 use Rattle.global_model.specs.Space.{Mapping}
 use Rattle.global_model.specs.Views.{view_of}
 use Rattle.enclave_rules.specs.Steps.{route_lines}
@@ -54,7 +54,9 @@ refused_or_acts None acts h = h
 refused_or_acts (Some c) acts h = (tt, tt)
 
 pub command_lines-acts : (G : Facts) (command : Command) → AreActs (command_lines G command)
-command_lines-acts G command = refused_or_acts (refusal_of G command) (acts_of G command) (acts_of-acts G command)
+command_lines-acts G command =
+    let H = after_line G (lines.Do command) in
+    refused_or_acts (refusal_of G command) (acts_of H command) (acts_of-acts H command)
 
 -- ---- the commands of a journal
 

@@ -1,11 +1,10 @@
 -- What a command writes follows from the views of the enclaves that it names.
-use Rattle.std.proofs.Common.{subst, ◌≡◌, ◌+◌, ◌-◌, ◌/◌, ◌<◌, ◌≤◌, ℕ, zero, suc, List, [], ◌∷◌, length, take, map, Bool, true, false, cond, not, ◌&&◌, eqb, leb, ltb, Option, None, Some, Result, Ok, Err, refl, sym, ap, ◌∙◌, arith}
-use Rattle.std.specs.Prelude.{is_some, is_none, slice_get}
+use Rattle.std.proofs.Common.{subst, ◌≡◌, ◌+◌, ◌-◌, ◌/◌, ◌≤◌, ℕ, zero, suc, List, [], ◌∷◌, length, take, map, Bool, true, false, cond, not, ◌&&◌, leb, ltb, Option, None, Some, Result, Ok, Err, refl, sym, ap, ◌∙◌, arith}
+use Rattle.std.specs.Prelude.{is_some, is_none}
 use Rattle.std.specs.List.{range_with_len, filter, list_any}
 use Rattle.std.specs.Option.{option_map, option_map_or}
-use Rattle.std.proofs.lemmas.Bool.{ne_eqb, ltb-true, ltb-false, lt-ltb, le-ltb}
-use Rattle.std.proofs.lemmas.Bool.Decides.{nat_tests}
-use Rattle.std.proofs.lemmas.List.FromFn.{length-map-range_with_len, take-map-range_with_len}
+use Rattle.std.proofs.lemmas.Bool.{ltb-false}
+use Rattle.std.proofs.lemmas.List.FromFn.{take-map-range_with_len}
 use Rattle.xm_num.specs.declared.Enclave.{Enclave}
 use Rattle.xm_num.specs.declared.Pid.{Pid}
 use Rattle.xm_num.specs.declared.Vpn.{Vpn}
@@ -16,6 +15,8 @@ use Rattle.xm_num.specs.declared.Frame.{Frame}
 use Rattle.xm_num.specs.declared.Cause.{Cause}
 use Rattle.xm_num.specs.declared.Cause.TheVariants as causes
 use Rattle.xm_num.specs.Rows.{at, any_between}
+use Rattle.frame_pool.specs.declared.BlockState.{BlockState}
+use Rattle.frame_pool.specs.Blocks.{is_free, free_from}
 use Rattle.xemem_language.specs.declared.command.Command.{Command}
 use Rattle.xemem_language.specs.declared.command.Command.TheVariants as commands
 use Rattle.xemem_language.specs.declared.call.Call.TheVariants as calls
@@ -23,22 +24,27 @@ use Rattle.xemem_language.specs.declared.call.ProcessCall.{ProcessCall}
 use Rattle.xemem_language.specs.declared.call.Show.TheVariants as shows
 use Rattle.xemem_language.specs.declared.call.NodeShow.{NodeShow}
 use Rattle.xemem_language.specs.Calls.{call_of, show_of}
-use Rattle.enclave_rules.specs.Calls.{call_lines, show_lines}
 use Rattle.xemem_language.specs.declared.line.Line.{Line}
 use Rattle.xemem_language.specs.declared.line.Line.TheVariants as lines
-use Rattle.global_model.specs.Facts.{Facts, is_living_enclave, is_living_process}
-use Rattle.enclave_rules.specs.Blocks.{BlockFact, Absent, Free, is_free}
-use Rattle.global_model.specs.Space.{mapping_of, pages_of, unused_frames, free_blocks}
+use Rattle.enclave_rules.specs.Calls.{call_lines, show_lines}
+use Rattle.enclave_rules.specs.Core.{host, is_guest, machine_frame}
+use Rattle.enclave_rules.specs.Memory.{ProcessView}
 use Rattle.enclave_rules.specs.Pages.{allows}
+use Rattle.enclave_rules.specs.Steps.{refusal, host_lines, process_at, unused_in, alloc_lines, page_answer, touch_answer, answer_lines, route_lines, state_lines, first_blocks}
+use Rattle.global_model.specs.Facts.{Facts, EnclaveFact, no_facts, fact_of, is_living_enclave, lives_at, runs, after_line}
+use Rattle.global_model.specs.Space.{mapping_of, pages_of, unused_frames, free_blocks}
 use Rattle.global_model.specs.Refusals.{is_taken, denies}
-use Rattle.enclave_rules.specs.View.{ProcessView, host}
-use Rattle.global_model.specs.Views.{process_of, view_of}
-use Rattle.enclave_rules.specs.Steps.{refusal, host_lines, process_at, alloc_lines, page_answer, touch_answer, answer_lines, route_lines, state_lines, free_from, first_blocks}
+use Rattle.global_model.specs.Views.{view_of}
 use Rattle.global_model.specs.Due.{touched_lines, command_lines}
-use Rattle.global_model.specs.Known.{at_born, start_by, boot_by, IsAnswered}
-use Rattle.global_model.proofs.Runs.{filter_run-same, filter_all}
-use Rattle.global_model.proofs.Kept.{IsKnown}
-use Rattle.global_model.proofs.Journeys.{pool_facts}
+use Rattle.global_model.specs.Known.{at_living, start_by, boot_by, IsAnswered}
+use Rattle.global_model.proofs.Runs.{filter_all}
+use Rattle.global_model.proofs.Lent.{unused_seen}
+use Rattle.global_model.proofs.Tree.{living_born, root_lives}
+use Rattle.global_model.proofs.Sound.{IsSound}
+
+-- the facts after the pool's command
+abbrev pub pool_facts : ℕ → Facts
+pool_facts blocks = after_line no_facts (lines.Do (commands.Pool blocks))
 
 -- ---- the lines of a refusal or of acts
 
@@ -48,18 +54,19 @@ either_way : (holds : Bool) (cause : Cause) (rest : Option Cause) (acts others :
 either_way true cause rest acts others same = refl
 either_way false cause rest acts others same = same refl
 
--- a condition that an enclave doesn't live, and the test that it was born
-where_born : (G : Facts) → IsKnown G → (e : Enclave) (rest : Option Cause) (acts others : List Line) → (e.0 < G.born → option_map_or (λ c. lines.Refused c ∷ []) rest acts ≡ others)
-    → option_map_or (λ c. lines.Refused c ∷ []) (cond (not (is_living_enclave (G.enclave e.0))) (Some causes.NoEnclave) rest) acts ≡ at_born G.born e others
-where_born G known e rest acts others same = rw (known.tree.enclaves e.0).living (by (ltb e.0 G.born) refl)
+-- a condition that an enclave doesn't live, and the test that it does
+where_lives : (G : Facts) (e : Enclave) (rest : Option Cause) (acts others : List Line)
+    → (is_living_enclave (G.enclave e.0) ≡ true → option_map_or (λ c. lines.Refused c ∷ []) rest acts ≡ others)
+    → option_map_or (λ c. lines.Refused c ∷ []) (cond (not (is_living_enclave (G.enclave e.0))) (Some causes.NoEnclave) rest) acts ≡ at_living G e others
+where_lives G e rest acts others same = by (is_living_enclave (G.enclave e.0)) refl
   where
-    by : (b : Bool) → ltb e.0 G.born ≡ b → option_map_or (λ c. lines.Refused c ∷ []) (cond (not b) (Some causes.NoEnclave) rest) acts ≡ cond b others (refusal causes.NoEnclave)
-    by true is = same (ltb-true e.0 G.born is)
+    by : (b : Bool) → is_living_enclave (G.enclave e.0) ≡ b → option_map_or (λ c. lines.Refused c ∷ []) (cond (not b) (Some causes.NoEnclave) rest) acts ≡ cond b others (refusal causes.NoEnclave)
+    by true is = same is
     by false is = refl
 
 -- ---- births and processes
 
-free_run : (f : ℕ → BlockFact) (a n : ℕ) → free_from a (map f (range_with_len a n)) ≡ map (λ b. record { 0 = b }) (filter (λ b. is_free (f b)) (range_with_len a n))
+free_run : (f : ℕ → BlockState) (a n : ℕ) → free_from a (map f (range_with_len a n)) ≡ map (λ b. record { 0 = b }) (filter (λ b. is_free (f b)) (range_with_len a n))
 free_run f a zero = refl
 free_run f a (suc n) = by (free_run f (a + 1) n) (is_free (f a))
   where
@@ -69,21 +76,20 @@ free_run f a (suc n) = by (free_run f (a + 1) n) (is_free (f a))
     by more true = ap (λ bs. record { 0 = a } ∷ bs) more
     by more false = more
 
-boot_answered : (G : Facts) → IsKnown G → (kind : Kind) (parent : Enclave) (blocks : ℕ) (ns : Bool)
-    → command_lines G (commands.Boot kind parent blocks ns) ≡ at_born G.born parent (boot_by G kind parent blocks ns)
-boot_answered G known kind parent blocks ns =
-    rw (free_run G.block 0 G.pool) (where_born G known parent _ _ _ (λ born. either_way (leb 256 G.born) causes.TooMany _ _ _ (λ room. either_way (ns && G.server) causes.NameServerTaken _ _ _ (λ free. either_way (ltb (length (free_blocks G)) blocks) causes.NoBlocks None _ _ (λ enough. refl)))))
+boot_answered : (G : Facts) → IsSound G → (kind : Kind) (parent : Enclave) (blocks : ℕ) (ns : Bool)
+    → command_lines G (commands.Boot kind parent blocks ns) ≡ at_living G parent (boot_by G kind parent blocks ns)
+boot_answered G sound kind parent blocks ns =
+    rw (free_run G.block 0 G.pool) (where_lives G parent _ _ _ (λ living. either_way (leb 256 G.born) causes.TooMany _ _ _ (λ room. either_way (ns && G.server) causes.NameServerTaken _ _ _ (λ free. either_way (ltb (length (free_blocks G)) blocks) causes.NoBlocks None _ _ (λ enough. refl)))))
 
-proc_answered : (G : Facts) → IsKnown G → (e : Enclave) (uid gid : ℕ) → command_lines G (commands.Proc e uid gid) ≡ at_born G.born e (start_by G e uid gid)
-proc_answered G known e uid gid =
-    let count : length (view_of G e).processes ≡ G.started e.0 = length-map-range_with_len (process_of G e.0) 1 (G.started e.0) in
-    rw count (where_born G known e _ _ _ (λ born. either_way (leb 1024 G.starts) causes.TooMany None _ _ (λ room. refl)))
+proc_answered : (G : Facts) → IsSound G → (e : Enclave) (uid gid : ℕ) → command_lines G (commands.Proc e uid gid) ≡ at_living G e (start_by G e uid gid)
+proc_answered G sound e uid gid =
+    where_lives G e _ _ _ (λ living. either_way (leb 1024 G.starts) causes.TooMany None _ _ (λ room. refl))
 
-routes_answered : (G : Facts) → IsKnown G → (e : Enclave) → command_lines G (commands.ShowRoutes e) ≡ at_born G.born e (route_lines (view_of G e))
-routes_answered G known e = where_born G known e None _ _ (λ born. refl)
+routes_answered : (G : Facts) → IsSound G → (e : Enclave) → command_lines G (commands.ShowRoutes e) ≡ at_living G e (route_lines (view_of G e))
+routes_answered G sound e = where_lives G e None _ _ (λ living. refl)
 
-pool_answered : (G : Facts) → IsKnown G → command_lines G commands.ShowPool ≡ at_born G.born host (state_lines 0 (view_of G host).host.states)
-pool_answered G known = rw (known.tree.enclaves 0).known (by (ltb 0 G.born))
+pool_answered : (G : Facts) → IsSound G → command_lines G commands.ShowPool ≡ at_living G host (state_lines 0 (view_of G host).host.states)
+pool_answered G sound = rw (root_lives G sound.tree) (by (lives_at G 0))
   where
     by : (b : Bool) → option_map_or (λ c. lines.Refused c ∷ []) (cond (not b) (Some causes.NoEnclave) None) (state_lines 0 (map G.block (range_with_len 0 G.pool)))
         ≡ cond b (state_lines 0 (map G.block (range_with_len 0 G.pool))) (refusal causes.NoEnclave)
@@ -92,68 +98,57 @@ pool_answered G known = rw (known.tree.enclaves 0).known (by (ltb 0 G.born))
 
 -- ---- the processes of a view
 
-get_run : {X : Type 0} (f : ℕ → X) (a n i : ℕ) → slice_get (map f (range_with_len a n)) i ≡ cond (ltb i n) (Some (f (a + i))) None
-get_run f a zero i = let none : ltb i 0 ≡ false = le-ltb i 0 (omega arith) in rw none refl
-get_run f a (suc n) zero =
-    let first : ltb 0 (suc n) ≡ true = lt-ltb 0 (suc n) (omega arith) in
-    let same : a + 0 ≡ a = omega arith in
-    rw (first, same) refl
-get_run f a (suc n) (suc i) =
-    let test : ltb (suc i) (suc n) ≡ ltb i n = grind (arith, nat_tests) in
-    let next : a + suc i ≡ (a + 1) + i = omega arith in
-    rw (test, next) (get_run f (a + 1) n i)
-
--- a process of the view is one that lives
-process_seen : (G : Facts) → IsKnown G → (e : Enclave) (p : Pid) → process_at (view_of G e) p ≡ cond (is_living_process (G.process e.0 p.0)) (Some (process_of G e.0 p.0)) None
-process_seen G known e p = rw (known.runs e.0 p.0) (by p.0)
-  where
-    by : (n : ℕ) → cond (eqb n 0) None (slice_get (map (process_of G e.0) (range_with_len 1 (G.started e.0))) (n - 1)) ≡ cond (leb 1 n && leb n (G.started e.0)) (Some (process_of G e.0 n)) None
-    by zero = refl
-    by (suc q) =
-        let some : eqb (suc q) 0 ≡ false = ne_eqb (suc q) 0 (omega arith) in
-        let place : suc q - 1 ≡ q = omega arith in
-        let number : 1 + q ≡ suc q = omega arith in
-        let test : (leb 1 (suc q) && leb (suc q) (G.started e.0)) ≡ ltb q (G.started e.0) = grind (arith, nat_tests) in
-        rw (some, place, test) (get_run (process_of G e.0) 1 (G.started e.0) q ∙ ap (λ n. cond (ltb q (G.started e.0)) (Some (process_of G e.0 n)) None) number)
-
 -- a call of a process: a refusal where it doesn't live, else by its pages
-where_runs : (G : Facts) → IsKnown G → (e : Enclave) (p : Pid) (rest : Option Cause) (acts : List Line) (others : ProcessView → List Line)
-    → option_map_or (λ c. lines.Refused c ∷ []) rest acts ≡ others (process_of G e.0 p.0)
-    → option_map_or (λ c. lines.Refused c ∷ []) (cond (not (is_living_process (G.process e.0 p.0))) (Some causes.NoProcess) rest) acts ≡ option_map_or others (process_at (view_of G e) p) (refusal causes.NoProcess)
-where_runs G known e p rest acts others same = rw (process_seen G known e p) (by (is_living_process (G.process e.0 p.0)))
+where_runs : (G : Facts) (e : Enclave) (p : Pid) (rest : Option Cause) (acts : List Line) (others : ProcessView → List Line)
+    → ((process : ProcessView) → at (G.memory e.0).processes p.0 ≡ Some process → option_map_or (λ c. lines.Refused c ∷ []) rest acts ≡ others process)
+    → option_map_or (λ c. lines.Refused c ∷ []) (cond (not (runs G e.0 p.0)) (Some causes.NoProcess) rest) acts ≡ option_map_or others (process_at (view_of G e) p) (refusal causes.NoProcess)
+where_runs G e p rest acts others same = by (at (G.memory e.0).processes p.0) refl
   where
-    by : (b : Bool) → option_map_or (λ c. lines.Refused c ∷ []) (cond (not b) (Some causes.NoProcess) rest) acts ≡ option_map_or others (cond b (Some (process_of G e.0 p.0)) None) (refusal causes.NoProcess)
-    by true = same
-    by false = refl
+    by : (found : Option ProcessView) → at (G.memory e.0).processes p.0 ≡ found
+        → option_map_or (λ c. lines.Refused c ∷ []) (cond (not (is_some found)) (Some causes.NoProcess) rest) acts ≡ option_map_or others found (refusal causes.NoProcess)
+    by None is = refl
+    by (Some process) is = same process is
 
 -- ---- own pages
 
-is_some-mapped : (o : Option Page) → is_some (option_map mapping_of o) ≡ is_some o
-is_some-mapped None = refl
-is_some-mapped (Some found) = refl
+is_some-mapped : (fact : EnclaveFact) (o : Option Page) → is_some (option_map (mapping_of fact) o) ≡ is_some o
+is_some-mapped fact None = refl
+is_some-mapped fact (Some found) = refl
 
 -- one of the pages of a range has a row, by the law of tables
 abbrev AnyMapped : Type 0
 AnyMapped = (table : List (ℕ × Page)) (low high : ℕ) → any_between table low high ≡ list_any (λ k. is_some (at table k)) (range_with_len low (high - low))
 
+-- the pages of a process that is there
+pages_are : (G : Facts) (e p : ℕ) (process : ProcessView) → at (G.memory e).processes p ≡ Some process → pages_of G e p ≡ process.pages
+pages_are G e p process is = ap (λ o. option_map_or (λ (process : ProcessView). process.pages) o []) is
+
 taken_is : AnyMapped → (G : Facts) (e p page count : ℕ) → is_taken G e p page count ≡ any_between (pages_of G e p) page (page + count)
 taken_is any G e p page count =
     let size : page + count - page ≡ count = omega arith in
     let rows = any (pages_of G e p) page (page + count) in
-    ap (λ t. list_any t (range_with_len page count)) (λ i k. is_some-mapped (at (pages_of G e p) k) i) ∙ ap (λ n. list_any (λ k. is_some (at (pages_of G e p) k)) (range_with_len page n)) (sym size) ∙ sym rows
+    ap (λ t. list_any t (range_with_len page count)) (λ i k. is_some-mapped (fact_of (G.enclave e)) (at (pages_of G e p) k) i) ∙ ap (λ n. list_any (λ k. is_some (at (pages_of G e p) k)) (range_with_len page n)) (sym size) ∙ sym rows
 
-alloc_answered : AnyMapped → (G : Facts) → IsKnown G → (e : Enclave) (p : Pid) (page : Vpn) (count : ℕ) → command_lines G (commands.Alloc e p page count) ≡ at_born G.born e (alloc_lines (view_of G e) p page count)
-alloc_answered any G known e p page count =
-    where_born G known e _ _ _ (λ born. where_runs G known e p _ _ _
-    (either_way (ltb 16777216 (page.0 + count)) causes.BadRange _ _ _ (λ within. rw (taken_is any G e.0 p.0 page.0 count) (either_way (any_between (pages_of G e.0 p.0) page.0 (page.0 + count)) causes.Taken _ _ _ (λ clear. either_way (ltb (length (unused_frames G e.0)) count) causes.NoFrames None _ _ (λ enough. refl))))))
+alloc_answered : AnyMapped → (G : Facts) → IsSound G → (e : Enclave) (p : Pid) (page : Vpn) (count : ℕ) → command_lines G (commands.Alloc e p page count) ≡ at_living G e (alloc_lines (view_of G e) p page count)
+alloc_answered any G sound e p page count =
+    where_lives G e _ _ _ (λ living. where_runs G e p _ _ _ (λ process is.
+    let free : unused_frames G e.0 ≡ unused_in (view_of G e) = unused_seen G e.0 living (sound.plain e.0) (sound.lent e.0 (living_born G e.0 sound.tree living)) in
+    let taken : is_taken G e.0 p.0 page.0 count ≡ any_between process.pages page.0 (page.0 + count) = taken_is any G e.0 p.0 page.0 count ∙ ap (λ pages. any_between pages page.0 (page.0 + count)) (pages_are G e.0 p.0 process is) in
+    either_way (ltb 16777216 (page.0 + count)) causes.BadRange _ _ _ (λ within.
+    rw taken (either_way (any_between process.pages page.0 (page.0 + count)) causes.Taken _ _ _ (λ clear.
+    subst (λ (fs : List Frame). option_map_or (λ c. lines.Refused c ∷ []) (cond (ltb (length (unused_frames G e.0)) count) (Some causes.NoFrames) None) (lines.Alloc e p page (take count (unused_frames G e.0)) ∷ [])
+    ≡ cond (ltb (length fs) count) (refusal causes.NoFrames) (lines.Alloc e p page (take count fs) ∷ [])) free
+    (either_way (ltb (length (unused_frames G e.0)) count) causes.NoFrames None _ _ (λ enough. refl)))))))
 
 -- ---- touches
 
-page_answered : (e : Enclave) (p : Pid) (page : Vpn) (want : Want) (found : Option Page)
-    → option_map_or (λ c. lines.Refused c ∷ []) (cond (is_none (option_map mapping_of found)) (Some causes.NotMapped) (cond (denies want (option_map mapping_of found)) (Some causes.Denied) None)) (touched_lines e p page (option_map mapping_of found))
+page_answered : (fact : EnclaveFact) → is_guest fact.kind ≡ false → (e : Enclave) (p : Pid) (page : Vpn) (want : Want) (found : Option Page)
+    → option_map_or (λ c. lines.Refused c ∷ []) (cond (is_none (option_map (mapping_of fact) found)) (Some causes.NotMapped) (cond (denies want (option_map (mapping_of fact) found)) (Some causes.Denied) None)) (touched_lines e p page (option_map (mapping_of fact) found))
     ≡ answer_lines e p (page_answer want page found)
-page_answered e p page want None = refl
-page_answered e p page want (Some found) = by (allows found.access want)
+page_answered fact plain e p page want None = refl
+page_answered fact plain e p page want (Some found) =
+    let frame : machine_frame fact.kind fact.blocks found.frame ≡ found.frame = rw plain refl in
+    rw frame (by (allows found.access want))
   where
     by : (b : Bool) → option_map_or (λ c. lines.Refused c ∷ []) (cond (not b) (Some causes.Denied) None) (lines.Touched e p page found.frame ∷ []) ≡ answer_lines e p (cond b (Ok (page, found.frame)) (Err causes.Denied))
     by true = refl
@@ -165,21 +160,17 @@ answer_found : (e : Enclave) (p : Pid) (answer : ProcessView → Result (Vpn × 
 answer_found e p answer None = refl
 answer_found e p answer (Some process) = refl
 
-touch_answered : (G : Facts) → IsKnown G → (e : Enclave) (p : Pid) (addr : ℕ) (want : Want) → command_lines G (commands.Touch e p addr want) ≡ at_born G.born e (answer_lines e p (touch_answer (view_of G e) p addr want))
-touch_answered G known e p addr want =
+touch_answered : (G : Facts) → IsSound G → (e : Enclave) (p : Pid) (addr : ℕ) (want : Want) → command_lines G (commands.Touch e p addr want) ≡ at_living G e (answer_lines e p (touch_answer (view_of G e) p addr want))
+touch_answered G sound e p addr want =
     let page : Vpn = record { 0 = addr / 4096 } in
     let answer : ProcessView → Result (Vpn × Frame) Cause = λ process. page_answer want page (at process.pages (addr / 4096)) in
-    rw (answer_found e p answer (process_at (view_of G e) p)) (where_born G known e _ _ _ (λ born. where_runs G known e p _ _ (λ process. answer_lines e p (answer process)) (page_answered e p page want (at (pages_of G e.0 p.0) (addr / 4096)))))
+    rw (answer_found e p answer (process_at (view_of G e) p)) (where_lives G e _ _ _ (λ living. where_runs G e p _ _ (λ process. answer_lines e p (answer process)) (λ process is.
+    rw (pages_are G e.0 p.0 process is) (page_answered (fact_of (G.enclave e.0)) (sound.plain e.0) e p page want (at process.pages (addr / 4096))))))
 
 -- ---- the host
 
 free_pool_blocks : (pool : ℕ) → free_blocks (pool_facts pool) ≡ first_blocks pool
-free_pool_blocks pool =
-    let all : filter (λ b. is_free (cond (ltb b pool) Free Absent)) (range_with_len 0 pool) ≡ range_with_len 0 pool = filter_run-same (λ b. is_free (cond (ltb b pool) Free Absent)) (λ b. true) 0 pool (λ b low high. free b (omega (arith, high))) ∙ filter_all (range_with_len 0 pool) in
-    ap (map (λ b. record { 0 = b })) all
-  where
-    free : (b : ℕ) → b < pool → is_free (cond (ltb b pool) Free Absent) ≡ true
-    free b within = let is : ltb b pool ≡ true = lt-ltb b pool within in rw is refl
+free_pool_blocks pool = ap (map (λ b. record { 0 = b })) (filter_all (range_with_len 0 pool))
 
 pub host_answered : (pool blocks : ℕ) (ns : Bool) → command_lines (pool_facts pool) (commands.Host blocks ns) ≡ cond (ltb pool blocks) (refusal causes.NoBlocks) (host_lines (first_blocks blocks) ns)
 host_answered pool blocks ns = either_way (ltb pool blocks) causes.NoBlocks None _ _ (λ enough.
@@ -189,28 +180,28 @@ host_answered pool blocks ns = either_way (ltb pool blocks) causes.NoBlocks None
 
 -- ---- calls and what is shown
 
-call_answered : AnyMapped → (G : Facts) → IsKnown G → (command : Command) (k : ProcessCall) → call_of command ≡ Some k
-    → command_lines G command ≡ at_born G.born k.enclave (call_lines (view_of G k.enclave) k.pid k.call)
-call_answered any G known (commands.Alloc e p page count) k is =
+call_answered : AnyMapped → (G : Facts) → IsSound G → (command : Command) (k : ProcessCall) → call_of command ≡ Some k
+    → command_lines G command ≡ at_living G k.enclave (call_lines (view_of G k.enclave) k.pid k.call)
+call_answered any G sound (commands.Alloc e p page count) k is =
     let same : record { enclave = e; pid = p; call = calls.Alloc page count } ≡ k = cc in
-    subst (λ (k : ProcessCall). command_lines G (commands.Alloc e p page count) ≡ at_born G.born k.enclave (call_lines (view_of G k.enclave) k.pid k.call)) same (alloc_answered any G known e p page count)
-call_answered any G known _ k is = cc
+    subst (λ (k : ProcessCall). command_lines G (commands.Alloc e p page count) ≡ at_living G k.enclave (call_lines (view_of G k.enclave) k.pid k.call)) same (alloc_answered any G sound e p page count)
+call_answered any G sound _ k is = cc
 
-show_answered : (G : Facts) → IsKnown G → (command : Command) (s : NodeShow) → show_of command ≡ Some s
-    → command_lines G command ≡ at_born G.born s.enclave (show_lines (view_of G s.enclave) s.show)
-show_answered G known (commands.ShowRoutes e) s is =
+show_answered : (G : Facts) → IsSound G → (command : Command) (s : NodeShow) → show_of command ≡ Some s
+    → command_lines G command ≡ at_living G s.enclave (show_lines (view_of G s.enclave) s.show)
+show_answered G sound (commands.ShowRoutes e) s is =
     let same : record { enclave = e; show = shows.Routes } ≡ s = cc in
-    subst (λ (s : NodeShow). command_lines G (commands.ShowRoutes e) ≡ at_born G.born s.enclave (show_lines (view_of G s.enclave) s.show)) same (routes_answered G known e)
-show_answered G known commands.ShowPool s is =
+    subst (λ (s : NodeShow). command_lines G (commands.ShowRoutes e) ≡ at_living G s.enclave (show_lines (view_of G s.enclave) s.show)) same (routes_answered G sound e)
+show_answered G sound commands.ShowPool s is =
     let same : record { enclave = host; show = shows.Pool } ≡ s = cc in
-    subst (λ (s : NodeShow). command_lines G commands.ShowPool ≡ at_born G.born s.enclave (show_lines (view_of G s.enclave) s.show)) same (pool_answered G known)
-show_answered G known _ s is = cc
+    subst (λ (s : NodeShow). command_lines G commands.ShowPool ≡ at_living G s.enclave (show_lines (view_of G s.enclave) s.show)) same (pool_answered G sound)
+show_answered G sound _ s is = cc
 
-pub answered : AnyMapped → (G : Facts) → IsKnown G → IsAnswered G
-answered any G known = record {
-  boot = boot_answered G known;
-  proc = proc_answered G known;
-  call = call_answered any G known;
-  touch = touch_answered G known;
-  show = show_answered G known;
+pub answered : AnyMapped → (G : Facts) → IsSound G → IsAnswered G
+answered any G sound = record {
+  boot = boot_answered G sound;
+  proc = proc_answered G sound;
+  call = call_answered any G sound;
+  touch = touch_answered G sound;
+  show = show_answered G sound;
 }

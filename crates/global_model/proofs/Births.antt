@@ -1,7 +1,7 @@
 -- What a birth changes in the views of the new enclave, its parent and the host, and that it changes no other view.
-use Rattle.std.proofs.Common.{◌≡◌, ◌≢◌, ◌+◌, ◌<◌, ◌≤◌, ℕ, zero, suc, List, [], ◌∷◌, ◌++◌, map, Bool, true, false, cond, not, ◌&&◌, ◌||◌, eqb, ltb, Some, refl, sym, ap, ◌∙◌, arith, append-nil}
+use Rattle.std.proofs.Common.{◌≡◌, ◌≢◌, ◌+◌, ◌<◌, ◌≤◌, ℕ, zero, suc, List, [], ◌∷◌, ◌++◌, map, Bool, true, false, cond, not, ◌&&◌, ◌||◌, eqb, ltb, Some, refl, sym, ap, ◌∙◌, subst, inl, inr, arith, append-nil}
 use Rattle.std.specs.List.{range_with_len, filter}
-use Rattle.std.proofs.lemmas.Bool.{eq-eqb, ne_eqb, eqb-true, eqb-false, le-ltb}
+use Rattle.std.proofs.lemmas.Bool.{cases_eq, eq-eqb, ne_eqb, eqb-true, eqb-false, le-ltb}
 use Rattle.std.proofs.lemmas.List.{map-append}
 use Rattle.std.proofs.lemmas.List.Elements.{filter-append}
 use Rattle.std.proofs.lemmas.List.FromFn.{map-range_with_len_more}
@@ -9,17 +9,19 @@ use Rattle.xm_num.specs.declared.Enclave.{Enclave}
 use Rattle.xm_num.specs.declared.Kind.{Kind}
 use Rattle.xm_num.specs.declared.Block.{Block}
 use Rattle.xm_num.specs.Rows.{put}
+use Rattle.frame_pool.specs.declared.BlockState.{BlockState}
+use Rattle.frame_pool.specs.Blocks.{lend_from}
 use Rattle.xemem_language.specs.declared.line.Line.TheVariants as lines
+use Rattle.enclave_rules.specs.Core.{as_born, with_child, core_line}
+use Rattle.enclave_rules.specs.Host.{no_host, with_birth}
 use Rattle.global_model.specs.Facts.{Facts, fact_of, with_lent, after_line}
-use Rattle.enclave_rules.specs.Blocks.{BlockFact}
 use Rattle.global_model.specs.Channels.{is_child_of}
-use Rattle.enclave_rules.specs.View.{View, HostView, no_host, lend_from, as_born, with_child, with_record, own_line}
-use Rattle.global_model.specs.Views.{child_row, host_of, view_of}
+use Rattle.global_model.specs.Views.{child_row, children_of, core_of, host_of, view_of}
+use Rattle.global_model.specs.Apt.{IsBirth}
 use Rattle.global_model.proofs.Runs.{passing_run-same, map_run-same, run-more}
-use Rattle.global_model.proofs.Kept.{IsKnown, IsBirth, no_fact}
-use Rattle.global_model.proofs.Shown.{IsShown, same_view, shown_here}
-use Rattle.global_model.proofs.Processes.{shown_at}
-use Rattle.global_model.proofs.Lending.{unused_born, unused_stay}
+use Rattle.global_model.proofs.Tree.{living_born}
+use Rattle.global_model.proofs.Sound.{IsSound, no_fact}
+use Rattle.global_model.proofs.Shown.{IsShown, same_core}
 
 -- ---- rows and states
 
@@ -39,7 +41,7 @@ put_past f t a (suc m) n v past = by (put_past f t (a + 1) m n v (omega arith)) 
         rw (above, apart) (ap (λ rows. (a, f a) ∷ rows) more)
     by more false = more
 
-lend_run : (f : ℕ → BlockFact) (blocks : List Block) (e : Enclave) (a n : ℕ) → lend_from a blocks e (map f (range_with_len a n)) ≡ map (with_lent blocks e f) (range_with_len a n)
+lend_run : (f : ℕ → BlockState) (blocks : List Block) (e : Enclave) (a n : ℕ) → lend_from a blocks e (map f (range_with_len a n)) ≡ map (with_lent blocks e f) (range_with_len a n)
 lend_run f blocks e a zero = refl
 lend_run f blocks e a (suc n) = ap (λ states. with_lent blocks e f a ∷ states) (lend_run f blocks e (a + 1) n)
 
@@ -49,16 +51,12 @@ lend_run f blocks e a (suc n) = ap (λ states. with_lent blocks e f a ∷ states
 abbrev pub with_born : Facts → Enclave → Kind → Enclave → Bool → List Block → Facts
 with_born G e kind parent ns blocks = after_line G (lines.Born e kind parent ns blocks)
 
--- what the host keeps, once it has lent the blocks and recorded the parent
-abbrev pub recorded : Enclave → Enclave → List Block → HostView → HostView
-recorded e parent blocks h = record { states = lend_from 0 blocks e h.states; parents = h.parents ++ parent ∷ [] }
-
 -- the row of the new child
 abbrev pub new_row : Bool → ℕ → Kind → List (ℕ × Kind)
 new_row is_child e kind = cond is_child ((e, kind) ∷ []) []
 
-module _ (G : Facts) (e : Enclave) (kind : Kind) (parent : Enclave) (ns : Bool) (blocks : List Block) (known : IsKnown G) (birth : IsBirth G e parent blocks) where
-  host_recorded : host_of (with_born G e kind parent ns blocks) ≡ recorded e parent blocks (host_of G)
+module _ (G : Facts) (e : Enclave) (kind : Kind) (parent : Enclave) (ns : Bool) (blocks : List Block) (sound : IsSound G) (birth : IsBirth G e kind parent ns blocks) where
+  host_recorded : host_of (with_born G e kind parent ns blocks) ≡ with_birth e parent blocks (host_of G)
   host_recorded =
       let H = with_born G e kind parent ns blocks in
       let parent_of : ℕ → Enclave = λ c. (fact_of (H.enclave c)).parent in
@@ -93,15 +91,6 @@ module _ (G : Facts) (e : Enclave) (kind : Kind) (parent : Enclave) (ns : Bool) 
       → map (child_row (with_born G e kind parent ns blocks)) (filter (λ c. is_child_of (with_born G e kind parent ns blocks) c k) (range_with_len 0 (G.born + 1))) ≡ map (child_row G) (filter (λ c. is_child_of G c k) (range_with_len 0 G.born))
   children_stay k other = children_born k ∙ rw other (append-nil _)
 
-  -- what the new enclave's view becomes
-  own_birth : own_line (view_of G e) (lines.Born e kind parent ns blocks) ≡ record (as_born kind parent ns blocks (view_of G e)) { host = cond (eqb e.0 0) (recorded e parent blocks (host_of G)) no_host }
-  own_birth = rw (eq-eqb e.0 e.0 refl) (by (eqb e.0 0))
-    where
-      by : (b : Bool) → cond b (with_record e parent blocks (record (as_born kind parent ns blocks (view_of G e)) { host = cond b (host_of G) no_host })) (record (as_born kind parent ns blocks (view_of G e)) { host = cond b (host_of G) no_host })
-          ≡ record (as_born kind parent ns blocks (view_of G e)) { host = cond b (recorded e parent blocks (host_of G)) no_host }
-      by true = refl
-      by false = refl
-
   -- the new enclave is no child of itself
   no_own_child : (not (eqb e.0 0) && eqb parent.0 e.0) ≡ false
   no_own_child = by (eqb e.0 0) refl
@@ -110,58 +99,8 @@ module _ (G : Facts) (e : Enclave) (kind : Kind) (parent : Enclave) (ns : Bool) 
       by true is = refl
       by false is =
           let child : e.0 ≢ 0 = eqb-false e.0 0 is in
-          let lower : parent.0 < e.0 = birth.above (omega (arith, child)) in
-          ne_eqb parent.0 e.0 (omega (arith, lower))
-
-  shown_own : IsShown G e (lines.Born e kind parent ns blocks)
-  shown_own =
-      let H = with_born G e kind parent ns blocks in
-      let fact : H.enclave e.0 ≡ Some (record { kind = kind; parent = parent; blocks = blocks; ns = ns; living = true; admitted = false }) = rw (eq-eqb e.0 e.0 refl) refl in
-      let was : (fact_of (G.enclave e.0)).admitted ≡ false = ap (λ o. (fact_of o).admitted) (no_fact G known e.0 (omega (arith, birth.next))) in
-      shown_here G e (lines.Born e kind parent ns blocks) (rw (eq-eqb e.0 e.0 refl) refl) (same_view (view_of H e) (record (as_born kind parent ns blocks (view_of G e)) { host = cond (eqb e.0 0) (recorded e parent blocks (host_of G)) no_host }) (record {
-        me = refl;
-        kind = ap (λ o. (fact_of o).kind) fact;
-        parent = ap (λ o. (fact_of o).parent) fact;
-        blocks = ap (λ o. (fact_of o).blocks) fact;
-        holder = ap (λ o. (fact_of o).ns) fact;
-        admitted = ap (λ o. (fact_of o).admitted) fact ∙ sym was;
-        heard = refl;
-        way = refl;
-        askers = refl;
-        backs = refl;
-        routes = refl;
-        free = unused_born G e kind parent ns blocks known birth;
-        processes = refl;
-        children = children_stay e.0 no_own_child;
-        host = ap (λ h. cond (eqb e.0 0) h no_host) host_recorded;
-      }) ∙ sym own_birth)
-
-  -- the parts of another enclave's view that come from its own fact
-  other_fact : (k : Enclave) → e.0 ≢ k.0 → (with_born G e kind parent ns blocks).enclave k.0 ≡ G.enclave k.0
-  other_fact k apart = rw (ne_eqb k.0 e.0 (λ same. apart (sym same))) refl
-
-  -- another enclave's view, but for its children and what it keeps as the host
-  other_view : (k : Enclave) → e.0 ≢ k.0 → (children : List (ℕ × Kind)) → (view_of (with_born G e kind parent ns blocks) k).children ≡ children → (host : HostView) → (view_of (with_born G e kind parent ns blocks) k).host ≡ host
-      → view_of (with_born G e kind parent ns blocks) k ≡ record (view_of G k) { children = children; host = host }
-  other_view k apart children children_is host host_is =
-      let fact = other_fact k apart in
-      same_view (view_of (with_born G e kind parent ns blocks) k) (record (view_of G k) { children = children; host = host }) (record {
-        me = refl;
-        kind = ap (λ o. (fact_of o).kind) fact;
-        parent = ap (λ o. (fact_of o).parent) fact;
-        blocks = ap (λ o. (fact_of o).blocks) fact;
-        holder = ap (λ o. (fact_of o).ns) fact;
-        admitted = ap (λ o. (fact_of o).admitted) fact;
-        heard = refl;
-        way = refl;
-        askers = refl;
-        backs = refl;
-        routes = refl;
-        free = unused_stay G e kind parent ns blocks known birth k.0 apart;
-        processes = refl;
-        children = children_is;
-        host = host_is;
-      })
+          let lower : parent.0 < G.born = living_born G parent.0 sound.tree (birth.under (omega (arith, child))) in
+          ne_eqb parent.0 e.0 (omega (arith, lower, birth.next))
 
   -- the host isn't a child, and its parent is no other enclave
   parent_test : (k : ℕ) → e.0 ≢ k → (not (eqb e.0 0) && eqb parent.0 k) ≡ eqb parent.0 k
@@ -175,40 +114,82 @@ module _ (G : Facts) (e : Enclave) (kind : Kind) (parent : Enclave) (ns : Bool) 
       by false is = refl
 
   -- the parent has one more child, and no other enclave has
-  children_after : (k : Enclave) → e.0 ≢ k.0
-      → (view_of (with_born G e kind parent ns blocks) k).children ≡ cond (eqb parent.0 k.0) (put (view_of G k).children e.0 kind) (view_of G k).children
-  children_after k apart = children_born k.0 ∙ ap (λ b. (view_of G k).children ++ new_row b e.0 kind) (parent_test k.0 apart) ∙ by (eqb parent.0 k.0)
+  children_after : (k : ℕ) → e.0 ≢ k
+      → children_of (with_born G e kind parent ns blocks) k ≡ cond (eqb parent.0 k) (put (children_of G k) e.0 kind) (children_of G k)
+  children_after k apart = children_born k ∙ ap (λ b. children_of G k ++ new_row b e.0 kind) (parent_test k apart) ∙ by (eqb parent.0 k)
     where
-      by : (b : Bool) → (view_of G k).children ++ new_row b e.0 kind ≡ cond b (put (view_of G k).children e.0 kind) (view_of G k).children
-      by true = sym (put_past (λ c. (fact_of (G.enclave c)).kind) (λ c. is_child_of G c k.0) 0 G.born e.0 kind (omega (arith, birth.next)))
+      by : (b : Bool) → children_of G k ++ new_row b e.0 kind ≡ cond b (put (children_of G k) e.0 kind) (children_of G k)
+      by true = sym (put_past (λ c. (fact_of (G.enclave c)).kind) (λ c. is_child_of G c k) 0 G.born e.0 kind (omega (arith, birth.next)))
       by false = append-nil _
 
-  -- the view of an enclave before, with what it keeps where it is the host
-  abbrev as_before : Enclave → Bool → View
-  as_before k first = record (view_of G k) { host = cond first (host_of G) no_host }
+  -- the core of the new enclave, and of another
+  core_own : core_of (with_born G e kind parent ns blocks) e.0 ≡ core_line e.0 (core_of G e.0) (lines.Born e kind parent ns blocks)
+  core_own =
+      let H = with_born G e kind parent ns blocks in
+      let itself : eqb e.0 e.0 ≡ true = eq-eqb e.0 e.0 refl in
+      let fact : H.enclave e.0 ≡ Some (record { kind = kind; parent = parent; blocks = blocks; ns = ns; living = true; admitted = false }) = rw itself refl in
+      let was : (fact_of (G.enclave e.0)).admitted ≡ false = ap (λ o. (fact_of o).admitted) (no_fact G sound.tree e.0 (omega (arith, birth.next))) in
+      let core : core_of H e.0 ≡ as_born kind parent ns blocks (core_of G e.0) = same_core _ _ (record {
+        kind = ap (λ o. (fact_of o).kind) fact;
+        parent = ap (λ o. (fact_of o).parent) fact;
+        blocks = ap (λ o. (fact_of o).blocks) fact;
+        holder = ap (λ o. (fact_of o).ns) fact;
+        admitted = ap (λ o. (fact_of o).admitted) fact ∙ sym was;
+        heard = refl;
+        children = children_born e.0 ∙ rw no_own_child (append-nil _);
+      }) in
+      let line : core_line e.0 (core_of G e.0) (lines.Born e kind parent ns blocks) ≡ as_born kind parent ns blocks (core_of G e.0) = rw itself refl in
+      core ∙ sym line
 
-  -- and with the child where it is its parent
-  abbrev with_one : Enclave → Bool → Bool → View
-  with_one k is_parent first = cond is_parent (with_child e kind (as_before k first)) (as_before k first)
-
-  shown_other : (k : Enclave) → e.0 ≢ k.0 → IsShown G k (lines.Born e kind parent ns blocks)
-  shown_other k apart =
-      let other : eqb e.0 k.0 ≡ false = ne_eqb e.0 k.0 apart in
-      let children = cond (eqb parent.0 k.0) (put (view_of G k).children e.0 kind) (view_of G k).children in
-      let host = cond (eqb k.0 0) (recorded e parent blocks (host_of G)) no_host in
-      let after = other_view k apart children (children_after k apart) host (ap (λ h. cond (eqb k.0 0) h no_host) host_recorded) in
-      rw other (after ∙ by (eqb parent.0 k.0) (eqb k.0 0))
+  core_other : (k : ℕ) → e.0 ≢ k → core_of (with_born G e kind parent ns blocks) k ≡ core_line k (core_of G k) (lines.Born e kind parent ns blocks)
+  core_other k apart =
+      let H = with_born G e kind parent ns blocks in
+      let other : eqb e.0 k ≡ false = ne_eqb e.0 k apart in
+      let fact : H.enclave k ≡ G.enclave k = rw (ne_eqb k e.0 (λ same. apart (sym same))) refl in
+      let children = cond (eqb parent.0 k) (put (children_of G k) e.0 kind) (children_of G k) in
+      let core : core_of H k ≡ record (core_of G k) { children = children } = same_core _ _ (record {
+        kind = ap (λ o. (fact_of o).kind) fact;
+        parent = ap (λ o. (fact_of o).parent) fact;
+        blocks = ap (λ o. (fact_of o).blocks) fact;
+        holder = ap (λ o. (fact_of o).ns) fact;
+        admitted = ap (λ o. (fact_of o).admitted) fact;
+        heard = refl;
+        children = children_after k apart;
+      }) in
+      core ∙ rw other (by (eqb parent.0 k))
     where
-      by : (is_parent first : Bool)
-          → record (as_before k first) {
-            children = cond is_parent (put (view_of G k).children e.0 kind) (view_of G k).children;
-            host = cond first (recorded e parent blocks (host_of G)) no_host;
-          }
-          ≡ cond (is_parent || first) (cond first (with_record e parent blocks (with_one k is_parent first)) (with_one k is_parent first)) (as_before k first)
-      by true true = refl
-      by true false = refl
-      by false true = refl
-      by false false = refl
+      by : (b : Bool) → record (core_of G k) { children = cond b (put (children_of G k) e.0 kind) (children_of G k) } ≡ cond b (with_child e kind (core_of G k)) (core_of G k)
+      by true = refl
+      by false = refl
+
+  core_born : (k : Enclave) → core_of (with_born G e kind parent ns blocks) k.0 ≡ core_line k.0 (core_of G k.0) (lines.Born e kind parent ns blocks)
+  core_born k = elim (cases_eq e.0 k.0) [
+    | inl same ↦ subst (λ n. core_of (with_born G e kind parent ns blocks) n ≡ core_line n (core_of G n) (lines.Born e kind parent ns blocks)) same core_own
+    | inr apart ↦ core_other k.0 apart
+  ]
 
   pub shown_born : (k : Enclave) → IsShown G k (lines.Born e kind parent ns blocks)
-  shown_born k = shown_at G e k (lines.Born e kind parent ns blocks) shown_own (shown_other k)
+  shown_born k =
+      let line = lines.Born e kind parent ns blocks in
+      let host : cond (eqb k.0 0) (host_of (with_born G e kind parent ns blocks)) no_host ≡ cond (eqb k.0 0) (with_birth e parent blocks (host_of G)) no_host
+      = ap (λ h. cond (eqb k.0 0) h no_host) host_recorded in
+      let view : view_of (with_born G e kind parent ns blocks) k ≡ record (view_of G k) { core = core_line k.0 (core_of G k.0) line; host = cond (eqb k.0 0) (with_birth e parent blocks (host_of G)) no_host }
+      = λ i. record (view_of G k) { core = core_born k i; host = host i } in
+      view ∙ by (eqb e.0 k.0) (eqb parent.0 k.0) (eqb k.0 0)
+    where
+      -- the view by whether it is the child's, the parent's and the host's
+      by : (child above first : Bool)
+          → record (view_of G k) {
+            core = cond child (as_born kind parent ns blocks (core_of G k.0)) (cond above (with_child e kind (core_of G k.0)) (core_of G k.0));
+            host = cond first (with_birth e parent blocks (host_of G)) no_host;
+          }
+          ≡ cond (child || above || first) (record (view_of G k) {
+            core = cond child (as_born kind parent ns blocks (core_of G k.0)) (cond above (with_child e kind (core_of G k.0)) (core_of G k.0));
+            host = cond first (with_birth e parent blocks (cond first (host_of G) no_host)) (cond first (host_of G) no_host);
+          }) (record (view_of G k) { host = cond first (host_of G) no_host })
+      by true above true = refl
+      by true above false = refl
+      by false true true = refl
+      by false true false = refl
+      by false false true = refl
+      by false false false = refl

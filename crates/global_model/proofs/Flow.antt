@@ -1,11 +1,11 @@
 -- Whole records, and what a line does to a channel.
-use Rattle.std.proofs.Common.{◌≡◌, ◌+◌, ◌-◌, ◌<◌, ◌≤◌, ℕ, zero, suc, List, [], ◌∷◌, ◌++◌, length, take, drop, Bool, true, false, cond, leb, refl, sym, ap, ◌∙◌, subst, arith, length-append, length-drop}
+use Rattle.std.proofs.Common.{◌≡◌, ◌+◌, ◌-◌, ◌<◌, ◌≤◌, ℕ, zero, suc, List, [], ◌∷◌, ◌++◌, length, take, drop, Bool, true, false, cond, leb, refl, sym, ap, ◌∙◌, subst, arith, length-append, length-drop, length-take}
 use Rattle.std.proofs.lemmas.Bool.{leb-true, le-leb}
 use Rattle.std.proofs.lemmas.Grind.{flat_map-append}
 use Rattle.xemem_language.specs.declared.record.Record.{Record}
 use Rattle.xemem_wire.specs.Spelling.{spelling_of, header_of, spellings_of, is_valid, AreValid}
-use Rattle.global_model.specs.Facts.{ChannelFact, with_sent, with_taken, with_got}
-use Rattle.global_model.specs.Channels.{size_of, whole_records, arriving, waiting_of}
+use Rattle.global_model.specs.Facts.{ChannelFact, Facts, lives_at, with_sent, with_taken, with_got}
+use Rattle.global_model.specs.Channels.{size_of, whole_records, arriving, waiting_bytes, waiting_of}
 use Rattle.global_model.specs.Flow.{IsFlow}
 
 -- ---- sizes
@@ -107,22 +107,40 @@ valid_arriving c flow = valid-drop c.got (whole_records c.taken c.sent) (valid-w
 
 -- ---- what a line does to a channel
 
+few_taken : (c : ChannelFact) → IsFlow c → c.taken ≤ bytes_of c.sent
+few_taken c flow = omega (arith, flow.taken)
+
 pub flow_sent : (r : Record) (c : ChannelFact) → is_valid r ≡ true → IsFlow c → IsFlow (with_sent r c)
 flow_sent r c valid flow = record {
   valid = valid-sent c.sent r flow.valid valid;
   taken = omega (arith, flow.taken, bytes-more c.sent r);
-  got = subst (λ ws. c.got ≤ length ws) (sym (whole-sent c.taken c.sent r flow.taken)) flow.got;
+  got = subst (λ ws. c.got ≤ length ws) (sym (whole-sent c.taken c.sent r (few_taken c flow))) flow.got;
 }
 
 pub arriving_sent : (r : Record) (c : ChannelFact) → IsFlow c → arriving (with_sent r c) ≡ arriving c
-arriving_sent r c flow = ap (drop c.got) (whole-sent c.taken c.sent r flow.taken)
+arriving_sent r c flow = ap (drop c.got) (whole-sent c.taken c.sent r (few_taken c flow))
+
+-- how many bytes wait, where the receiver lives
+pub waiting_size : (c : ChannelFact) → length (waiting_of c) ≡ bytes_of c.sent - c.cut - c.taken
+waiting_size c =
+    let bytes = spellings_of c.sent in
+    let front = length-take (length bytes - c.cut) bytes in
+    let rest = length-drop c.taken (take (length bytes - c.cut) bytes) in
+    omega (arith, front, rest)
+
+-- and no more wait elsewhere
+pub waiting_few : (G : Facts) (x y : ℕ) → length (waiting_bytes G x y) ≤ length (waiting_of (G.channel x y))
+waiting_few G x y = by (lives_at G y)
+  where
+    by : (b : Bool) → length (cond b (waiting_of (G.channel x y)) []) ≤ length (waiting_of (G.channel x y))
+    by true = omega arith
+    by false = omega arith
 
 pub flow_taken : (n : ℕ) (c : ChannelFact) → n ≤ length (waiting_of c) → IsFlow c → IsFlow (with_taken n c)
 flow_taken n c le flow =
-    let left : length (waiting_of c) ≡ bytes_of c.sent - c.taken = length-drop c.taken (spellings_of c.sent) in
     record {
       valid = flow.valid;
-      taken = omega (arith, left, flow.taken);
+      taken = omega (arith, waiting_size c, le, flow.taken);
       got = omega (arith, flow.got, whole-grows c.taken (c.taken + n) c.sent (omega arith));
     }
 

@@ -9,9 +9,11 @@ use Rattle.xemem_language.specs.declared.line.Line.{Line}
 use Rattle.xemem_language.specs.declared.line.Line.TheVariants as lines
 use Rattle.global_model.specs.Facts.{Facts, after_line, after_lines}
 use Rattle.global_model.specs.Channels.{waiting_bytes, arriving}
-use Rattle.enclave_rules.specs.View.{View, host}
+use Rattle.enclave_rules.specs.Core.{host}
+use Rattle.enclave_rules.specs.View.{View}
+use Rattle.enclave_rules.specs.Sending.{knows_way}
 use Rattle.global_model.specs.Views.{view_of}
-use Rattle.enclave_rules.specs.Steps.{knows_way, query_of, record_lines, child_lines, told_lines, adopt_lines, route_lines, state_lines}
+use Rattle.enclave_rules.specs.Steps.{query_of, record_lines, child_lines, told_lines, adopt_lines, route_lines, state_lines}
 use Rattle.global_model.specs.Due.{got_lines, took_lines, deliver_lines, link_lines, next_rest, first_waiting, settle_end, settle_from}
 use Rattle.global_model.specs.Plain.{IsPlain, ArePlain}
 use Rattle.global_model.proofs.Tells.{MayTell, tells_told, tells_bytes, tells_end, tells_routes, tells_states}
@@ -36,10 +38,7 @@ each-weaker P Q h (l ∷ ls) all = (h l all.0, each-weaker P Q h ls all.1)
 -- what is told beside records is plain
 plain_tells : MayTell IsPlain
 plain_tells = record {
-  told = λ e d. tt;
   bytes = λ x y at bytes some most. (some, most);
-  settled = λ made. tt;
-  waiting = λ made. tt;
   own = λ e. tt;
   none = λ e. tt;
   way = λ e over. tt;
@@ -84,14 +83,14 @@ plain_deliver G x y count =
     plain_either (waiting == 0) (lines.Idle x y ∷ []) (took_lines G x y (min count waiting)) (tt, tt) (plain_took G x y (min count waiting))
 
 pub plain_settle : (left made : ℕ) (G : Facts) → ArePlain (settle_from left made G)
-plain_settle zero made G = (tells_end IsPlain plain_tells G made, tt)
+plain_settle zero made G = (tells_end IsPlain (λ made. tt) (λ made. tt) G made, tt)
 plain_settle (suc left) made G =
     plain_option _ (first_waiting G) (settle_end G made ∷ [])
     (λ channel.
     let own = deliver_lines G channel.0 channel.1 (next_rest G channel.0 channel.1) in
     let H = after_lines G own in
     plain-append own (settle_from left (made + 1) H) (plain_deliver G channel.0 channel.1 _) (plain_settle left (made + 1) H))
-    (tells_end IsPlain plain_tells G made, tt)
+    (tells_end IsPlain (λ made. tt) (λ made. tt) G made, tt)
 
 pub plain_show : (G : Facts) (x y : Enclave) → ArePlain (link_lines G x y)
 plain_show G x y = tells_bytes IsPlain plain_tells x y _ 0 _
@@ -109,7 +108,7 @@ pub plain_birth : (child parent : Enclave) (ns : Bool) (heard : List Enclave) (v
     → ArePlain ((told_lines child heard ++ child_lines child parent ns) ++ adopt_lines v child)
 plain_birth child parent ns heard v =
     plain-append (told_lines child heard ++ child_lines child parent ns) (adopt_lines v child)
-    (plain-append (told_lines child heard) (child_lines child parent ns) (tells_told IsPlain plain_tells child heard)
+    (plain-append (told_lines child heard) (child_lines child parent ns) (tells_told IsPlain (λ e d. tt) child heard)
     (plain_child child parent ns))
     (plain_adopt v child)
 

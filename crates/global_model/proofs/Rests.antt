@@ -1,5 +1,5 @@
 -- Along the journal of commands each settle ends as the channels are.
-use Rattle.std.proofs.Common.{◌≡◌, ◌+◌, ℕ, zero, suc, List, [], ◌∷◌, ◌++◌, length, map, drop, Bool, true, false, cond, is_some, Option, None, Some, if◌then◌else◌, refl, sym, ap, ◌∙◌, subst, arith, length-append}
+use Rattle.std.proofs.Common.{◌≡◌, ◌+◌, ℕ, List, [], ◌∷◌, ◌++◌, map, Bool, cond, is_some, Option, None, Some, if◌then◌else◌, refl, sym, ap, ◌∙◌, subst, arith}
 use Rattle.std.specs.Option.{option_map_or}
 use Rattle.std.specs.List.{range_with_len}
 use Rattle.xm_num.specs.declared.Enclave.{Enclave}
@@ -10,12 +10,14 @@ use Rattle.xemem_language.specs.declared.command.Command.{Command}
 use Rattle.xemem_language.specs.declared.command.Command.TheVariants as commands
 use Rattle.xemem_language.specs.declared.line.Line.{Line}
 use Rattle.xemem_language.specs.declared.line.Line.TheVariants as lines
-use Rattle.enclave_rules.specs.Blocks.{BlockFact, Absent, Free, Lent, Held}
-use Rattle.enclave_rules.specs.Steps.{adopt_lines, bytes_lines, child_lines, host_lines, knows_way, query_of, route_lines, state_line, state_lines, told_lines}
-use Rattle.enclave_rules.specs.View.{View, host}
+use Rattle.enclave_rules.specs.Steps.{adopt_lines, child_lines, host_lines, query_of, route_lines, told_lines}
+use Rattle.enclave_rules.specs.Core.{host}
+use Rattle.enclave_rules.specs.Sending.{knows_way}
+use Rattle.enclave_rules.specs.View.{View}
+use Rattle.global_model.specs.Apt.{NothingArrives}
 use Rattle.global_model.specs.Channels.{waiting_bytes}
 use Rattle.global_model.specs.Due.{acts_of, first_waiting, journal_from, journal_of, next_enclave, settle_end, settle_from, step_lines, touched_lines}
-use Rattle.global_model.specs.Facts.{Facts, after_lines, facts_after, facts_at, no_facts}
+use Rattle.global_model.specs.Facts.{Facts, after_lines, facts_at}
 use Rattle.global_model.specs.Flow.{IsFlowing}
 use Rattle.global_model.specs.Journals.{Follows, command_at, deliveries_in, onto}
 use Rattle.global_model.specs.Place.{IsPlacedAfter, IsPlaced}
@@ -23,10 +25,12 @@ use Rattle.global_model.specs.Refusals.{refusal_of}
 use Rattle.global_model.specs.Rest.{IsAtRest, IsRested, IsSettling, RestAt, lines_since}
 use Rattle.global_model.specs.Space.{Mapping, space_of}
 use Rattle.global_model.specs.Views.{view_of}
-use Rattle.global_model.proofs.Arriving.{IsSound}
-use Rattle.global_model.proofs.Carried.{journal_of-sound}
-use Rattle.global_model.proofs.Pasts.{Follows-append, after_lines-append, facts_at-onto, journal_from-more, onto-append}
-use Rattle.global_model.proofs.Settles.{IsInner, IsSettled, deliveries-append, inner_deliver, placed_after, settle_flows, settled_before, settled_by}
+use Rattle.global_model.proofs.Tree.{tree_lives}
+use Rattle.global_model.proofs.Sound.{IsSound, sound_line}
+use Rattle.global_model.proofs.Commands.{IsReady, IsRun, ready_start, run_step}
+use Rattle.global_model.proofs.Tells.{MayTell, tells_bytes, tells_routes, tells_states}
+use Rattle.global_model.proofs.Pasts.{Follows-append, facts_at-onto}
+use Rattle.global_model.proofs.Settles.{IsInner, IsSettled, deliveries-append, inner_deliver, settle_flows, settled_before, settled_by}
 use Rattle.global_model.proofs.Waiting.{none_rests, rests_none}
 use Rattle.global_model.proofs.Writes.{EachIs, each-append, each_either}
 
@@ -83,47 +87,35 @@ inner_touched : (e : Enclave) (p : Pid) (page : Vpn) (mapping : Option Mapping) 
 inner_touched e p page None = tt
 inner_touched e p page (Some found) = (tt, tt)
 
-inner_way : (e : Enclave) (holder : Bool) (way : Option Enclave)
-    → IsInner (if holder then lines.AtWayOwn e else option_map_or (λ over. lines.AtWay e over) way (lines.AtWayNone e))
-inner_way e true way = tt
-inner_way e false None = tt
-inner_way e false (Some over) = tt
-
-inner_routes : (v : View) → EachIs IsInner (route_lines v)
-inner_routes v = (inner_way v.me v.holder v.way, inner_map (λ row. lines.AtRoute v.me (record { 0 = row.0 }) row.1) v.routes (λ row. tt))
-
-inner_bytes : (x y : Enclave) (most at : ℕ) (bytes : List ℕ) → EachIs IsInner (bytes_lines x y most at bytes)
-inner_bytes x y zero at bytes = tt
-inner_bytes x y (suc most) at [] = tt
-inner_bytes x y (suc most) at (byte ∷ bytes) = (tt, inner_bytes x y most (at + 32) (drop 32 (byte ∷ bytes)))
-
-inner_state : (b : ℕ) (s : BlockFact) → EachIs IsInner (state_line b s)
-inner_state b Absent = tt
-inner_state b Free = (tt, tt)
-inner_state b (Lent e) = (tt, tt)
-inner_state b (Held e) = (tt, tt)
-
-inner_states : (b : ℕ) (ss : List BlockFact) → EachIs IsInner (state_lines b ss)
-inner_states b [] = tt
-inner_states b (s ∷ ss) = each-append IsInner (state_line b s) (state_lines (b + 1) ss) (inner_state b s) (inner_states (b + 1) ss)
+inner_tells : MayTell IsInner
+inner_tells = record {
+  bytes = λ x y at bytes some most. tt;
+  own = λ e. tt;
+  none = λ e. tt;
+  way = λ e over. tt;
+  route = λ e d over. tt;
+  free = λ b. tt;
+  lent = λ b e. tt;
+  held = λ b e. tt;
+}
 
 -- ---- a settle
 
-rests_settle : (past : List Line) (most : ℕ) → IsSound (facts_at past)
-    → Follows RestAt (lines.Do (commands.Settle most) ∷ past) (settle_from most 0 (facts_at past))
-rests_settle past most sound =
+rests_settle : (past : List Line) (most : ℕ) → IsSound (facts_at (lines.Do (commands.Settle most) ∷ past)) → NothingArrives (facts_at (lines.Do (commands.Settle most) ∷ past))
+    → Follows RestAt (lines.Do (commands.Settle most) ∷ past) (settle_from most 0 (facts_at (lines.Do (commands.Settle most) ∷ past)))
+rests_settle past most sound none =
     subst (Follows RestAt start) (sym settled.is)
     (Follows-append RestAt settled.before (settle_end H made ∷ []) start (rests_inner settled.before start settled.inner)
     (by (first_waiting H) refl, tt))
   where
     G : Facts
-    G = facts_at past
+    G = facts_at (lines.Do (commands.Settle most) ∷ past)
 
     start : List Line
     start = lines.Do (commands.Settle most) ∷ past
 
     settled : IsSettled most 0 G
-    settled = settled_by most 0 G
+    settled = settled_by most 0 G (tree_lives G sound.tree)
 
     H : Facts
     H = after_lines G settled.before
@@ -144,7 +136,7 @@ rests_settle past most sound =
     by : (o : Option (Enclave × Enclave)) → first_waiting H ≡ o
         → RestAt (onto settled.before start) (cond (is_some (first_waiting H)) (lines.Waiting made) (lines.Settled made))
     by None is =
-        let flowing : IsFlowing H = subst IsFlowing (settled_before G most settled) (settle_flows past most sound) in
+        let flowing : IsFlowing H = subst IsFlowing (settled_before G most settled) (settle_flows G most sound none) in
         rw is (subst IsAtRest (sym facts) (none_rests H flowing is), most, settling)
     by (Some channel) is =
         let all : most ≡ made = let count = settled.all (ap is_some is) in omega (arith, count) in
@@ -155,59 +147,53 @@ rests_settle past most sound =
 
 -- ---- commands
 
-rests_acts : (past : List Line) (c : Command) → IsSound (facts_at past) → Follows RestAt (lines.Do c ∷ past) (acts_of (facts_at past) c)
-rests_acts past (commands.Host blocks ns) sound = rests_inner (host_lines _ ns) _ (tt, inner_host ns)
-rests_acts past (commands.Boot kind parent blocks ns) sound =
-    let G = facts_at past in
+rests_acts : (past : List Line) (c : Command) → IsSound (facts_at (lines.Do c ∷ past)) → NothingArrives (facts_at (lines.Do c ∷ past))
+    → Follows RestAt (lines.Do c ∷ past) (acts_of (facts_at (lines.Do c ∷ past)) c)
+rests_acts past (commands.Host blocks ns) sound none = rests_inner (host_lines _ ns) _ (tt, inner_host ns)
+rests_acts past (commands.Boot kind parent blocks ns) sound none =
+    let G = facts_at (lines.Do (commands.Boot kind parent blocks ns) ∷ past) in
     rests_inner (acts_of G (commands.Boot kind parent blocks ns)) _ (
       tt,
       each-append IsInner (told_lines (next_enclave G) (G.heard parent.0) ++ child_lines (next_enclave G) parent ns) (adopt_lines (view_of G parent) (next_enclave G))
           (inner_birth (next_enclave G) parent ns (G.heard parent.0)) (inner_adopt (view_of G parent) (next_enclave G)),
     )
-rests_acts past (commands.Proc e uid gid) sound = (tt, tt)
-rests_acts past (commands.Alloc e p at pages) sound = (tt, tt)
-rests_acts past (commands.Touch e p addr want) sound = rests_inner _ _ (inner_touched e p _ (space_of (facts_at past) e.0 p.0 _))
-rests_acts past (commands.Deliver x y count) sound = rests_inner _ _ (inner_deliver (facts_at past) x y count)
-rests_acts past (commands.Settle most) sound = rests_settle past most sound
-rests_acts past (commands.ShowRoutes e) sound =
-    rests_inner (route_lines (view_of (facts_at past) e)) (lines.Do (commands.ShowRoutes e) ∷ past) (inner_routes (view_of (facts_at past) e))
-rests_acts past (commands.ShowLink x y) sound = rests_inner _ _ (inner_bytes x y _ 0 (waiting_bytes (facts_at past) x.0 y.0))
-rests_acts past commands.ShowPool sound =
-    let G = facts_at past in rests_inner _ _ (inner_states 0 (map G.block (range_with_len 0 G.pool)))
-rests_acts past _ sound = tt
+rests_acts past (commands.Proc e uid gid) sound none = (tt, tt)
+rests_acts past (commands.Alloc e p at pages) sound none = (tt, tt)
+rests_acts past (commands.Touch e p addr want) sound none = rests_inner _ _ (inner_touched e p _ (space_of (facts_at past) e.0 p.0 _))
+rests_acts past (commands.Deliver x y count) sound none = rests_inner _ _ (inner_deliver (facts_at (lines.Do (commands.Deliver x y count) ∷ past)) x y count)
+rests_acts past (commands.Settle most) sound none = rests_settle past most sound none
+rests_acts past (commands.ShowRoutes e) sound none =
+    rests_inner (route_lines (view_of (facts_at past) e)) (lines.Do (commands.ShowRoutes e) ∷ past) (tells_routes IsInner inner_tells (view_of (facts_at past) e))
+rests_acts past (commands.ShowLink x y) sound none = rests_inner _ _ (tells_bytes IsInner inner_tells x y _ 0 (waiting_bytes (facts_at past) x.0 y.0))
+rests_acts past commands.ShowPool sound none =
+    let G = facts_at past in rests_inner _ _ (tells_states IsInner inner_tells 0 (map G.block (range_with_len 0 G.pool)))
+rests_acts past _ sound none = tt
 
-rests_step : (past : List Line) (c : Command) → IsSound (facts_at past) → Follows RestAt past (step_lines (facts_at past) c)
-rests_step past c sound = (tt, by (refusal_of (facts_at past) c) (rests_acts past c sound))
+rests_step : (past : List Line) (c : Command) → IsSound (facts_at (lines.Do c ∷ past)) → NothingArrives (facts_at past) → Follows RestAt past (step_lines (facts_at past) c)
+rests_step past c sound none = (tt, by (refusal_of (facts_at past) c) (rests_acts past c sound none))
   where
-    by : (cause : Option Cause) → Follows RestAt (lines.Do c ∷ past) (acts_of (facts_at past) c)
-        → Follows RestAt (lines.Do c ∷ past) (option_map_or (λ cause. lines.Refused cause ∷ []) cause (acts_of (facts_at past) c))
-    by None acts = acts
-    by (Some cause) acts = (tt, tt)
+    acts : List Line
+    acts = acts_of (facts_at (lines.Do c ∷ past)) c
+
+    by : (cause : Option Cause) → Follows RestAt (lines.Do c ∷ past) acts
+        → Follows RestAt (lines.Do c ∷ past) (option_map_or (λ cause. lines.Refused cause ∷ []) cause acts)
+    by None all = all
+    by (Some cause) all = (tt, tt)
 
 -- ---- journals
 
-rests_from : (cs done : List Command) → IsPlaced done → IsPlacedAfter (length done) cs
-    → Follows RestAt (onto (journal_of done) []) (journal_from (facts_after (journal_of done)) cs)
-rests_from [] done placed next = tt
-rests_from (c ∷ cs) done placed next =
-    let G = facts_after (journal_of done) in
-    let past = onto (journal_of done) [] in
+rests_from : (cs : List Command) (before : ℕ) (past : List Line) → IsReady before (facts_at past) → IsPlacedAfter before cs
+    → Follows RestAt past (journal_from (facts_at past) cs)
+rests_from [] before past ready placed = tt
+rests_from (c ∷ cs) before past ready placed =
+    let G = facts_at past in
     let ls = step_lines G c in
-    let rest = journal_from (after_lines G ls) cs in
-    let same : facts_at past ≡ G = facts_at-onto (journal_of done) [] in
-    let one : Follows RestAt past ls
-    = subst (λ K. Follows RestAt past (step_lines K c)) same (rests_step past c (subst IsSound (sym same) (journal_of-sound done placed))) in
-    let more : journal_of (done ++ c ∷ []) ≡ journal_of done ++ ls = journal_from-more no_facts done c in
-    let facts : facts_after (journal_of (done ++ c ∷ [])) ≡ after_lines G ls
-    = ap facts_after more ∙ after_lines-append no_facts (journal_of done) ls in
-    let pasts : onto (journal_of (done ++ c ∷ [])) [] ≡ onto ls past
-    = ap (λ ms. onto ms []) more ∙ onto-append (journal_of done) ls [] in
-    let count : length (done ++ c ∷ []) ≡ length done + 1 = length-append done (c ∷ []) in
-    let number : 0 + length done ≡ length done = omega arith in
-    let placed_more = placed_after done 0 c placed (rw number (next.0)) next.1 in
-    let later = rests_from cs (done ++ c ∷ []) placed_more (subst (λ n. IsPlacedAfter n cs) (sym count) next.2) in
-    Follows-append RestAt ls rest past one
-    (subst (λ p. Follows RestAt p rest) pasts (subst (λ K. Follows RestAt (onto (journal_of (done ++ c ∷ [])) []) (journal_from K cs)) facts later))
+    let run : IsRun (before + 1) G ls = run_step before G ready c placed.0 placed.1 in
+    let facts : facts_at (onto ls past) ≡ after_lines G ls = facts_at-onto ls past in
+    let one : Follows RestAt past ls = rests_step past c (sound_line G (lines.Do c) ready.sound run.apt.0) ready.got in
+    let more : Follows RestAt (onto ls past) (journal_from (facts_at (onto ls past)) cs)
+    = rests_from cs (before + 1) (onto ls past) (subst (IsReady (before + 1)) (sym facts) run.ready) placed.2 in
+    Follows-append RestAt ls (journal_from (after_lines G ls) cs) past one (subst (λ H. Follows RestAt (onto ls past) (journal_from H cs)) facts more)
 
 pub journal_of-rested : (cs : List Command) → IsPlaced cs → IsRested (journal_of cs)
-journal_of-rested cs placed = rests_from cs [] tt placed
+journal_of-rested cs placed = rests_from cs 0 [] ready_start placed

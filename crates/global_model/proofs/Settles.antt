@@ -9,27 +9,29 @@ use Rattle.xemem_language.specs.declared.command.Command.{Command}
 use Rattle.xemem_language.specs.declared.command.Command.TheVariants as commands
 use Rattle.xemem_language.specs.declared.line.Line.{Line}
 use Rattle.xemem_language.specs.declared.line.Line.TheVariants as lines
-use Rattle.global_model.specs.Facts.{Facts, after_line, after_lines, facts_at, facts_after, no_facts, is_living_enclave}
+use Rattle.global_model.specs.Facts.{Facts, after_line, after_lines, facts_after, no_facts, is_living_enclave}
 use Rattle.global_model.specs.Channels.{is_neighbour, was_born, waiting_bytes, arriving}
 use Rattle.enclave_rules.specs.View.{View}
 use Rattle.global_model.specs.Views.{view_of}
-use Rattle.enclave_rules.specs.Steps.{record_lines}
+use Rattle.enclave_rules.specs.Steps.{record_lines, handled_lines}
 use Rattle.global_model.specs.Refusals.{refusal_of}
 use Rattle.xemem_language.specs.Ranges.{IsInRange}
 use Rattle.global_model.specs.Place.{may_stand, IsPlacedAfter, IsPlaced}
-use Rattle.global_model.specs.Due.{got_lines, deliver_lines, next_rest, first_waiting, settle_end, settle_from, command_lines, step_lines, journal_of}
-use Rattle.global_model.specs.Journals.{is_delivery, deliveries_in, onto}
+use Rattle.global_model.specs.Due.{got_lines, deliver_lines, next_rest, first_waiting, settle_end, settle_from, command_lines, journal_of}
+use Rattle.global_model.specs.Journals.{is_delivery, deliveries_in}
 use Rattle.global_model.specs.Flow.{IsTree, IsFlowing}
 use Rattle.global_model.specs.Rest.{IsAtRest, EndsSettle}
-use Rattle.global_model.proofs.Pasts.{after_lines-append, facts_at-onto, facts_by-more}
-use Rattle.global_model.proofs.Tree.{near-turned, near_born}
-use Rattle.global_model.proofs.Ways.{AllName}
+use Rattle.global_model.proofs.Pasts.{after_lines-append, facts_by-more}
+use Rattle.global_model.proofs.Tree.{AllLive, live_lines, near-turned, near_born, tree_lives}
+use Rattle.global_model.proofs.Rows.{AllRows}
 use Rattle.global_model.proofs.Writes.{EachIs, each-append, each_either, writes_record}
 use Rattle.global_model.proofs.Plain.{each-weaker}
-use Rattle.global_model.proofs.Arriving.{IsSound, sound_arriving, arriving_sound}
+use Rattle.global_model.specs.Apt.{NothingArrives}
+use Rattle.global_model.proofs.Sound.{IsSound, sound_line, sound_flowing}
+use Rattle.global_model.proofs.Turns.{begin_turn, end_turn, lives_in}
 use Rattle.global_model.proofs.Waiting.{IsWaiting, first_waits, first_some, rest_waits, none_rests, rests_none}
 use Rattle.global_model.proofs.Deliveries.{settle_at, settle_up_to}
-use Rattle.global_model.proofs.Carried.{journal_of-sound, journal_of-counted}
+use Rattle.global_model.proofs.Commands.{runs_after, sound_after}
 
 -- ---- how many deliveries lines tell
 
@@ -53,7 +55,7 @@ no_deliveries (l ∷ ls) each = rw (each.0.0) (no_deliveries ls each.1)
 
 others_record : (v : View) (from : Enclave) (r : Record) → EachIs IsOther (record_lines v from r)
 others_record v from r =
-    let all : (rows : List (ℕ × Enclave)) → AllName (λ x. Unit {0}) rows = λ rows k d lt. tt in
+    let all : (rows : List (ℕ × Enclave)) → AllRows (λ x. Unit {0}) rows = λ rows k d lt. tt in
     writes_record IsOther (λ x. Unit {0}) (λ r. Unit {0}) v
     (record {
       dropped = (refl, tt);
@@ -64,13 +66,13 @@ others_record v from r =
       route = λ d x near. (refl, tt);
       sent = λ x r near good. (refl, tt);
     })
-    from r (record { way = λ x is. tt; askers = all v.askers; backs = all v.backs }) tt
+    from r (record { way = λ x is. tt; askers = all v.ways.askers; backs = all v.ways.backs }) tt
     (record { here = tt; register = tt; admit = tt; passed = tt })
 
 others_got : (G : Facts) (x y : Enclave) (rs : List Record) → EachIs IsOther (got_lines G x y rs)
 others_got G x y [] = tt
 others_got G x y (r ∷ rs) =
-    let own = lines.Got x y ∷ record_lines (view_of G y) x r in
+    let own = handled_lines (view_of G y) x r in
     each-append IsOther own (got_lines (after_lines G own) x y rs) ((refl, tt), others_record (view_of G y) x r)
     (others_got (after_lines G own) x y rs)
 
@@ -109,22 +111,22 @@ settled_here left made G is all =
     let same : made ≡ made + 0 = omega arith in
     record { before = []; is = is ∙ ap (λ n. settle_end G n ∷ []) same; inner = tt; few = omega arith; all = all }
 
-pub settled_by : (left made : ℕ) (G : Facts) → IsSettled left made G
-settled_by zero made G = settled_here zero made G refl (λ some. refl)
-settled_by (suc left) made G = by (first_waiting G) refl (settled_by left (made + 1))
+pub settled_by : (left made : ℕ) (G : Facts) → AllLive G → IsSettled left made G
+settled_by zero made G live = settled_here zero made G refl (λ some. refl)
+settled_by (suc left) made G live = by (first_waiting G) refl (settled_by left (made + 1))
   where
-    by : (o : Option (Enclave × Enclave)) → first_waiting G ≡ o → ((H : Facts) → IsSettled left (made + 1) H) → IsSettled (suc left) made G
+    by : (o : Option (Enclave × Enclave)) → first_waiting G ≡ o → ((H : Facts) → AllLive H → IsSettled left (made + 1) H) → IsSettled (suc left) made G
     by None is later = settled_here (suc left) made G (ap (settle_at left made G) is)
         (λ some. let clash : false ≡ true = sym (ap is_some is) ∙ some in absurd (cc))
     by (Some channel) is later =
         let own = deliver_lines G channel.0 channel.1 (next_rest G channel.0 channel.1) in
         let H = after_lines G own in
-        let more : IsSettled left (made + 1) H = later H in
+        let more : IsSettled left (made + 1) H = later H (live_lines own G live) in
         let before = own ++ more.before in
         let facts : after_lines H more.before ≡ after_lines G before = sym (after_lines-append G own more.before) in
         let count : deliveries_in before ≡ 1 + deliveries_in more.before
         = deliveries-append own more.before ∙ ap (λ n. n + deliveries_in more.before)
-        (one_delivery G channel.0 channel.1 (next_rest G channel.0 channel.1) (first_some G channel.0 channel.1 is)) in
+        (one_delivery G channel.0 channel.1 (next_rest G channel.0 channel.1) (first_some G channel.0 channel.1 live is)) in
         let number : made + 1 + deliveries_in more.before ≡ made + deliveries_in before = omega (arith, count) in
         let end : settle_end (after_lines H more.before) (made + 1 + deliveries_in more.before) ≡ settle_end (after_lines G before)
         (made + deliveries_in before)
@@ -149,9 +151,9 @@ after_end G made = by (is_some (first_waiting G))
     by true = refl
     by false = refl
 
--- the facts after a settle, from those before
+-- the facts after the lines of a settle
 abbrev pub settled_facts : ℕ → Facts → Facts
-settled_facts most G = after_lines G (step_lines G (commands.Settle most))
+settled_facts most G = after_lines G (settle_from most 0 G)
 
 -- are those before its last line
 pub settled_before : (G : Facts) (most : ℕ) (settled : IsSettled most 0 G) → settled_facts most G ≡ after_lines G settled.before
@@ -160,17 +162,14 @@ settled_before G most settled =
     ap (after_lines G) settled.is ∙ after_lines-append G settled.before (end ∷ [])
     ∙ after_end (after_lines G settled.before) (0 + deliveries_in settled.before)
 
-pub settle_flows : (past : List Line) (most : ℕ) → IsSound (facts_at past) → IsFlowing (settled_facts most (facts_at past))
-settle_flows past most sound =
-    let G = facts_at past in
-    let up = settle_up_to (is_neighbour G) most 0 past (sound_arriving 0 0 G sound) in
-    subst IsFlowing (facts_at-onto (settle_from most 0 G) past)
-    (arriving_sound (is_neighbour G) 0 0 (facts_at (onto (settle_from most 0 G) past)) up.arrives).flowing
+pub settle_flows : (G : Facts) (most : ℕ) → IsSound G → NothingArrives G → IsFlowing (settled_facts most G)
+settle_flows G most sound none =
+    let up = settle_up_to (is_neighbour G) (lives_in G) most 0 G (begin_turn 0 0 G sound none) in
+    sound_flowing (settled_facts most G) up.turn.sound (end_turn (is_neighbour G) (lives_in G) 0 0 (settled_facts most G) up.turn)
 
-ends_settle : (G : Facts) (most : ℕ) → IsFlowing (settled_facts most G)
-    → EndsSettle most (command_lines G (commands.Settle most)) (settled_facts most G)
-ends_settle G most flowing =
-    let settled : IsSettled most 0 G = settled_by most 0 G in
+ends_settle : (G : Facts) (most : ℕ) → AllLive G → IsFlowing (settled_facts most G) → EndsSettle most (settle_from most 0 G) (settled_facts most G)
+ends_settle G most live flowing =
+    let settled : IsSettled most 0 G = settled_by most 0 G live in
     let H = after_lines G settled.before in
     let made = deliveries_in settled.before in
     let number : 0 + made ≡ made = omega arith in
@@ -203,13 +202,12 @@ pub journal_of-ends : (cs : List Command) (most : ℕ) → IsPlaced cs
     → EndsSettle most (command_lines (facts_after (journal_of cs)) (commands.Settle most))
     (facts_after (journal_of (cs ++ commands.Settle most ∷ [])))
 journal_of-ends cs most placed =
+    let c = commands.Settle most in
     let G = facts_after (journal_of cs) in
-    let past = onto (journal_of cs) [] in
-    let same : facts_at past ≡ G = facts_at-onto (journal_of cs) [] in
-    let flowing : IsFlowing (settled_facts most G)
-    = subst (λ K. IsFlowing (settled_facts most K)) same (settle_flows past most (subst IsSound (sym same) (journal_of-sound cs placed))) in
-    subst (EndsSettle most (command_lines G (commands.Settle most))) (sym (facts_by-more no_facts cs (commands.Settle most)))
-    (ends_settle G most flowing)
+    let B = after_line G (lines.Do c) in
+    let ready = (runs_after cs placed).ready in
+    let flowing : IsFlowing (settled_facts most B) = settle_flows B most (sound_line G (lines.Do c) ready.sound tt) ready.got in
+    subst (EndsSettle most (command_lines G c)) (sym (facts_by-more no_facts cs c)) (ends_settle B most (tree_lives G ready.sound.tree) flowing)
 
 -- ---- its deliveries
 
@@ -223,7 +221,7 @@ pub journal_of-delivers : (cs : List Command) (x y : Enclave) → IsPlaced cs �
     ≡ deliver_lines (facts_after (journal_of cs)) x y (next_rest (facts_after (journal_of cs)) x y)
 journal_of-delivers cs x y placed is =
     let G = facts_after (journal_of cs) in
-    let tree : IsTree G = (journal_of-sound cs placed).flowing.tree in
+    let tree : IsTree G = (sound_after cs placed).tree in
     let found : IsWaiting G x y = first_waits G x y tree is in
     let born : was_born G x.0 ≡ true = (tree.enclaves x.0).known ∙ lt-ltb x.0 G.born (near_born G x.0 y.0 tree found.near) in
     ap (λ o. option_map_or (λ cause. lines.Refused cause ∷ []) o (deliver_lines G x y (next_rest G x y)))
@@ -241,12 +239,12 @@ pub journal_of-placed : (cs : List Command) (x y : Enclave) → IsPlaced cs → 
     → IsPlaced (cs ++ commands.Deliver x y (next_rest (facts_after (journal_of cs)) x y) ∷ [])
 journal_of-placed cs x y placed is =
     let G = facts_after (journal_of cs) in
-    let tree : IsTree G = (journal_of-sound cs placed).flowing.tree in
+    let tree : IsTree G = (sound_after cs placed).tree in
     let found : IsWaiting G x y = first_waits G x y tree is in
     let rest = rest_waits G x y found.some in
     let from : x.0 < G.born = near_born G x.0 y.0 tree found.near in
     let to : y.0 < G.born = near_born G y.0 x.0 tree (near-turned G y.0 x.0 ∙ found.near) in
-    let few : length cs ≤ 1 → G.born ≡ 0 = journal_of-counted cs placed in
+    let few : length cs ≤ 1 → G.born ≡ 0 = (runs_after cs placed).ready.unborn in
     let many : leb 2 (0 + length cs) ≡ true = le-leb 2 (0 + length cs) (by (length cs) G.born from few) in
     placed_after cs 0 (commands.Deliver x y (next_rest G x y)) placed (rw many refl)
     ((omega arith, omega (arith, from, tree.most)), (omega arith, omega (arith, to, tree.most)), (rest.some, omega (arith, rest.most)))

@@ -7,18 +7,16 @@ use Rattle.xm_num.specs.declared.Enclave.{Enclave}
 use Rattle.xemem_language.specs.declared.line.Line.{Line}
 use Rattle.xemem_language.specs.declared.line.Line.TheVariants as lines
 use Rattle.global_model.specs.Facts.{Facts}
-use Rattle.enclave_rules.specs.Blocks.{BlockFact, Absent, Free, Lent, Held}
+use Rattle.frame_pool.specs.declared.BlockState.{BlockState}
+use Rattle.frame_pool.specs.declared.BlockState.TheVariants as states
 use Rattle.enclave_rules.specs.View.{View}
 use Rattle.enclave_rules.specs.Steps.{told_lines, route_lines, state_line, state_lines, bytes_lines}
 use Rattle.global_model.specs.Due.{first_waiting, settle_end}
-use Rattle.global_model.proofs.Writes.{EachIs, each-append}
+use Rattle.global_model.proofs.Writes.{EachIs}
 
--- the lines that tell of deaths, waiting bytes, ways, blocks and the end of a settle have the property
+-- the lines that show waiting bytes, ways and blocks have the property
 pub record MayTell (P : Line → Type 0) : Type 0 where
-  pub told : (e d : Enclave) → P (lines.Told e d)
   pub bytes : (x y : Enclave) (at : ℕ) (bytes : List ℕ) → 1 ≤ length bytes → length bytes ≤ 32 → P (lines.Bytes x y at bytes)
-  pub settled : (made : ℕ) → P (lines.Settled made)
-  pub waiting : (made : ℕ) → P (lines.Waiting made)
   pub own : (e : Enclave) → P (lines.AtWayOwn e)
   pub none : (e : Enclave) → P (lines.AtWayNone e)
   pub way : (e over : Enclave) → P (lines.AtWay e over)
@@ -27,24 +25,24 @@ pub record MayTell (P : Line → Type 0) : Type 0 where
   pub lent : (b : Block) (e : Enclave) → P (lines.BlockLent b e)
   pub held : (b : Block) (e : Enclave) → P (lines.BlockHeld b e)
 
-module _ (P : Line → Type 0) (may : MayTell P) where
-  pub tells_told : (child : Enclave) (heard : List Enclave) → EachIs P (told_lines child heard)
-  tells_told child [] = tt
-  tells_told child (d ∷ heard) = (may.told child d, tells_told child heard)
+pub tells_told : (P : Line → Type 0) → ((e d : Enclave) → P (lines.Told e d)) → (child : Enclave) (heard : List Enclave) → EachIs P (told_lines child heard)
+tells_told P told child [] = tt
+tells_told P told child (d ∷ heard) = (told child d, tells_told P told child heard)
 
+pub tells_end : (P : Line → Type 0) → ((made : ℕ) → P (lines.Settled made)) → ((made : ℕ) → P (lines.Waiting made)) → (G : Facts) (made : ℕ) → P (settle_end G made)
+tells_end P settled waiting G made = by (is_some (first_waiting G))
+  where
+    by : (b : Bool) → P (if b then lines.Waiting made else lines.Settled made)
+    by true = waiting made
+    by false = settled made
+
+module _ (P : Line → Type 0) (may : MayTell P) where
   pub tells_bytes : (x y : Enclave) (most at : ℕ) (bytes : List ℕ) → EachIs P (bytes_lines x y most at bytes)
   tells_bytes x y zero at bytes = tt
   tells_bytes x y (suc most) at [] = tt
   tells_bytes x y (suc most) at (byte ∷ bytes) =
       let some = length-take 32 (byte ∷ bytes) in
       (may.bytes x y at _ (omega (arith, some)) (omega (arith, some)), tells_bytes x y most (at + 32) (drop 32 (byte ∷ bytes)))
-
-  pub tells_end : (G : Facts) (made : ℕ) → P (settle_end G made)
-  tells_end G made = by (is_some (first_waiting G))
-    where
-      by : (b : Bool) → P (if b then lines.Waiting made else lines.Settled made)
-      by true = may.waiting made
-      by false = may.settled made
 
   tells_way : (e : Enclave) (holder : Bool) (way : Option Enclave)
       → P (if holder then lines.AtWayOwn e else option_map_or (λ over. lines.AtWay e over) way (lines.AtWayNone e))
@@ -57,14 +55,13 @@ module _ (P : Line → Type 0) (may : MayTell P) where
   tells_rows e (row ∷ rows) = (may.route e (record { 0 = row.0 }) row.1, tells_rows e rows)
 
   pub tells_routes : (v : View) → EachIs P (route_lines v)
-  tells_routes v = (tells_way v.me v.holder v.way, tells_rows v.me v.routes)
+  tells_routes v = (tells_way v.me v.core.holder v.ways.way, tells_rows v.me v.ways.routes)
 
-  tells_state : (b : ℕ) (s : BlockFact) → EachIs P (state_line b s)
-  tells_state b Absent = tt
-  tells_state b Free = (may.free (record { 0 = b }), tt)
-  tells_state b (Lent e) = (may.lent (record { 0 = b }) (record { 0 = e }), tt)
-  tells_state b (Held e) = (may.held (record { 0 = b }) (record { 0 = e }), tt)
+  tells_state : (b : ℕ) (s : BlockState) → P (state_line b s)
+  tells_state b states.Free = may.free (record { 0 = b })
+  tells_state b (states.Lent e) = may.lent (record { 0 = b }) e
+  tells_state b (states.Held e) = may.held (record { 0 = b }) e
 
-  pub tells_states : (b : ℕ) (ss : List BlockFact) → EachIs P (state_lines b ss)
+  pub tells_states : (b : ℕ) (ss : List BlockState) → EachIs P (state_lines b ss)
   tells_states b [] = tt
-  tells_states b (s ∷ ss) = each-append P (state_line b s) (state_lines (b + 1) ss) (tells_state b s) (tells_states (b + 1) ss)
+  tells_states b (s ∷ ss) = (tells_state b s, tells_states (b + 1) ss)

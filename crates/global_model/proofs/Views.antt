@@ -1,22 +1,130 @@
--- The lines that an enclave writes for records change its view by themselves, and no other enclave's.
-use Rattle.std.proofs.Common.{◌≡◌, ◌≢◌, List, [], ◌∷◌, ◌++◌, true, false, cond, eqb, refl, sym, ap, ◌∙◌, subst}
+-- Lines that are about one enclave change its view by themselves, and no other's; so do those that it writes for records.
+use Rattle.std.proofs.Common.{◌≡◌, ◌≢◌, List, [], ◌∷◌, Bool, true, false, cond, eqb, refl, sym, ap, ◌∙◌, subst}
 use Rattle.std.proofs.lemmas.Bool.{eq-eqb, ne_eqb}
 use Rattle.xm_num.specs.declared.Enclave.{Enclave}
+use Rattle.xm_num.specs.declared.Frame.{Frame}
 use Rattle.xemem_language.specs.declared.record.Record.{Record}
 use Rattle.xemem_language.specs.declared.line.Line.{Line}
 use Rattle.xemem_language.specs.declared.line.Line.TheVariants as lines
-use Rattle.global_model.specs.Facts.{Facts, is_living_enclave, after_line, after_lines}
-use Rattle.enclave_rules.specs.View.{View, own_line, own_lines, is_at, seen_lines, IsOf, AreOf}
-use Rattle.global_model.specs.Views.{view_of}
-use Rattle.enclave_rules.specs.Steps.{record_lines, lines_of_records}
-use Rattle.global_model.specs.Due.{got_lines}
+use Rattle.enclave_rules.specs.Core.{is_guest}
+use Rattle.enclave_rules.specs.Hand.{Hand, Reads}
+use Rattle.enclave_rules.specs.View.{View, own_line, own_lines, is_at, IsOf, AreOf, IsAbout, AreAbout}
+use Rattle.enclave_rules.specs.Steps.{record_lines, handled_lines, after_record, lines_of_records}
+use Rattle.global_model.specs.Facts.{Facts, after_line, after_lines}
+use Rattle.global_model.specs.Views.{seen_line, seen_lines}
+use Rattle.global_model.proofs.Sound.{local_same}
 use Rattle.global_model.proofs.Writes.{each-append, MayWrite, KnowsNear, MaySend, writes_record}
-use Rattle.global_model.proofs.Shown.{IsShown, shown_admitted, shown_asked, shown_way, shown_back, shown_route, admitted-living}
+
+-- ---- lines about one enclave
+
+-- what they leave alone
+pub record Keeps (v w : View) : Type 0 where
+  pub me : w.me ≡ v.me
+  pub kind : w.core.kind ≡ v.core.kind
+
+about_keeps : (hand : Hand) (y : Enclave) (line : Line) (v : View) → IsAbout y line → Keeps v (own_line hand v line)
+about_keeps hand y (lines.Born e kind parent ns blocks) v about = absurd about
+about_keeps hand y _ v about = record { me = refl; kind = refl }
+
+about_hand : (G : Facts) (y : Enclave) (line : Line) → IsAbout y line → (after_line G line).hand ≡ G.hand
+about_hand G y (lines.Do command) about = absurd about
+about_hand G y (lines.Took a b count) about = absurd about
+about_hand G y (lines.Got a b) about = absurd about
+about_hand G y _ about = refl
+
+-- the enclave, which is no virtual machine, sees its own line
+either_same : (b : Bool) (v : View) → cond b v v ≡ v
+either_same true v = refl
+either_same false v = refl
+
+mine : (e y : Enclave) (v w : View) → e ≡ y → cond (eqb e.0 y.0) v w ≡ v
+mine e y v w same = rw (eq-eqb e.0 y.0 (ap (λ a. a.0) same)) refl
+
+about_own : (G : Facts) (v : View) (line : Line) → is_guest v.core.kind ≡ false → IsAbout v.me line → seen_line G v line ≡ own_line G.hand v line
+about_own G v (lines.Do command) plain about = absurd about
+about_own G v (lines.Born e kind parent ns blocks) plain about = absurd about
+about_own G v (lines.Took a b count) plain about = absurd about
+about_own G v (lines.Got a b) plain about = absurd about
+about_own G v (lines.End a b torn) plain about = absurd about
+about_own G v (lines.Told e dead) plain about = mine e v.me _ _ about
+about_own G v (lines.Admitted e) plain about = mine e v.me _ _ about
+about_own G v (lines.Proc e p uid gid) plain about = mine e v.me _ _ about
+about_own G v (lines.Alloc e p page frames) plain about =
+    mine e v.me _ _ about ∙ ap (λ (fs : List Frame). own_line G.hand v (lines.Alloc e p page fs)) (local_same v.core.kind v.core.blocks frames plain)
+about_own G v (lines.Asked e by) plain about = mine e v.me _ _ about
+about_own G v (lines.Way e over) plain about = mine e v.me _ _ about
+about_own G v (lines.Back e of over) plain about = mine e v.me _ _ about
+about_own G v (lines.Route e of over) plain about = mine e v.me _ _ about
+about_own G v line plain about = either_same (is_at v.me line) v
+
+theirs : (e y : Enclave) (me : Enclave) (v w : View) → e ≡ y → me.0 ≢ y.0 → cond (eqb e.0 me.0) v w ≡ w
+theirs e y me v w same apart = let other : eqb e.0 me.0 ≡ false = ne_eqb e.0 me.0 (λ is. apart (sym is ∙ ap (λ a. a.0) same)) in rw other refl
+
+about_other : (G : Facts) (y : Enclave) (w : View) (line : Line) → IsAbout y line → w.me.0 ≢ y.0 → seen_line G w line ≡ w
+about_other G y w (lines.Do command) about apart = absurd about
+about_other G y w (lines.Born e kind parent ns blocks) about apart = absurd about
+about_other G y w (lines.Took a b count) about apart = absurd about
+about_other G y w (lines.Got a b) about apart = absurd about
+about_other G y w (lines.End a b torn) about apart = absurd about
+about_other G y w (lines.Told e dead) about apart = theirs e y w.me _ w about apart
+about_other G y w (lines.Admitted e) about apart = theirs e y w.me _ w about apart
+about_other G y w (lines.Proc e p uid gid) about apart = theirs e y w.me _ w about apart
+about_other G y w (lines.Alloc e p page frames) about apart = theirs e y w.me _ w about apart
+about_other G y w (lines.Asked e by) about apart = theirs e y w.me _ w about apart
+about_other G y w (lines.Way e over) about apart = theirs e y w.me _ w about apart
+about_other G y w (lines.Back e of over) about apart = theirs e y w.me _ w about apart
+about_other G y w (lines.Route e of over) about apart = theirs e y w.me _ w about apart
+about_other G y w line about apart = either_same (is_at w.me line) w
+
+pub seen_own : (ls : List Line) (G : Facts) (v : View) → is_guest v.core.kind ≡ false → AreAbout v.me ls → seen_lines G v ls ≡ own_lines G.hand v ls
+seen_own [] G v plain about = refl
+seen_own (l ∷ ls) G v plain about =
+    let w = own_line G.hand v l in
+    let keeps : Keeps v w = about_keeps G.hand v.me l v about.0 in
+    ap (λ u. seen_lines (after_line G l) u ls) (about_own G v l plain about.0)
+    ∙ seen_own ls (after_line G l) w (ap is_guest keeps.kind ∙ plain) (subst (λ e. AreAbout e ls) (sym keeps.me) about.1)
+    ∙ ap (λ hand. own_lines hand w ls) (about_hand G v.me l about.0)
+
+pub seen_other : (ls : List Line) (G : Facts) (y : Enclave) (w : View) → AreAbout y ls → w.me.0 ≢ y.0 → seen_lines G w ls ≡ w
+seen_other [] G y w about apart = refl
+seen_other (l ∷ ls) G y w about apart =
+    ap (λ u. seen_lines (after_line G l) u ls) (about_other G y w l about.0 apart) ∙ seen_other ls (after_line G l) y w about.1 apart
+
+pub keeps_lines : (hand : Hand) (y : Enclave) (ls : List Line) (v : View) → AreAbout y ls → Keeps v (own_lines hand v ls)
+keeps_lines hand y [] v about = record { me = refl; kind = refl }
+keeps_lines hand y (l ∷ ls) v about =
+    let one : Keeps v (own_line hand v l) = about_keeps hand y l v about.0 in
+    let more = keeps_lines hand y ls (own_line hand v l) about.1 in
+    record { me = more.me ∙ one.me; kind = more.kind ∙ one.kind }
+
+pub hand_lines : (G : Facts) (y : Enclave) (ls : List Line) → AreAbout y ls → (after_lines G ls).hand ≡ G.hand
+hand_lines G y [] about = refl
+hand_lines G y (l ∷ ls) about = hand_lines (after_line G l) y ls about.1 ∙ about_hand G y l about.0
 
 -- ---- the lines that an enclave writes for a record
 
+knows_all : (v : View) → KnowsNear (λ x. Unit {0}) v
+knows_all v = record { way = λ x is. tt; askers = λ k d lt. tt; backs = λ k d lt. tt }
+
+sends_all : (v : View) (r : Record) → MaySend (λ sent. Unit {0}) v r
+sends_all v r = record { here = tt; register = tt; admit = tt; passed = tt }
+
+pub about_record : (v : View) (from : Enclave) (r : Record) → AreAbout v.me (record_lines v from r)
+about_record v from r = writes_record (IsAbout v.me) (λ x. Unit {0}) (λ sent. Unit {0}) v own from r (knows_all v) tt (sends_all v r)
+  where
+    own : MayWrite (IsAbout v.me) (λ x. Unit {0}) (λ sent. Unit {0}) v
+    own = record {
+      dropped = tt;
+      admitted = refl;
+      asked = λ x near. refl;
+      way = λ x near. refl;
+      back = λ d x near. refl;
+      route = λ d x near. refl;
+      sent = λ x sent near good. tt;
+    }
+
 of_record : (v : View) (from : Enclave) (r : Record) → AreOf v.me (record_lines v from r)
-of_record v from r = writes_record (IsOf v.me) (λ x. Unit {0}) (λ sent. Unit {0}) v own from r known tt sends
+of_record v from r = writes_record (IsOf v.me) (λ x. Unit {0}) (λ sent. Unit {0}) v own from r (knows_all v) tt (sends_all v r)
   where
     own : MayWrite (IsOf v.me) (λ x. Unit {0}) (λ sent. Unit {0}) v
     own = record {
@@ -29,109 +137,9 @@ of_record v from r = writes_record (IsOf v.me) (λ x. Unit {0}) (λ sent. Unit {
       sent = λ x sent near good. refl;
     }
 
-    known : KnowsNear (λ x. Unit {0}) v
-    known = record { way = λ x is. tt; askers = λ k d lt. tt; backs = λ k d lt. tt }
-
-    sends : MaySend (λ sent. Unit {0}) v r
-    sends = record { here = tt; register = tt; admit = tt; passed = tt }
-
--- the first record's lines
-of_own : (v : View) (from : Enclave) (r : Record) → AreOf v.me (lines.Got from v.me ∷ record_lines v from r)
-of_own v from r = (refl, of_record v from r)
-
--- ---- what they leave of the facts
-
--- what a line leaves of the enclave: its view, and that it lives
-record Leaves (y : Enclave) (G : Facts) (v : View) : Type 0 where
-  view : view_of G y ≡ v
-  living : is_living_enclave (G.enclave y.0) ≡ true
-
--- a line of the enclave that changes no enclave's fact, by what it shows
-seen_leaves : (y e : Enclave) (line : Line) (G : Facts) → e ≡ y → is_at y line ≡ eqb e.0 y.0 → IsShown G y line
-    → is_living_enclave ((after_line G line).enclave y.0) ≡ true → Leaves y (after_line G line) (own_line (view_of G y) line)
-seen_leaves y e line G of place view living =
-    let here : is_at y line ≡ true = place ∙ eq-eqb e.0 y.0 (ap (λ a. a.0) of) in
-    record { view = rw here at view; living = living }
-
-line_leaves : (y : Enclave) (line : Line) (G : Facts) → IsOf y line → is_living_enclave (G.enclave y.0) ≡ true → Leaves y (after_line G line) (own_line (view_of G y) line)
-line_leaves y (lines.Admitted e) G of living =
-    let view = shown_admitted G e y (subst (λ a. is_living_enclave (G.enclave a.0) ≡ true) (sym of) living) in
-    seen_leaves y e (lines.Admitted e) G of refl view (admitted-living G e y.0 ∙ living)
-line_leaves y (lines.Asked e by) G of living = seen_leaves y e (lines.Asked e by) G of refl (shown_asked G e by y) living
-line_leaves y (lines.Way e over) G of living = seen_leaves y e (lines.Way e over) G of refl (shown_way G e over y) living
-line_leaves y (lines.Back e d over) G of living = seen_leaves y e (lines.Back e d over) G of refl (shown_back G e d over y) living
-line_leaves y (lines.Route e d over) G of living = seen_leaves y e (lines.Route e d over) G of refl (shown_route G e d over y) living
-line_leaves y (lines.Sent a b r) G of living = record { view = refl; living = living }
-line_leaves y (lines.Got a b) G of living = record { view = refl; living = living }
-line_leaves y (lines.Dropped e) G of living = record { view = refl; living = living }
-line_leaves y _ G of living = absurd of
-
-lines_leave : (y : Enclave) (ls : List Line) (G : Facts) → AreOf y ls → is_living_enclave (G.enclave y.0) ≡ true → Leaves y (after_lines G ls) (own_lines (view_of G y) ls)
-lines_leave y [] G of living = record { view = refl; living = living }
-lines_leave y (l ∷ ls) G of living =
-    let one = line_leaves y l G of.0 living in
-    let more = lines_leave y ls (after_line G l) of.1 one.living in
-    record { view = more.view ∙ ap (λ v. own_lines v ls) one.view; living = more.living }
-
--- the records are answered by the view alone
-pub got_lines-records : (G : Facts) (x y : Enclave) (rs : List Record) → is_living_enclave (G.enclave y.0) ≡ true → got_lines G x y rs ≡ lines_of_records (view_of G y) x rs
-got_lines-records G x y [] living = refl
-got_lines-records G x y (r ∷ rs) living =
-    let own = lines.Got x y ∷ record_lines (view_of G y) x r in
-    let left : Leaves y (after_lines G own) (own_lines (view_of G y) own) = lines_leave y own G (of_own (view_of G y) x r) living in
-    ap (λ ls. own ++ ls) (got_lines-records (after_lines G own) x y rs left.living ∙ ap (λ v. lines_of_records v x rs) left.view)
-
--- ---- the lines of records are all at the enclave
-
-of_at : (y z : Enclave) (line : Line) → IsOf y line → is_at z line ≡ eqb y.0 z.0
-of_at y z (lines.Admitted e) of = ap (λ a. eqb a.0 z.0) of
-of_at y z (lines.Asked e by) of = ap (λ a. eqb a.0 z.0) of
-of_at y z (lines.Way e over) of = ap (λ a. eqb a.0 z.0) of
-of_at y z (lines.Sent a b r) of = ap (λ a. eqb a.0 z.0) of
-of_at y z (lines.Got a b) of = ap (λ a. eqb a.0 z.0) of
-of_at y z (lines.Dropped e) of = ap (λ a. eqb a.0 z.0) of
-of_at y z (lines.Back e d over) of = ap (λ a. eqb a.0 z.0) of
-of_at y z (lines.Route e d over) of = ap (λ a. eqb a.0 z.0) of
-of_at y z _ of = absurd of
-
-me_stays : (y : Enclave) (line : Line) (v : View) → IsOf y line → (own_line v line).me ≡ v.me
-me_stays y (lines.Admitted e) v of = refl
-me_stays y (lines.Asked e by) v of = refl
-me_stays y (lines.Way e over) v of = refl
-me_stays y (lines.Sent a b r) v of = refl
-me_stays y (lines.Got a b) v of = refl
-me_stays y (lines.Dropped e) v of = refl
-me_stays y (lines.Back e d over) v of = refl
-me_stays y (lines.Route e d over) v of = refl
-me_stays y _ v of = absurd of
-
-me_stays_on : (y : Enclave) (ls : List Line) (v : View) → AreOf y ls → (own_lines v ls).me ≡ v.me
-me_stays_on y [] v of = refl
-me_stays_on y (l ∷ ls) v of = me_stays_on y ls (own_line v l) of.1 ∙ me_stays y l v of.0
-
 pub of_records : (v : View) (x : Enclave) (rs : List Record) → AreOf v.me (lines_of_records v x rs)
 of_records v x [] = tt
 of_records v x (r ∷ rs) =
-    let own = lines.Got x v.me ∷ record_lines v x r in
-    let next = own_lines v own in
-    each-append (IsOf v.me) own (lines_of_records next x rs) (of_own v x r) (subst (λ e. AreOf e (lines_of_records next x rs)) (me_stays_on v.me own v (of_own v x r)) (of_records next x rs))
-
-seen_own : (ls : List Line) (v : View) → AreOf v.me ls → seen_lines v ls ≡ own_lines v ls
-seen_own [] v of = refl
-seen_own (l ∷ ls) v of =
-    let at : is_at v.me l ≡ true = of_at v.me v.me l of.0 ∙ eq-eqb v.me.0 v.me.0 refl in
-    let one : cond (is_at v.me l) (own_line v l) v ≡ own_line v l = rw at refl in
-    ap (λ w. seen_lines w ls) one ∙ seen_own ls (own_line v l) (subst (λ e. AreOf e ls) (sym (me_stays v.me l v of.0)) of.1)
-
-seen_elsewhere : (y : Enclave) (ls : List Line) (w : View) → AreOf y ls → w.me.0 ≢ y.0 → seen_lines w ls ≡ w
-seen_elsewhere y [] w of apart = refl
-seen_elsewhere y (l ∷ ls) w of apart =
-    let far : is_at w.me l ≡ false = of_at y w.me l of.0 ∙ ne_eqb y.0 w.me.0 (λ same. apart (sym same)) in
-    let one : cond (is_at w.me l) (own_line w l) w ≡ w = rw far refl in
-    ap (λ v. seen_lines v ls) one ∙ seen_elsewhere y ls w of.1 apart
-
-pub records-own : (v : View) (x : Enclave) (rs : List Record) → seen_lines v (lines_of_records v x rs) ≡ own_lines v (lines_of_records v x rs)
-records-own v x rs = seen_own (lines_of_records v x rs) v (of_records v x rs)
-
-pub records-others : (v w : View) (x : Enclave) (rs : List Record) → w.me.0 ≢ v.me.0 → seen_lines w (lines_of_records v x rs) ≡ w
-records-others v w x rs = seen_elsewhere v.me (lines_of_records v x rs) w (of_records v x rs)
+    let next = after_record v x r in
+    let keeps : Keeps v next = keeps_lines (Reads r) v.me (record_lines v x r) v (about_record v x r) in
+    each-append (IsOf v.me) (handled_lines v x r) (lines_of_records next x rs) (refl, of_record v x r) (subst (λ e. AreOf e (lines_of_records next x rs)) keeps.me (of_records next x rs))

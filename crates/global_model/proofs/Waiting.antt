@@ -1,17 +1,17 @@
 -- What waits: the rest of a record, the first channel in which something waits, and rest.
-use Rattle.std.proofs.Common.{◌≡◌, ◌+◌, ◌-◌, ◌<◌, ◌≤◌, ℕ, zero, suc, List, [], ◌∷◌, length, Bool, true, false, cond, not, eqb, leb, ltb, is_some, filter, flat_map, slice_get, Option, None, Some, inl, inr, refl, sym, ap, ◌∙◌, subst, arith, length-drop}
+use Rattle.std.proofs.Common.{◌≡◌, ◌+◌, ◌-◌, ◌<◌, ◌≤◌, ℕ, zero, suc, List, [], ◌∷◌, length, Bool, true, false, cond, not, ◌&&◌, ◌||◌, eqb, leb, ltb, is_some, filter, flat_map, slice_get, Option, None, Some, inl, inr, refl, sym, ap, ◌∙◌, subst, arith}
 use Rattle.std.specs.List.{AllByRecursion, range_with_len}
-use Rattle.std.proofs.lemmas.Bool.{eqb-true, eqb-false, eq-eqb, and_parts, leb-true, leb-false, ltb-true, ltb-false, lt-ltb, or_cases}
+use Rattle.std.proofs.lemmas.Bool.{eqb-true, eqb-false, eq-eqb, and_parts, leb-true, leb-false, ltb-true, ltb-false, lt-ltb, or_cases, both_ways, false_from_ne_true}
 use Rattle.xm_num.specs.declared.Enclave.{Enclave}
 use Rattle.xemem_language.specs.declared.record.Record.{Record}
-use Rattle.xemem_wire.specs.Spelling.{spelling_of, header_of, spellings_of}
-use Rattle.global_model.specs.Facts.{Facts, EnclaveFact, fact_of, has_parent, is_living_enclave}
-use Rattle.global_model.specs.Channels.{is_child_of, is_neighbour, size_of, waiting_bytes}
+use Rattle.xemem_wire.specs.Spelling.{spelling_of, header_of}
+use Rattle.global_model.specs.Facts.{Facts, EnclaveFact, fact_of, has_parent, lives_at, no_channel}
+use Rattle.global_model.specs.Channels.{end_waits, is_child_of, is_neighbour, size_of, waiting_bytes, waiting_of}
 use Rattle.global_model.specs.Flow.{IsTree, IsFlowing}
 use Rattle.global_model.specs.Due.{rest_of_record, next_rest, channels_of, waits, first_waiting}
 use Rattle.global_model.specs.Rest.{IsAtRest}
-use Rattle.global_model.proofs.Flow.{bytes_of, bytes-cons}
-use Rattle.global_model.proofs.Tree.{child_under, is_child, child_near, parent_near, born_living}
+use Rattle.global_model.proofs.Flow.{bytes_of, bytes-cons, waiting_few, waiting_size}
+use Rattle.global_model.proofs.Tree.{AllLive, child_near, child_under, is_child, no_end, parent_near, tree_lives}
 
 -- ---- the rest of a record
 
@@ -116,8 +116,23 @@ none_passes {X = X} test (y ∷ ys) is = by (test y) refl (none_passes test ys) 
 -- something waits between neighbours, of which the receiver lives
 pub record IsWaiting (G : Facts) (x y : Enclave) : Type 0 where
   pub near : is_neighbour G x.0 y.0 ≡ true
-  pub living : is_living_enclave (G.enclave y.0) ≡ true
+  pub living : lives_at G y.0 ≡ true
   pub some : 0 < length (waiting_bytes G x.0 y.0)
+
+-- where bytes wait, the receiver lives
+waiting_living : (G : Facts) (x y : ℕ) → 0 < length (waiting_bytes G x y) → lives_at G y ≡ true
+waiting_living G x y = by (lives_at G y)
+  where
+    by : (b : Bool) → 0 < length (cond b (waiting_of (G.channel x y)) []) → b ≡ true
+    by true some = refl
+    by false some = absurd (omega (arith, some))
+
+-- as long as all live, bytes wait where something does
+bytes_wait : (G : Facts) (x y : ℕ) → AllLive G → (ltb 0 (length (waiting_bytes G x y)) || end_waits G x y) ≡ true → 0 < length (waiting_bytes G x y)
+bytes_wait G x y all is = elim (or_cases (ltb 0 (length (waiting_bytes G x y))) (end_waits G x y) is) [
+  | inl bytes ↦ ltb-true 0 (length (waiting_bytes G x y)) bytes
+  | inr end ↦ absurd (both_ways (end_waits G x y) (no_end G x y all) end)
+]
 
 pub first_waits : (G : Facts) (x y : Enclave) → IsTree G → first_waiting G ≡ Some (x, y) → IsWaiting G x y
 first_waits G x y tree is =
@@ -125,15 +140,17 @@ first_waits G x y tree is =
     let each = channels_near G tree 1 (G.born - 1) (omega arith) (λ k lt. omega (arith, lt)) in
     let first : IsFirst (λ channel. is_neighbour G channel.0.0 channel.1.0 ≡ true) (waits G) (x, y)
     = first_passes (λ channel. is_neighbour G channel.0.0 channel.1.0 ≡ true) (waits G) channels (x, y) each is in
-    let parts = and_parts (is_living_enclave (G.enclave y.0)) (ltb 0 (length (waiting_bytes G x.0 y.0))) first.passes in
-    record { near = first.has; living = parts.0; some = ltb-true 0 (length (waiting_bytes G x.0 y.0)) parts.1 }
+    let some = bytes_wait G x.0 y.0 (tree_lives G tree) first.passes in
+    record { near = first.has; living = waiting_living G x.0 y.0 some; some = some }
 
 -- what a delivery of a settle takes there
 pub rest_waits : (G : Facts) (x y : Enclave) → 0 < length (waiting_bytes G x.0 y.0)
     → IsRest (G.channel x.0 y.0).taken (G.channel x.0 y.0).sent (next_rest G x y)
 rest_waits G x y some =
     let channel = G.channel x.0 y.0 in
-    rest_is channel.taken channel.sent (omega (arith, some, length-drop channel.taken (spellings_of channel.sent)))
+    let few = waiting_few G x.0 y.0 in
+    let rest = rest_is channel.taken channel.sent (omega (arith, some, few, waiting_size channel)) in
+    record { some = omega (arith, some, rest.some); within = omega (arith, rest.within); most = omega (arith, rest.most) }
 
 -- ---- rest
 
@@ -141,57 +158,76 @@ no_bytes : (bytes : List ℕ) → ltb 0 (length bytes) ≡ false → bytes ≡ [
 no_bytes [] none = refl
 no_bytes (byte ∷ bytes) none = let le : length (byte ∷ bytes) ≤ 0 = ltb-false 0 (length (byte ∷ bytes)) none in absurd (omega (arith, le))
 
-idle : (G : Facts) (x y : Enclave) → is_living_enclave (G.enclave y.0) ≡ true → waits G (x, y) ≡ false → waiting_bytes G x.0 y.0 ≡ []
-idle G x y living is = no_bytes (waiting_bytes G x.0 y.0) (rw living at is)
+-- nothing waits in the channel
+record IsIdle (G : Facts) (x y : ℕ) : Type 0 where
+  bytes : waiting_bytes G x y ≡ []
+  end : end_waits G x y ≡ false
 
--- nothing waits in the channels of a child with its parent
-record IsIdle (G : Facts) (c p : ℕ) : Type 0 where
-  up : waiting_bytes G c p ≡ []
-  down : waiting_bytes G p c ≡ []
+idle : (G : Facts) (x y : Enclave) → waits G (x, y) ≡ false → IsIdle G x.0 y.0
+idle G x y is = by (ltb 0 (length (waiting_bytes G x.0 y.0))) refl is
+  where
+    by : (b : Bool) → ltb 0 (length (waiting_bytes G x.0 y.0)) ≡ b → (b || end_waits G x.0 y.0) ≡ false → IsIdle G x.0 y.0
+    by true some none = cc
+    by false some none = record { bytes = no_bytes (waiting_bytes G x.0 y.0) some; end = none }
 
-child_idle : (G : Facts) (c p : ℕ) → IsTree G → first_waiting G ≡ None → is_child_of G c p ≡ true → IsIdle G c p
+-- nor in those of a child with its parent
+child_idle : (G : Facts) (c p : ℕ) → IsTree G → first_waiting G ≡ None → is_child_of G c p ≡ true → IsIdle G c p × IsIdle G p c
 child_idle G c p tree none is =
     let under = child_under G c p tree is in
     let parent = (fact_of (G.enclave c)).parent in
     let same : parent.0 ≡ p = parent_is p (G.enclave c) (and_parts (not (eqb c 0)) (has_parent p (G.enclave c)) is).1 in
     let each = none_passes (waits G) (flat_map (channels_of G) (range_with_len 1 (G.born - 1))) none in
     let both = channel_each G (λ channel. waits G channel ≡ false) 1 (G.born - 1) c (omega (arith, under.some))
-    (omega (arith, under.below)) each in
-    let above : is_living_enclave (G.enclave parent.0) ≡ true
-    = born_living G parent.0 tree (omega (arith, under.above, under.below, same)) in
-    let here : is_living_enclave (G.enclave c) ≡ true = born_living G c tree under.below in
-    record {
-      up = subst (λ q. waiting_bytes G c q ≡ []) same (idle G (record { 0 = c }) parent above both.0);
-      down = subst (λ q. waiting_bytes G q c ≡ []) same (idle G parent (record { 0 = c }) here both.1);
-    }
+    (omega (arith, under.below)) each in (
+      subst (IsIdle G c) same (idle G (record { 0 = c }) parent both.0),
+      subst (λ q. IsIdle G q c) same (idle G parent (record { 0 = c }) both.1),
+    )
+
+-- nor in one over which nothing was sent, and that isn't a child's
+far_idle : (G : Facts) (x y : ℕ) → G.channel x y ≡ no_channel → is_child_of G x y ≡ false → IsIdle G x y
+far_idle G x y silent far = record { bytes = by (lives_at G y); end = ap (λ b. lives_at G y && (b && (not (lives_at G x) && not (G.channel x y).end_taken))) far ∙ none (lives_at G y) }
+  where
+    by : (b : Bool) → cond b (waiting_of (G.channel x y)) [] ≡ []
+    by true = ap waiting_of silent
+    by false = refl
+
+    none : (b : Bool) → (b && false) ≡ false
+    none true = refl
+    none false = refl
 
 -- where nothing waits in the channels of the children, nothing waits at all
 pub none_rests : (G : Facts) → IsFlowing G → first_waiting G ≡ None → IsAtRest G
-none_rests G flowing none x y = by (is_neighbour G x y) refl
+none_rests G flowing none x y = let idle = by (is_neighbour G x y) refl in (idle.bytes, idle.end)
   where
-    by : (b : Bool) → is_neighbour G x y ≡ b → waiting_bytes G x y ≡ []
-    by false far = rw (flowing.apart x y far) refl
+    by : (b : Bool) → is_neighbour G x y ≡ b → IsIdle G x y
+    by false far = far_idle G x y (flowing.apart x y far) (false_from_ne_true (is_child_of G x y) (λ is. both_ways (is_neighbour G x y) far (child_near G x y is)))
     by true near = elim (or_cases (is_child_of G x y) (is_child_of G y x) near) [
-      | inl up ↦ (child_idle G x y flowing.tree none up).up
-      | inr down ↦ (child_idle G y x flowing.tree none down).down
+      | inl up ↦ (child_idle G x y flowing.tree none up).0
+      | inr down ↦ (child_idle G y x flowing.tree none down).1
     ]
 
 any_channels : (channels : List (Enclave × Enclave)) → EachChannel (λ channel. Unit {0}) channels
 any_channels [] = tt
 any_channels (channel ∷ channels) = (tt, any_channels channels)
 
-pub first_some : (G : Facts) (x y : Enclave) → first_waiting G ≡ Some (x, y) → 0 < length (waiting_bytes G x.0 y.0)
-first_some G x y is =
+pub first_passed : (G : Facts) (x y : Enclave) → first_waiting G ≡ Some (x, y) → waits G (x, y) ≡ true
+first_passed G x y is =
     let channels = flat_map (channels_of G) (range_with_len 1 (G.born - 1)) in
     let first : IsFirst (λ channel. Unit {0}) (waits G) (x, y)
     = first_passes (λ channel. Unit {0}) (waits G) channels (x, y) (any_channels channels) is in
-    ltb-true 0 (length (waiting_bytes G x.0 y.0))
-    (and_parts (is_living_enclave (G.enclave y.0)) (ltb 0 (length (waiting_bytes G x.0 y.0))) first.passes).1
+    first.passes
+
+pub first_some : (G : Facts) (x y : Enclave) → AllLive G → first_waiting G ≡ Some (x, y) → 0 < length (waiting_bytes G x.0 y.0)
+first_some G x y all is = bytes_wait G x.0 y.0 all (first_passed G x y is)
 
 pub rests_none : (G : Facts) → IsAtRest G → first_waiting G ≡ None
 rests_none G rest = by (first_waiting G) refl
   where
+    quiet : (x y : Enclave) → waits G (x, y) ≡ true → ⊥
+    quiet x y is =
+        let none : waits G (x, y) ≡ false = rw ((rest x.0 y.0).0, (rest x.0 y.0).1) refl in
+        both_ways (waits G (x, y)) none is
+
     by : (o : Option (Enclave × Enclave)) → first_waiting G ≡ o → o ≡ None
     by None is = refl
-    by (Some channel) is = let some = first_some G channel.0 channel.1 is in absurd
-        (omega (arith, some, ap length (rest channel.0.0 channel.1.0)))
+    by (Some channel) is = absurd (quiet channel.0 channel.1 (first_passed G channel.0 channel.1 is))

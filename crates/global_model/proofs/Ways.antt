@@ -1,69 +1,62 @@
 -- What is known of ways names neighbours alone, in each row.
-use Rattle.std.proofs.Common.{◌≡◌, ℕ, List, [], ◌∷◌, Bool, true, false, cond, eqb, All, Some, sym, subst}
-use Rattle.std.specs.Map.{values_of, lookup}
-use Rattle.std.specs.Ordering.{nat_cmp}
-use Rattle.std.specs.BTreeMap.{is_at}
-use Rattle.std.proofs.lemmas.List.Elements.{All-head, All-tail}
-use Rattle.std.proofs.lemmas.Map.Views.{All-values-insert_entry, All-map-remove_entry}
+use Rattle.std.proofs.Common.{◌≡◌, ℕ, [], Bool, true, eqb, Some, sym, subst}
+use Rattle.std.proofs.lemmas.List.Elements.{All-nil}
+use Rattle.std.proofs.lemmas.Bool.{cond_both, eqb-true}
 use Rattle.xm_num.specs.declared.Enclave.{Enclave}
-use Rattle.xm_num.specs.Rows.{at, put, less}
+use Rattle.xm_num.specs.Rows.{put}
+use Rattle.global_model.proofs.Rows.{AllRows, all_put, all_at}
+use Rattle.enclave_rules.specs.Ways.{WaysView, no_ways, place_among}
 use Rattle.global_model.specs.Facts.{Facts, at_number}
 use Rattle.global_model.specs.Channels.{is_neighbour}
 use Rattle.global_model.specs.Flow.{AreWays}
-use Rattle.std.proofs.lemmas.Bool.{cond_both, eqb-true}
-
--- ---- rows
-
--- each of the rows names an enclave of that kind
-abbrev pub AllName : (Enclave → Type 0) → List (ℕ × Enclave) → Type 0
-AllName Near rows = All Near (values_of rows)
-
-pub name_put : (Near : Enclave → Type 0) (rows : List (ℕ × Enclave)) (k : ℕ) (x : Enclave) → AllName Near rows → Near x
-    → AllName Near (put rows k x)
-unfolding put
-name_put Near rows k x all near = All-values-insert_entry nat_cmp k x Near rows all near
-
-pub name_less : (Near : Enclave → Type 0) (rows : List (ℕ × Enclave)) (k : ℕ) → AllName Near rows → AllName Near (less rows k)
-unfolding less
-name_less Near rows k all = All-map-remove_entry (is_at (nat_cmp k)) (λ row. row.1) Near rows all
-
-name_found : (Near : Enclave → Type 0) (test : ℕ → Bool) (rows : List (ℕ × Enclave)) (x : Enclave) → AllName Near rows
-    → lookup test rows ≡ Some x → Near x
-name_found Near test [] x all is = cc
-name_found Near test (row ∷ rows) x all is = by (test row.0) (name_found Near test rows x (All-tail Near row.1 (values_of rows) all)) is
-  where
-    by : (b : Bool) → (lookup test rows ≡ Some x → Near x) → cond b (Some row.1) (lookup test rows) ≡ Some x → Near x
-    by true later found = let same : row.1 ≡ x = cc in subst Near same (All-head Near row.1 (values_of rows) all)
-    by false later found = later found
-
-pub name_at : (Near : Enclave → Type 0) (rows : List (ℕ × Enclave)) (k : ℕ) (x : Enclave) → AllName Near rows → at rows k ≡ Some x → Near x
-unfolding at
-name_at Near rows k x all is = name_found Near (is_at (nat_cmp k)) rows x all is
 
 -- ---- ways
 
--- what the enclaves know of ways names those alone that are near them
-pub record AreNear (near : ℕ → ℕ → Bool) (G : Facts) : Type 0 where
-  pub way : (e : ℕ) (x : Enclave) → G.way e ≡ Some x → near e x.0 ≡ true
-  pub askers : (e : ℕ) → AllName (λ x. near e x.0 ≡ true) (G.askers e)
-  pub backs : (e : ℕ) → AllName (λ x. near e x.0 ≡ true) (G.backs e)
-  pub routes : (e : ℕ) → AllName (λ x. near e x.0 ≡ true) (G.routes e)
+-- what an enclave knows of ways names those alone that are near it
+pub record NamesNear (Near : Enclave → Type 0) (w : WaysView) : Type 0 where
+  pub way : (x : Enclave) → w.way ≡ Some x → Near x
+  pub askers : AllRows Near w.askers
+  pub backs : AllRows Near w.backs
+  pub routes : AllRows Near w.routes
 
-pub ways_near : (G : Facts) → AreNear (is_neighbour G) G → AreWays G
+abbrev pub AreNear : (ℕ → ℕ → Bool) → (ℕ → WaysView) → Type 0
+AreNear near ways = (e : ℕ) → NamesNear (λ x. near e x.0 ≡ true) (ways e)
+
+pub none_near : (Near : Enclave → Type 0) → NamesNear Near no_ways
+none_near Near = record { way = λ x is. cc; askers = All-nil _; backs = All-nil _; routes = All-nil _ }
+
+pub near_asked : (Near : Enclave → Type 0) (parent by : Enclave) (w : WaysView) → Near by → NamesNear Near w
+    → NamesNear Near (record w { askers = put w.askers (place_among parent by) by })
+near_asked Near parent by w is old = record { way = old.way; askers = all_put Near w.askers (place_among parent by) by old.askers is; backs = old.backs; routes = old.routes }
+
+pub near_way : (Near : Enclave → Type 0) (over : Enclave) (w : WaysView) → Near over → NamesNear Near w
+    → NamesNear Near (record w { way = Some over; askers = [] })
+near_way Near over w is old = record { way = λ x same. let over_is : over ≡ x = cc in subst Near over_is is; askers = All-nil _; backs = old.backs; routes = old.routes }
+
+pub near_back : (Near : Enclave → Type 0) (d : ℕ) (over : Enclave) (w : WaysView) → Near over → NamesNear Near w
+    → NamesNear Near (record w { backs = put w.backs d over })
+near_back Near d over w is old = record { way = old.way; askers = old.askers; backs = all_put Near w.backs d over old.backs is; routes = old.routes }
+
+pub near_route : (Near : Enclave → Type 0) (d : ℕ) (over : Enclave) (w : WaysView) → Near over → NamesNear Near w
+    → NamesNear Near (record w { routes = put w.routes d over })
+near_route Near d over w is old = record { way = old.way; askers = old.askers; backs = old.backs; routes = all_put Near w.routes d over old.routes is }
+
+pub ways_near : (G : Facts) → AreNear (is_neighbour G) G.ways → AreWays G
 ways_near G known = record {
-  way = known.way;
-  askers = λ e k x is. name_at (λ x. is_neighbour G e x.0 ≡ true) (G.askers e) k x (known.askers e) is;
-  backs = λ e k x is. name_at (λ x. is_neighbour G e x.0 ≡ true) (G.backs e) k x (known.backs e) is;
-  routes = λ e k x is. name_at (λ x. is_neighbour G e x.0 ≡ true) (G.routes e) k x (known.routes e) is;
+  way = λ e. (known e).way;
+  askers = λ e k x is. all_at (λ x. is_neighbour G e x.0 ≡ true) (G.ways e).askers k x (known e).askers is;
+  backs = λ e k x is. all_at (λ x. is_neighbour G e x.0 ≡ true) (G.ways e).backs k x (known e).backs is;
+  routes = λ e k x is. all_at (λ x. is_neighbour G e x.0 ≡ true) (G.ways e).routes k x (known e).routes is;
 }
 
 -- who are near stay near
-pub near_more : (near more : ℕ → ℕ → Bool) (G : Facts) → ((x y : ℕ) → near x y ≡ true → more x y ≡ true) → AreNear near G → AreNear more G
-near_more near more G grows known = record {
-  way = λ e x is. grows e x.0 (known.way e x is);
-  askers = λ e k d lt. grows e _ (known.askers e k d lt);
-  backs = λ e k d lt. grows e _ (known.backs e k d lt);
-  routes = λ e k d lt. grows e _ (known.routes e k d lt);
+pub near_more : (near more : ℕ → ℕ → Bool) (ways : ℕ → WaysView) → ((x y : ℕ) → near x y ≡ true → more x y ≡ true) → AreNear near ways
+    → AreNear more ways
+near_more near more ways grows known e = record {
+  way = λ x is. grows e x.0 ((known e).way x is);
+  askers = λ k d lt. grows e _ ((known e).askers k d lt);
+  backs = λ k d lt. grows e _ ((known e).backs k d lt);
+  routes = λ k d lt. grows e _ ((known e).routes k d lt);
 }
 
 -- ---- one number

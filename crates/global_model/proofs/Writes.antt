@@ -1,6 +1,7 @@
 -- What an enclave writes for a record, whatever it knows: a property of each kind of line that it may write is one of all its lines.
 use Rattle.std.proofs.Common.{◌≡◌, ℕ, List, [], ◌∷◌, ◌++◌, Bool, true, false, Option, None, Some, if◌then◌else◌, refl}
 use Rattle.std.specs.Prelude.{◌==◌}
+use Rattle.std.specs.Option.{option_map_or}
 use Rattle.std.specs.List.{AllByRecursion}
 use Rattle.std.specs.Map.{values_of}
 use Rattle.std.proofs.lemmas.List.Elements.{All-head, All-tail}
@@ -11,9 +12,11 @@ use Rattle.xemem_language.specs.declared.record.Body.{Body}
 use Rattle.xemem_language.specs.declared.record.Body.TheVariants as bodies
 use Rattle.xemem_language.specs.declared.line.Line.{Line}
 use Rattle.xemem_language.specs.declared.line.Line.TheVariants as lines
-use Rattle.enclave_rules.specs.View.{place_among, View}
-use Rattle.enclave_rules.specs.Steps.{knows_way, is_stray, here_of, register_of, admit_of, drop_lines, query_lines, told_askers, here_lines, passed_lines, register_lines, admit_over, admit_to, body_lines, record_lines}
-use Rattle.global_model.proofs.Ways.{AllName, name_less, name_at}
+use Rattle.enclave_rules.specs.Ways.{place_among}
+use Rattle.enclave_rules.specs.View.{View}
+use Rattle.enclave_rules.specs.Sending.{Server, knows_way, way_to, drop_lines, over_lines, send_lines}
+use Rattle.enclave_rules.specs.Steps.{is_stray, here_of, register_of, admit_of, query_lines, told_askers, here_lines, register_lines, admit_over, admit_to, body_lines, record_lines}
+use Rattle.global_model.proofs.Rows.{AllRows, all_less, all_at}
 
 -- ---- lists of lines
 
@@ -44,9 +47,9 @@ pub record MayWrite (P : Line → Type 0) (Near : Enclave → Type 0) (Good : Re
 
 -- the enclaves that a view knows are near
 pub record KnowsNear (Near : Enclave → Type 0) (v : View) : Type 0 where
-  pub way : (x : Enclave) → v.way ≡ Some x → Near x
-  pub askers : AllName Near v.askers
-  pub backs : AllName Near v.backs
+  pub way : (x : Enclave) → v.ways.way ≡ Some x → Near x
+  pub askers : AllRows Near v.ways.askers
+  pub backs : AllRows Near v.ways.backs
 
 -- the records that an enclave may send for that one are good
 pub record MaySend (Good : Record → Type 0) (v : View) (r : Record) : Type 0 where
@@ -63,7 +66,7 @@ module _ (P : Line → Type 0) (Near : Enclave → Type 0) (Good : Record → Ty
   writes_query from near good = each_either P (knows_way v) (lines.Sent v.me from (here_of v.me) ∷ []) (lines.Asked v.me from ∷ [])
       (may.sent from _ near good, tt) (may.asked from near, tt)
 
-  writes_askers : (rows : List (ℕ × Enclave)) → AllName Near rows → Good (here_of v.me) → EachIs P (told_askers v rows)
+  writes_askers : (rows : List (ℕ × Enclave)) → AllRows Near rows → Good (here_of v.me) → EachIs P (told_askers v rows)
   writes_askers [] near good = tt
   writes_askers (row ∷ rows) near good = (
     may.sent row.1 _ (All-head Near row.1 (values_of rows) near) good,
@@ -71,44 +74,53 @@ module _ (P : Line → Type 0) (Near : Enclave → Type 0) (Good : Record → Ty
         (All-tail Near row.1 (values_of rows) near) good,
   )
 
-  writes_here : (from : Enclave) → AllName Near v.askers → Near from → Good (here_of v.me) → Good (register_of v.me)
+  writes_here : (from : Enclave) → AllRows Near v.ways.askers → Near from → Good (here_of v.me) → Good (register_of v.me)
       → EachIs P (here_lines v from)
   writes_here from askers near here register =
-      let others = less v.askers (place_among v.parent from) in
+      let others = less v.ways.askers (place_among v.core.parent from) in
       let last = lines.Sent v.me from (register_of v.me) ∷ [] in
       each_either P (knows_way v) (drop_lines v) (lines.Way v.me from ∷ told_askers v others ++ last) writes_drop (
         may.way from near,
         each-append P (told_askers v others) last
-            (writes_askers others (name_less Near v.askers (place_among v.parent from) askers) here) (may.sent from _ near register, tt),
+            (writes_askers others (all_less Near v.ways.askers (place_among v.core.parent from) askers) here) (may.sent from _ near register, tt),
       )
 
-  writes_passed : (from : Enclave) (over : Option Enclave) (r : Record) → ((x : Enclave) → over ≡ Some x → Near x) → Good r
-      → EachIs P (passed_lines v from over r)
-  writes_passed from None r near good = writes_drop
-  writes_passed from (Some over) r near good = each_either P (over.0 == from.0) (drop_lines v) (lines.Sent v.me over r ∷ []) writes_drop
+  -- the way, where there is one, goes over an enclave that is near
+  writes_over_way : (came over : Option Enclave) (r : Record) → ((x : Enclave) → over ≡ Some x → Near x) → Good r
+      → EachIs P (over_lines v came over r)
+  writes_over_way came None r near good = writes_drop
+  writes_over_way came (Some over) r near good =
+      each_either P (option_map_or (λ from. over.0 == from.0) came false) (drop_lines v) (lines.Sent v.me over r ∷ []) writes_drop
       (may.sent over r (near over refl) good, tt)
 
-  writes_register : (from : Enclave) (r : Record) → ((x : Enclave) → v.way ≡ Some x → Near x) → Near from → Good (admit_of v.me r.origin)
+  server_near : ((x : Enclave) → v.ways.way ≡ Some x → Near x) → (x : Enclave) → way_to v Server ≡ Some x → Near x
+  server_near near x is = by v.core.holder is
+    where
+      by : (holder : Bool) → (if holder then None else v.ways.way) ≡ Some x → Near x
+      by true found = cc
+      by false found = near x found
+
+  writes_register : (from : Enclave) (r : Record) → ((x : Enclave) → v.ways.way ≡ Some x → Near x) → Near from → Good (admit_of v.me r.origin)
       → Good r → EachIs P (register_lines v from r)
   writes_register from r way near admit good = (
     may.back r.origin from near,
-    each_either P v.holder (lines.Route v.me r.origin from ∷ lines.Sent v.me from (admit_of v.me r.origin) ∷ [])
-        (passed_lines v from v.way r)
+    each_either P v.core.holder (lines.Route v.me r.origin from ∷ lines.Sent v.me from (admit_of v.me r.origin) ∷ [])
+        (send_lines v (Some from) Server r)
         (may.route r.origin from near, (may.sent from _ near admit, tt))
-        (writes_passed from v.way r way good),
+        (writes_over_way (Some from) (way_to v Server) r (server_near way) good),
   )
 
   writes_over : (from d : Enclave) (r : Record) (over : Option Enclave) → ((x : Enclave) → over ≡ Some x → Near x) → Good r
       → EachIs P (admit_over v from d r over)
   writes_over from d r None near good = writes_drop
-  writes_over from d r (Some over) near good = (may.route d over (near over refl), writes_passed from (Some over) r near good)
+  writes_over from d r (Some over) near good = (may.route d over (near over refl), writes_over_way (Some from) (Some over) r near good)
 
-  writes_admit : (from : Enclave) (r : Record) (dest : Option Enclave) → AllName Near v.backs → Good r → EachIs P (admit_to v from r dest)
+  writes_admit : (from : Enclave) (r : Record) (dest : Option Enclave) → AllRows Near v.ways.backs → Good r → EachIs P (admit_to v from r dest)
   writes_admit from r None backs good = writes_drop
   writes_admit from r (Some d) backs good =
-      each_either P (d.0 == v.me.0) (if v.admitted then drop_lines v else lines.Admitted v.me ∷ []) (admit_over v from d r (at v.backs d.0))
-      (each_either P v.admitted (drop_lines v) (lines.Admitted v.me ∷ []) writes_drop (may.admitted, tt))
-      (writes_over from d r (at v.backs d.0) (λ x is. name_at Near v.backs d.0 x backs is) good)
+      each_either P (d.0 == v.me.0) (if v.core.admitted then drop_lines v else lines.Admitted v.me ∷ []) (admit_over v from d r (at v.ways.backs d.0))
+      (each_either P v.core.admitted (drop_lines v) (lines.Admitted v.me ∷ []) writes_drop (may.admitted, tt))
+      (writes_over from d r (at v.ways.backs d.0) (λ x is. all_at Near v.ways.backs d.0 x backs is) good)
 
   writes_body : (from : Enclave) (r : Record) (body : Body) → KnowsNear Near v → Near from → MaySend Good v r
       → EachIs P (body_lines v from r body)

@@ -1,8 +1,8 @@
 -- The tree of enclaves, and what waits in its channels.
-use Rattle.std.specs.Prelude.{◌-◌, ℕ, List, [], ◌∷◌, length, drop, Bool, not, ◌&&◌, ◌||◌, ◌==◌, nat_le, if◌then◌else◌, is_some}
+use Rattle.std.specs.Prelude.{◌-◌, ℕ, List, [], ◌∷◌, length, drop, take, Bool, not, ◌&&◌, ◌||◌, ◌==◌, nat_le, if◌then◌else◌, is_some}
 use Rattle.xemem_language.specs.declared.record.Record.{Record}
 use Rattle.xemem_wire.specs.Spelling.{spelling_of, spellings_of}
-use Rattle.global_model.specs.Facts.{ChannelFact, Facts, has_parent}
+use Rattle.global_model.specs.Facts.{ChannelFact, Facts, has_parent, lives_at}
 
 -- the enclave has that parent; the host has none
 abbrev pub is_child_of : Facts → ℕ → ℕ → Bool
@@ -15,12 +15,19 @@ is_neighbour G x y = is_child_of G x y || is_child_of G y x
 abbrev pub was_born : Facts → ℕ → Bool
 was_born G e = is_some (G.enclave e)
 
--- the bytes that wait: all that were sent but those that were taken
+-- all bytes that were sent, but those that were cut off at the end, and those that were taken
 abbrev pub waiting_of : ChannelFact → List ℕ
-waiting_of channel = drop channel.taken (spellings_of channel.sent)
+waiting_of channel =
+    let bytes = spellings_of channel.sent in
+    drop channel.taken (take (length bytes - channel.cut) bytes)
 
+-- the bytes that wait: those, where the receiver lives
 abbrev pub waiting_bytes : Facts → ℕ → ℕ → List ℕ
-waiting_bytes G x y = waiting_of (G.channel x y)
+waiting_bytes G x y = if lives_at G y then waiting_of (G.channel x y) else []
+
+-- the end mark of a dead child waits at its parent, where that lives, until it is taken
+abbrev pub end_waits : Facts → ℕ → ℕ → Bool
+end_waits G x y = lives_at G y && (is_child_of G x y && (not (lives_at G x) && not (G.channel x y).end_taken))
 
 abbrev pub size_of : Record → ℕ
 size_of r = length (spelling_of r)
@@ -29,6 +36,10 @@ size_of r = length (spelling_of r)
 abbrev pub whole_records : ℕ → List Record → List Record
 whole_records n [] = []
 whole_records n (r ∷ rs) = if nat_le (size_of r) n then r ∷ whole_records (n - size_of r) rs else []
+
+-- how many bytes were taken after the last whole record
+abbrev pub torn_bytes : ChannelFact → ℕ
+torn_bytes channel = channel.taken - length (spellings_of (whole_records channel.taken channel.sent))
 
 -- the records that are whole, and weren't got yet, once so many bytes are taken
 abbrev pub arriving : ChannelFact → List Record

@@ -1,5 +1,5 @@
 -- The lines that commands are to have, and the line that is due.
-use Rattle.std.specs.Prelude.{◌+◌, ◌-◌, ◌/◌, ℕ, zero, suc, min, List, [], ◌∷◌, ◌++◌, length, map, filter, Bool, ◌&&◌, ◌==◌, nat_le, nat_lt, if◌then◌else◌, Option, None, is_some, take, slice_get}
+use Rattle.std.specs.Prelude.{◌+◌, ◌-◌, ◌/◌, ℕ, zero, suc, min, List, [], ◌∷◌, ◌++◌, length, map, filter, Bool, ◌||◌, ◌==◌, nat_le, nat_lt, if◌then◌else◌, Option, None, is_some, take, slice_get}
 use Rattle.std.specs.List.{range_with_len, flat_map}
 use Rattle.std.specs.Option.{option_map_or}
 use Rattle.xm_num.specs.declared.Enclave.{Enclave}
@@ -10,16 +10,16 @@ use Rattle.xemem_language.specs.declared.command.Command.TheVariants as commands
 use Rattle.xemem_language.specs.declared.line.Line.{Line}
 use Rattle.xemem_language.specs.declared.line.Line.TheVariants as lines
 use Rattle.xemem_language.specs.declared.record.Record.{Record}
-use Rattle.enclave_rules.specs.Steps.{adopt_lines, birth_lines, bytes_lines, host_lines, record_lines, route_lines, state_lines}
-use Rattle.global_model.specs.Channels.{arriving, size_of, waiting_bytes}
-use Rattle.global_model.specs.Facts.{Facts, after_line, after_lines, fact_of, facts_at, is_living_enclave, no_facts}
+use Rattle.enclave_rules.specs.Steps.{adopt_lines, birth_lines, bytes_lines, host_lines, handled_lines, route_lines, state_lines}
+use Rattle.global_model.specs.Channels.{arriving, end_waits, size_of, waiting_bytes}
+use Rattle.global_model.specs.Facts.{Facts, after_line, after_lines, fact_of, facts_at, no_facts}
 use Rattle.global_model.specs.Refusals.{refusal_of}
 use Rattle.global_model.specs.Space.{Mapping, free_blocks, space_of, unused_frames}
 use Rattle.global_model.specs.Views.{view_of}
 
 -- the number that the enclave draws for its next process
 abbrev pub next_pid : Facts → Enclave → Pid
-next_pid G e = record { 0 = G.started e.0 + 1 }
+next_pid G e = record { 0 = (G.memory e.0).started + 1 }
 
 -- the line of a touch, where the page is mapped
 abbrev pub touched_lines : Enclave → Pid → Vpn → Option Mapping → List Line
@@ -31,7 +31,7 @@ touched_lines e p page mapping = option_map_or (λ found. lines.Touched e p page
 abbrev pub got_lines : Facts → Enclave → Enclave → List Record → List Line
 got_lines G x y [] = []
 got_lines G x y (r ∷ rs) =
-    let own = lines.Got x y ∷ record_lines (view_of G y) x r in
+    let own = handled_lines (view_of G y) x r in
     own ++ got_lines (after_lines G own) x y rs
 
 abbrev pub took_lines : Facts → Enclave → Enclave → ℕ → List Line
@@ -39,6 +39,7 @@ took_lines G x y count =
     let H = after_line G (lines.Took x y count) in
     lines.Took x y count ∷ got_lines H x y (arriving (H.channel x.0 y.0))
 
+-- what waits of the bytes is taken; no delivery takes an end mark yet, as no enclave dies
 abbrev pub deliver_lines : Facts → Enclave → Enclave → ℕ → List Line
 deliver_lines G x y count =
     let waiting = length (waiting_bytes G x.0 y.0) in
@@ -55,17 +56,17 @@ abbrev pub rest_of_record : ℕ → List Record → ℕ
 rest_of_record taken [] = 0
 rest_of_record taken (r ∷ rs) = if nat_le (size_of r) taken then rest_of_record (taken - size_of r) rs else size_of r - taken
 
--- how many bytes a delivery of a settle takes
+-- how many bytes a delivery of a settle takes: that many, or all that wait where that record was cut
 abbrev pub next_rest : Facts → Enclave → Enclave → ℕ
-next_rest G x y = rest_of_record (G.channel x.0 y.0).taken (G.channel x.0 y.0).sent
+next_rest G x y = min (rest_of_record (G.channel x.0 y.0).taken (G.channel x.0 y.0).sent) (length (waiting_bytes G x.0 y.0))
 
 -- a child's channel up to its parent, and the one down from it
 abbrev pub channels_of : Facts → ℕ → List (Enclave × Enclave)
 channels_of G c = let parent = (fact_of (G.enclave c)).parent in (record { 0 = c }, parent) ∷ (parent, record { 0 = c }) ∷ []
 
--- something waits in the channel, and its receiver lives
+-- bytes wait in the channel, or an end mark does
 abbrev pub waits : Facts → Enclave × Enclave → Bool
-waits G channel = is_living_enclave (G.enclave channel.1.0) && nat_lt 0 (length (waiting_bytes G channel.0.0 channel.1.0))
+waits G channel = nat_lt 0 (length (waiting_bytes G channel.0.0 channel.1.0)) || end_waits G channel.0.0 channel.1.0
 
 -- the channels in which something waits, by child, up before down
 abbrev pub waiting_channels : Facts → List (Enclave × Enclave)
@@ -90,7 +91,7 @@ settle_from (suc left) made G =
 abbrev pub next_enclave : Facts → Enclave
 next_enclave G = record { 0 = G.born }
 
--- the lines of a command that isn't refused
+-- the lines of a command that isn't refused, by the facts after its `do` line
 abbrev pub acts_of : Facts → Command → List Line
 acts_of G (commands.Pool blocks) = []
 acts_of G (commands.Host blocks ns) = host_lines (take blocks (free_blocks G)) ns
@@ -106,9 +107,10 @@ acts_of G (commands.ShowLink x y) = link_lines G x y
 acts_of G commands.ShowPool = state_lines 0 (map G.block (range_with_len 0 G.pool))
 acts_of G command = []
 
--- what follows the `do` line of a command: its refusal, or its acts
+-- What follows the `do` line of a command: its refusal, by the facts at that line, or its acts, by those after it.
 abbrev pub command_lines : Facts → Command → List Line
-command_lines G command = option_map_or (λ cause. lines.Refused cause ∷ []) (refusal_of G command) (acts_of G command)
+command_lines G command =
+    option_map_or (λ cause. lines.Refused cause ∷ []) (refusal_of G command) (acts_of (after_line G (lines.Do command)) command)
 
 -- all lines of a command, by the facts before it
 abbrev pub step_lines : Facts → Command → List Line

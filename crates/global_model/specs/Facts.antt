@@ -1,18 +1,23 @@
 -- The facts that a journal leaves: who lives, which blocks are lent, which pages are whose.
-use Rattle.std.specs.Prelude.{◌+◌, ℕ, List, [], ◌∷◌, ◌++◌, Bool, true, false, ◌&&◌, ◌==◌, ◌||◌, nat_lt, if◌then◌else◌, Option, None, Some}
+use Rattle.std.specs.Prelude.{◌+◌, ℕ, List, [], ◌∷◌, ◌++◌, Bool, true, false, ◌&&◌, ◌==◌, ◌||◌, if◌then◌else◌, Option, None, Some, is_some, slice_get}
+use Rattle.std.specs.Option.{option_map_or}
 use Rattle.xm_num.specs.declared.Enclave.{Enclave}
-use Rattle.xm_num.specs.declared.Pid.{Pid}
-use Rattle.xm_num.specs.declared.Frame.{Frame}
 use Rattle.xm_num.specs.declared.Block.{Block}
 use Rattle.xm_num.specs.declared.Kind.{Kind}
 use Rattle.xm_num.specs.declared.Kind.TheVariants as kinds
-use Rattle.xm_num.specs.Rows.{put}
+use Rattle.xm_num.specs.Rows.{at}
+use Rattle.frame_pool.specs.declared.BlockState.{BlockState}
+use Rattle.frame_pool.specs.declared.BlockState.TheVariants as states
+use Rattle.frame_pool.specs.Blocks.{is_listed}
 use Rattle.xemem_language.specs.declared.record.Record.{Record}
+use Rattle.xemem_language.specs.declared.command.Command.{Command}
 use Rattle.xemem_language.specs.declared.command.Command.TheVariants as commands
 use Rattle.xemem_language.specs.declared.line.Line.{Line}
 use Rattle.xemem_language.specs.declared.line.Line.TheVariants as lines
-use Rattle.enclave_rules.specs.Blocks.{Absent, BlockFact, Free, Lent, is_listed}
-use Rattle.enclave_rules.specs.View.{place_among}
+use Rattle.enclave_rules.specs.Core.{host, local_line, with_death}
+use Rattle.enclave_rules.specs.Ways.{WaysView, no_ways, ways_line}
+use Rattle.enclave_rules.specs.Memory.{MemoryView, no_memory, memory_line}
+use Rattle.enclave_rules.specs.Hand.{Hand, Nothing, Reads, hand_of}
 
 pub record EnclaveFact : Type 0 where
   pub kind : Kind
@@ -22,72 +27,53 @@ pub record EnclaveFact : Type 0 where
   pub living : Bool
   pub admitted : Bool
 
-pub record ProcessFact : Type 0 where
-  pub uid : ℕ
-  pub gid : ℕ
-  pub living : Bool
-
--- an own page: this page of the process is this machine frame
-pub record OwnPage : Type 0 where
-  pub enclave : Enclave
-  pub pid : Pid
-  pub page : ℕ
-  pub frame : Frame
-
--- what went over a channel: the records that were sent, oldest first, how many bytes were taken, and how many of the
--- records were got
+-- What went over a channel: the records that were sent, oldest first; how many of their bytes were taken, and how many of the
+-- records were got; how many bytes were cut off at the end, and whether the end mark was taken. Nothing is cut off so far.
 pub record ChannelFact : Type 0 where
   pub sent : List Record
   pub taken : ℕ
   pub got : ℕ
+  pub cut : ℕ
+  pub end_taken : Bool
 
 abbrev pub no_channel : ChannelFact
-no_channel = record { sent = []; taken = 0; got = 0 }
+no_channel = record { sent = []; taken = 0; got = 0; cut = 0; end_taken = false }
 
--- All facts. What is asked by a number is a function of it; `born` counts the enclaves, `started` the processes of an
--- enclave, `starts` those of all. `server` says that an enclave was born with the name server. A channel is named by its
--- sender and its receiver. Of each enclave, `way` is the neighbour over which its way to the name server goes, `askers` are the
--- neighbours that asked it for the way and weren't answered, in their order, `backs` and `routes` the neighbours over which it
--- answers an enclave and over which one lies, by that enclave's number, and `heard` the deaths that it knows of.
+-- All facts. What is asked by a number is a function of it; a block beyond the pool has no state that counts. `born` counts the
+-- enclaves, `starts` the processes that were started. `server` says that an enclave was born with the name server. A channel is
+-- named by its sender and its receiver. Of each enclave, `ways` and `memory` are the parts of its view, and `heard` are the deaths
+-- that it knows of. `hand` is what a step has at hand: the call for which the last `do` line asks, or the record of the last `got`.
 pub record Facts : Type 0 where
   pub pool : ℕ
-  pub block : ℕ → BlockFact
+  pub block : ℕ → BlockState
   pub born : ℕ
   pub enclave : ℕ → Option EnclaveFact
   pub server : Bool
-  pub way : ℕ → Option Enclave
-  pub askers : ℕ → List (ℕ × Enclave)
-  pub backs : ℕ → List (ℕ × Enclave)
-  pub routes : ℕ → List (ℕ × Enclave)
-  pub channel : ℕ → ℕ → ChannelFact
   pub heard : ℕ → List Enclave
+  pub ways : ℕ → WaysView
   pub starts : ℕ
-  pub started : ℕ → ℕ
-  pub process : ℕ → ℕ → Option ProcessFact
-  pub own : List OwnPage
+  pub memory : ℕ → MemoryView
+  pub channel : ℕ → ℕ → ChannelFact
+  pub hand : Hand
 
 abbrev pub no_facts : Facts
 no_facts = record {
   pool = 0;
-  block = λ b. Absent;
+  block = λ b. states.Free;
   born = 0;
   enclave = λ e. None;
   server = false;
-  way = λ e. None;
-  askers = λ e. [];
-  backs = λ e. [];
-  routes = λ e. [];
-  channel = λ x y. no_channel;
   heard = λ e. [];
+  ways = λ e. no_ways;
   starts = 0;
-  started = λ e. 0;
-  process = λ e p. None;
-  own = [];
+  memory = λ e. no_memory;
+  channel = λ x y. no_channel;
+  hand = Nothing;
 }
 
 -- an enclave that isn't born
 abbrev pub unborn_fact : EnclaveFact
-unborn_fact = record { kind = kinds.Host; parent = record { 0 = 0 }; blocks = []; ns = false; living = false; admitted = false }
+unborn_fact = record { kind = kinds.Host; parent = host; blocks = []; ns = false; living = false; admitted = false }
 
 abbrev pub fact_of : Option EnclaveFact → EnclaveFact
 fact_of None = unborn_fact
@@ -112,42 +98,56 @@ with_taken n channel = record channel { taken = channel.taken + n }
 abbrev pub with_got : ChannelFact → ChannelFact
 with_got channel = record channel { got = channel.got + 1 }
 
+-- the record that is got next gives itself into the hand
+abbrev pub hand_after : ChannelFact → Hand
+hand_after channel = option_map_or (λ r. Reads r) (slice_get channel.sent channel.got) Nothing
+
 -- the blocks are lent to the enclave
-abbrev pub with_lent : List Block → Enclave → (ℕ → BlockFact) → ℕ → BlockFact
-with_lent blocks e states b = if is_listed blocks b then Lent e.0 else states b
+abbrev pub with_lent : List Block → Enclave → (ℕ → BlockState) → ℕ → BlockState
+with_lent blocks e block b = if is_listed blocks b then states.Lent e else block b
 
 abbrev pub as_admitted : Option EnclaveFact → Option EnclaveFact
 as_admitted None = None
 as_admitted (Some fact) = Some (record fact { admitted = true })
 
--- the frames are the own pages from that one on
-abbrev pub own_from : Enclave → Pid → ℕ → List Frame → List OwnPage
-own_from e p page [] = []
-own_from e p page (frame ∷ frames) = record { enclave = e; pid = p; page = page; frame = frame } ∷ own_from e p (page + 1) frames
+-- a pool of so many blocks, all of them free
+abbrev pub pool_after : Command → ℕ → ℕ
+pool_after (commands.Pool blocks) pool = blocks
+pool_after command pool = pool
+
+abbrev pub block_after : Command → (ℕ → BlockState) → ℕ → BlockState
+block_after (commands.Pool blocks) block = λ b. states.Free
+block_after command block = block
+
+-- a line of the layer of ways at the enclave
+abbrev pub with_ways : Enclave → Line → Facts → Facts
+with_ways e line G = record G { ways = at_number e.0 (ways_line (fact_of (G.enclave e.0)).parent (G.ways e.0) line) G.ways }
+
+-- a line of the layer of memory at the enclave, as that names frames
+abbrev pub with_memory : Enclave → Line → Facts → Facts
+with_memory e line G =
+    let fact = fact_of (G.enclave e.0) in
+    record G { memory = at_number e.0 (memory_line (G.memory e.0) (local_line fact.kind fact.blocks line)) G.memory }
 
 abbrev pub after_line : Facts → Line → Facts
-after_line G (lines.Do (commands.Pool blocks)) = record G { pool = blocks; block = λ b. if nat_lt b blocks then Free else Absent }
+after_line G (lines.Do command) = record G { pool = pool_after command G.pool; block = block_after command G.block; hand = hand_of command }
 after_line G (lines.Born e kind parent ns blocks) = record G {
   block = with_lent blocks e G.block;
   born = G.born + 1;
   server = G.server || ns;
   enclave = at_number e.0 (Some (record { kind = kind; parent = parent; blocks = blocks; ns = ns; living = true; admitted = false })) G.enclave;
 }
-after_line G (lines.Told e of) = record G { heard = at_number e.0 (G.heard e.0 ++ of ∷ []) G.heard }
+after_line G (lines.Told e dead) = record G { heard = at_number e.0 (with_death dead (G.heard e.0)) G.heard }
 after_line G (lines.Admitted e) = record G { enclave = at_number e.0 (as_admitted (G.enclave e.0)) G.enclave }
-after_line G (lines.Proc e p uid gid) = record G {
-  starts = G.starts + 1;
-  started = at_number e.0 (G.started e.0 + 1) G.started;
-  process = at_number e.0 (at_number p.0 (Some (record { uid = uid; gid = gid; living = true })) (G.process e.0)) G.process;
-}
-after_line G (lines.Alloc e p at frames) = record G { own = G.own ++ own_from e p at.0 frames }
+after_line G (lines.Asked e by) = with_ways e (lines.Asked e by) G
+after_line G (lines.Way e over) = with_ways e (lines.Way e over) G
+after_line G (lines.Back e of over) = with_ways e (lines.Back e of over) G
+after_line G (lines.Route e of over) = with_ways e (lines.Route e of over) G
+after_line G (lines.Proc e p uid gid) = record (with_memory e (lines.Proc e p uid gid) G) { starts = G.starts + 1 }
+after_line G (lines.Alloc e p page frames) = with_memory e (lines.Alloc e p page frames) G
 after_line G (lines.Sent x y r) = record G { channel = at_pair x.0 y.0 (with_sent r) G.channel }
-after_line G (lines.Took x y count) = record G { channel = at_pair x.0 y.0 (with_taken count) G.channel }
-after_line G (lines.Got x y) = record G { channel = at_pair x.0 y.0 with_got G.channel }
-after_line G (lines.Asked e by) = record G { askers = at_number e.0 (put (G.askers e.0) (place_among (fact_of (G.enclave e.0)).parent by) by) G.askers }
-after_line G (lines.Way e over) = record G { way = at_number e.0 (Some over) G.way; askers = at_number e.0 [] G.askers }
-after_line G (lines.Back e of over) = record G { backs = at_number e.0 (put (G.backs e.0) of.0 over) G.backs }
-after_line G (lines.Route e of over) = record G { routes = at_number e.0 (put (G.routes e.0) of.0 over) G.routes }
+after_line G (lines.Took x y count) = record G { channel = at_pair x.0 y.0 (with_taken count) G.channel; hand = Nothing }
+after_line G (lines.Got x y) = record G { channel = at_pair x.0 y.0 with_got G.channel; hand = hand_after (G.channel x.0 y.0) }
 after_line G line = G
 
 -- the facts after these lines, from those before
@@ -170,13 +170,17 @@ abbrev pub is_living_enclave : Option EnclaveFact → Bool
 is_living_enclave None = false
 is_living_enclave (Some fact) = fact.living
 
-abbrev pub is_living_process : Option ProcessFact → Bool
-is_living_process None = false
-is_living_process (Some fact) = fact.living
+-- the enclave lives
+abbrev pub lives_at : Facts → ℕ → Bool
+lives_at G e = is_living_enclave (G.enclave e)
+
+-- the process lives
+abbrev pub runs : Facts → ℕ → ℕ → Bool
+runs G e p = is_some (at (G.memory e).processes p)
 
 -- the process lives in a living enclave
 abbrev pub lives : Facts → ℕ → ℕ → Bool
-lives G e p = is_living_enclave (G.enclave e) && is_living_process (G.process e p)
+lives G e p = lives_at G e && runs G e p
 
 -- the enclave holds the name server
 abbrev pub is_holder : Option EnclaveFact → Bool

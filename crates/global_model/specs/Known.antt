@@ -11,33 +11,34 @@ use Rattle.xemem_language.specs.declared.call.ProcessCall.{ProcessCall}
 use Rattle.xemem_language.specs.declared.call.NodeShow.{NodeShow}
 use Rattle.xemem_language.specs.Calls.{call_of, show_of}
 use Rattle.xemem_language.specs.declared.line.Line.{Line}
-use Rattle.enclave_rules.specs.Steps.{adopt_lines, answer_lines, birth_lines, free_from, refusal, start_lines, touch_answer}
+use Rattle.frame_pool.specs.Blocks.{free_blocks}
+use Rattle.enclave_rules.specs.Steps.{adopt_lines, answer_lines, birth_lines, refusal, start_lines, touch_answer}
 use Rattle.enclave_rules.specs.Calls.{call_lines, show_lines}
-use Rattle.enclave_rules.specs.View.{host}
+use Rattle.enclave_rules.specs.Core.{host}
 use Rattle.global_model.specs.Due.{command_lines, next_enclave}
-use Rattle.global_model.specs.Facts.{Facts}
+use Rattle.global_model.specs.Facts.{Facts, lives_at}
 use Rattle.global_model.specs.Views.{view_of}
 
--- the lines of a command at an enclave, where it was born
-abbrev pub at_born : ℕ → Enclave → List Line → List Line
-at_born born e journal = if nat_lt e.0 born then journal else refusal causes.NoEnclave
+-- the lines of a command at an enclave, where it lives
+abbrev pub at_living : Facts → Enclave → List Line → List Line
+at_living G e journal = if lives_at G e.0 then journal else refusal causes.NoEnclave
 
 abbrev pub start_by : Facts → Enclave → ℕ → ℕ → List Line
 start_by G e uid gid = if nat_le 1024 G.starts then refusal causes.TooMany else start_lines (view_of G e) uid gid
 
 abbrev pub boot_by : Facts → Kind → Enclave → ℕ → Bool → List Line
 boot_by G kind parent blocks ns =
-    let free = free_from 0 (view_of G host).host.states in
+    let free = free_blocks (view_of G host).host.states in
     if nat_le 256 G.born then refusal causes.TooMany
     else (if ns && G.server then refusal causes.NameServerTaken
     else (if nat_lt (length free) blocks then refusal causes.NoBlocks
-    else birth_lines (next_enclave G) kind parent (take blocks free) ns (view_of G parent).heard ++ adopt_lines (view_of G parent) (next_enclave G)))
+    else birth_lines (next_enclave G) kind parent (take blocks free) ns (view_of G parent).core.heard ++ adopt_lines (view_of G parent) (next_enclave G)))
 
--- each command's lines follow from the views of the enclaves that it names, how many enclaves were born, and how many
--- processes were started
+-- each command's lines follow from which enclaves live, the views of those that it names, how many enclaves were born, and how
+-- many processes were started
 pub record IsAnswered (G : Facts) : Type 0 where
-  pub boot : (kind : Kind) (parent : Enclave) (blocks : ℕ) (ns : Bool) → command_lines G (commands.Boot kind parent blocks ns) ≡ at_born G.born parent (boot_by G kind parent blocks ns)
-  pub proc : (e : Enclave) (uid gid : ℕ) → command_lines G (commands.Proc e uid gid) ≡ at_born G.born e (start_by G e uid gid)
-  pub touch : (e : Enclave) (p : Pid) (addr : ℕ) (want : Want) → command_lines G (commands.Touch e p addr want) ≡ at_born G.born e (answer_lines e p (touch_answer (view_of G e) p addr want))
-  pub call : (command : Command) (k : ProcessCall) → call_of command ≡ Some k → command_lines G command ≡ at_born G.born k.enclave (call_lines (view_of G k.enclave) k.pid k.call)
-  pub show : (command : Command) (s : NodeShow) → show_of command ≡ Some s → command_lines G command ≡ at_born G.born s.enclave (show_lines (view_of G s.enclave) s.show)
+  pub boot : (kind : Kind) (parent : Enclave) (blocks : ℕ) (ns : Bool) → command_lines G (commands.Boot kind parent blocks ns) ≡ at_living G parent (boot_by G kind parent blocks ns)
+  pub proc : (e : Enclave) (uid gid : ℕ) → command_lines G (commands.Proc e uid gid) ≡ at_living G e (start_by G e uid gid)
+  pub touch : (e : Enclave) (p : Pid) (addr : ℕ) (want : Want) → command_lines G (commands.Touch e p addr want) ≡ at_living G e (answer_lines e p (touch_answer (view_of G e) p addr want))
+  pub call : (command : Command) (k : ProcessCall) → call_of command ≡ Some k → command_lines G command ≡ at_living G k.enclave (call_lines (view_of G k.enclave) k.pid k.call)
+  pub show : (command : Command) (s : NodeShow) → show_of command ≡ Some s → command_lines G command ≡ at_living G s.enclave (show_lines (view_of G s.enclave) s.show)

@@ -11,7 +11,7 @@ use Rattle.xm_num.specs.declared.Pid.{Pid}
 use Rattle.xm_num.specs.declared.Want.{Want}
 use Rattle.enclave_rules.specs.Pages.{allows}
 use Rattle.global_model.specs.Channels.{is_neighbour, was_born}
-use Rattle.global_model.specs.Facts.{Facts, is_living_enclave, is_living_process}
+use Rattle.global_model.specs.Facts.{Facts, is_living_enclave, runs}
 use Rattle.global_model.specs.Space.{Mapping, free_blocks, space_of, unused_frames}
 
 -- one of so many pages from that one on is mapped
@@ -31,7 +31,7 @@ abbrev pub no_enclave : Facts → Enclave → Condition
 no_enclave G e = when causes.NoEnclave (not (is_living_enclave (G.enclave e.0)))
 
 abbrev pub no_process : Facts → Enclave → Pid → Condition
-no_process G e p = when causes.NoProcess (not (is_living_process (G.process e.0 p.0)))
+no_process G e p = when causes.NoProcess (not (runs G e.0 p.0))
 
 -- the page is mapped, and its access doesn't allow what is wanted
 abbrev pub denies : Want → Option Mapping → Bool

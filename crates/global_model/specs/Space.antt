@@ -1,39 +1,38 @@
 -- The space of a process, the frames that are mapped, and those that are unused.
-use Rattle.std.specs.Prelude.{◌≡◌, ◌*◌, ◌/◌, ℕ, List, [], ◌∷◌, Bool, true, not, ◌&&◌, ◌==◌, Option, Some, filter, map}
+use Rattle.std.specs.Prelude.{◌≡◌, ◌*◌, ◌/◌, ℕ, List, [], Bool, true, false, not, ◌&&◌, ◌==◌, Option, Some, filter, map}
 use Rattle.std.specs.List.{range_with_len, list_any}
-use Rattle.std.specs.Option.{option_map}
+use Rattle.std.specs.Option.{option_map, option_map_or}
 use Rattle.xm_num.specs.declared.Frame.{Frame}
 use Rattle.xm_num.specs.declared.Block.{Block}
 use Rattle.xm_num.specs.declared.Page.{Page}
-use Rattle.xm_num.specs.Rows.{at, put}
+use Rattle.xm_num.specs.Rows.{at}
 use Rattle.xm_num.specs.declared.Access.{Access}
-use Rattle.enclave_rules.specs.Blocks.{is_free, is_lent_to}
-use Rattle.enclave_rules.specs.Pages.{frame_list, own_page}
-use Rattle.global_model.specs.Facts.{Facts, OwnPage, is_living_enclave, lives}
+use Rattle.frame_pool.specs.declared.BlockState.{BlockState}
+use Rattle.frame_pool.specs.declared.BlockState.TheVariants as states
+use Rattle.frame_pool.specs.Blocks.{is_free}
+use Rattle.enclave_rules.specs.Core.{machine_frame}
+use Rattle.enclave_rules.specs.Pages.{frame_list}
+use Rattle.global_model.specs.Facts.{EnclaveFact, Facts, fact_of, is_living_enclave, lives}
 
 -- what a page is mapped to: a machine frame, and what it may be used for
 pub record Mapping : Type 0 where
   pub frame : Frame
   pub access : Access
 
-abbrev pub is_of : ℕ → ℕ → OwnPage → Bool
-is_of e p own = (own.enclave.0 == e) && (own.pid.0 == p)
+-- the machine's frame of a page of the enclave
+abbrev pub frame_of : EnclaveFact → Page → Frame
+frame_of fact page = machine_frame fact.kind fact.blocks page.frame
 
--- the rows with these own pages put in, by their numbers
-abbrev pub with_own : List (ℕ × Page) → List OwnPage → List (ℕ × Page)
-with_own rows [] = rows
-with_own rows (own ∷ owns) = with_own (put rows own.page (own_page own.frame)) owns
+abbrev pub mapping_of : EnclaveFact → Page → Mapping
+mapping_of fact page = record { frame = frame_of fact page; access = page.access }
 
--- the pages of a process, ascending
+-- the pages of a process, ascending, as its enclave names frames
 abbrev pub pages_of : Facts → ℕ → ℕ → List (ℕ × Page)
-pages_of G e p = with_own [] (filter (is_of e p) G.own)
-
-abbrev pub mapping_of : Page → Mapping
-mapping_of page = record { frame = page.frame; access = page.access }
+pages_of G e p = option_map_or (λ process. process.pages) (at (G.memory e).processes p) []
 
 -- the space of a process: what each page is mapped to
 abbrev pub space_of : Facts → ℕ → ℕ → ℕ → Option Mapping
-space_of G e p page = option_map mapping_of (at (pages_of G e p) page)
+space_of G e p page = option_map (mapping_of (fact_of (G.enclave e))) (at (pages_of G e p) page)
 
 -- some living process maps the frame
 pub record IsMapped (G : Facts) (frame : Frame) : Type 0 where
@@ -47,9 +46,19 @@ pub record IsMapped (G : Facts) (frame : Frame) : Type 0 where
 abbrev pub IsUnmapped : Facts → Frame → Type 0
 IsUnmapped G frame = IsMapped G frame → ⊥
 
--- an own page of the enclave has the frame
+-- the page is an own one, of that frame
+abbrev pub owns : EnclaveFact → ℕ → Page → Bool
+owns fact frame page = page.own && ((frame_of fact page).0 == frame)
+
+-- an own page of a process of the enclave has the frame
 abbrev pub is_own_frame : Facts → ℕ → ℕ → Bool
-is_own_frame G e frame = list_any (λ own. (own.enclave.0 == e) && (own.frame.0 == frame)) G.own
+is_own_frame G e frame = list_any (λ process. list_any (λ row. owns (fact_of (G.enclave e)) frame row.1) process.1.pages) (G.memory e).processes
+
+-- the block is lent to the enclave
+abbrev pub is_lent_to : ℕ → BlockState → Bool
+is_lent_to e states.Free = false
+is_lent_to e (states.Lent owner) = owner.0 == e
+is_lent_to e (states.Held owner) = false
 
 -- the enclave lives, the frame's block is lent to it, and no own page of it has the frame
 abbrev pub is_unused : Facts → ℕ → ℕ → Bool

@@ -8,9 +8,9 @@ mod laws;
 
 pub use enclave_rules::calls_write_own_lines;
 pub use laws::{
-    acts_are_plain, journals_are_carried, journals_are_rested, journals_grow, pasts_grow,
-    refusals_come_first, settles_deliver, view_step, views_answer, views_follow,
-    whole_records_stay,
+    acts_are_plain, journals_are_apt, journals_are_carried, journals_are_in_steps,
+    journals_are_rested, journals_grow, lines_are_seen, pasts_grow, refusals_come_first,
+    settles_deliver, trees_have_paths, views_answer, views_follow, whole_records_stay,
 };
 pub use xemem_language::{
     Body, ByteList, Call, Command, Line, Lines, NodeShow, ProcessCall, Record, Show, call_of,

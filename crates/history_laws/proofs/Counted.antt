@@ -1,5 +1,5 @@
 -- What the facts count is what stands in the past.
-use Rattle.std.proofs.Common.{◌≡◌, ◌+◌, ◌<◌, ◌≤◌, ℕ, List, [], ◌∷◌, length, filter, Bool, true, false, not, ◌&&◌, ◌||◌, cond, eqb, leb, ltb, Option, None, Some, refl, sym, ap, ◌∙◌, subst, arith}
+use Rattle.std.proofs.Common.{◌≡◌, ◌+◌, ◌<◌, ◌≤◌, ℕ, List, [], ◌∷◌, length, map, filter, Bool, true, false, not, ◌&&◌, ◌||◌, cond, eqb, leb, ltb, Option, None, Some, refl, sym, ap, ◌∙◌, subst, arith}
 use Rattle.std.proofs.lemmas.Bool.{and_parts, eqb-true, leb-false, leb-true}
 use Rattle.xm_num.specs.declared.Cause.{Cause}
 use Rattle.xm_num.specs.declared.Cause.TheVariants as causes
@@ -8,7 +8,12 @@ use Rattle.xm_num.specs.declared.Kind.{Kind}
 use Rattle.xemem_language.specs.declared.command.Command.TheVariants as commands
 use Rattle.xemem_language.specs.declared.line.Line.{Line}
 use Rattle.xemem_language.specs.declared.line.Line.TheVariants as lines
-use Rattle.global_model.specs.Facts.{facts_at, is_living_enclave}
+use Rattle.std.specs.Option.{option_map_or}
+use Rattle.xm_num.specs.declared.Frame.{Frame}
+use Rattle.xm_num.specs.Rows.{at, put}
+use Rattle.enclave_rules.specs.Memory.{ProcessView, MemoryView, new_process, with_pages, with_process}
+use Rattle.global_model.specs.Facts.{facts_at, at_number, fact_of, is_living_enclave}
+use Rattle.enclave_rules.specs.Core.{local_frame}
 use Rattle.global_model.specs.Refusals.{first_cause, when}
 use Rattle.global_model.specs.Space.{free_blocks}
 use Rattle.history_laws.specs.Counts.{LimitedAt, LimitedBoot, LimitedStart, IsLimited, births_in, starts_in, starts_by, starts_at, has_server}
@@ -19,13 +24,11 @@ use Rattle.history_laws.proofs.Follow.{Follows-weaker}
 pub births_counted : (past : List Line) → (facts_at past).born ≡ births_in past
 births_counted [] = refl
 births_counted (lines.Born e kind parent ns blocks ∷ past) = let more = births_counted past in omega (arith, more)
-births_counted (lines.Do (commands.Pool blocks) ∷ past) = births_counted past
 births_counted (_ ∷ past) = births_counted past
 
 pub starts_counted : (past : List Line) → (facts_at past).starts ≡ starts_in past
 starts_counted [] = refl
 starts_counted (lines.Proc e p uid gid ∷ past) = let more = starts_counted past in omega (arith, more)
-starts_counted (lines.Do (commands.Pool blocks) ∷ past) = starts_counted past
 starts_counted (_ ∷ past) = starts_counted past
 
 or_turned : (a b : Bool) → (a || b) ≡ (b || a)
@@ -37,20 +40,41 @@ or_turned false false = refl
 pub server_counted : (past : List Line) → (facts_at past).server ≡ has_server past
 server_counted [] = refl
 server_counted (lines.Born e kind parent ns blocks ∷ past) = or_turned (facts_at past).server ns ∙ ap (λ held. ns || held) (server_counted past)
-server_counted (lines.Do (commands.Pool blocks) ∷ past) = server_counted past
 server_counted (_ ∷ past) = server_counted past
 
-pub started_counted : (e : ℕ) (past : List Line) → (facts_at past).started e ≡ starts_by e past
+-- the number that was started, in one part of an enclave
+started_stays : (memory : ℕ → MemoryView) (of : ℕ) (m : MemoryView) (e : ℕ) → m.started ≡ (memory of).started → (at_number of m memory e).started ≡ (memory e).started
+started_stays memory of m e same = by (eqb e of) refl
+  where
+    by : (b : Bool) → eqb e of ≡ b → (cond b m (memory e)).started ≡ (memory e).started
+    by true here = same ∙ ap (λ n. (memory n).started) (sym (eqb-true e of here))
+    by false other = refl
+
+pages_start : (p page : ℕ) (frames : List Frame) (m : MemoryView) → (with_process p (with_pages page frames) m).started ≡ m.started
+pages_start p page frames m = by (at m.processes p)
+  where
+    by : (found : Option ProcessView) → (option_map_or (λ process. record m { processes = put m.processes p (with_pages page frames process) }) found m).started ≡ m.started
+    by None = refl
+    by (Some process) = refl
+
+pub started_counted : (e : ℕ) (past : List Line) → ((facts_at past).memory e).started ≡ starts_by e past
 started_counted e [] = refl
 started_counted e (lines.Proc of p uid gid ∷ past) = by (eqb e of.0) refl (started_counted e past)
   where
-    by : (b : Bool) → eqb e of.0 ≡ b → (facts_at past).started e ≡ starts_by e past
-        → cond b ((facts_at past).started of.0 + 1) ((facts_at past).started e)
+    memory : ℕ → MemoryView
+    memory = (facts_at past).memory
+
+    by : (b : Bool) → eqb e of.0 ≡ b → (memory e).started ≡ starts_by e past
+        → (cond b (record { started = (memory of.0).started + 1; processes = put (memory of.0).processes p.0 (new_process uid gid) }) (memory e)).started
         ≡ length (cond b (lines.Proc of p uid gid ∷ filter (starts_at e) past) (filter (starts_at e) past))
-    by true is more = let same : (facts_at past).started of.0 ≡ (facts_at past).started e = ap (λ n. (facts_at past).started n) (sym (eqb-true e of.0 is)) in
+    by true is more = let same : (memory of.0).started ≡ (memory e).started = ap (λ n. (memory n).started) (sym (eqb-true e of.0 is)) in
         omega (arith, more, same)
     by false is more = more
-started_counted e (lines.Do (commands.Pool blocks) ∷ past) = started_counted e past
+started_counted e (lines.Alloc of p page frames ∷ past) =
+    let fact = fact_of ((facts_at past).enclave of.0) in
+    let local = map (local_frame fact.kind fact.blocks) frames in
+    let m = (facts_at past).memory of.0 in
+    started_stays (facts_at past).memory of.0 (with_process p.0 (with_pages page.0 local) m) e (pages_start p.0 page.0 local m) ∙ started_counted e past
 started_counted e (_ ∷ past) = started_counted e past
 
 -- ---- boots and starts

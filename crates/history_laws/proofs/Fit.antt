@@ -1,20 +1,30 @@
 -- Facts whose numbers fit the types of lines, and the lines that leave them so.
-use Rattle.std.proofs.Common.{◌≡◌, ◌≤◌, ℕ, List, [], ◌∷◌, ◌++◌, true, eqb, ◌&&◌, is_some, Option, None, Some, All, sym, subst}
+use Rattle.std.proofs.Common.{◌≡◌, ◌≤◌, ℕ, List, [], ◌∷◌, ◌++◌, true, false, cond, eqb, ltb, ◌&&◌, is_some, Option, None, Some, All, sym, subst, arith}
 use Rattle.std.specs.List.{AllByRecursion}
 use Rattle.std.specs.Map.{keys_of, values_of}
 use Rattle.std.specs.Ordering.{nat_cmp}
 use Rattle.std.proofs.lemmas.Bool.{eqb-true, cond_both}
-use Rattle.std.proofs.lemmas.List.Elements.{All-nil, All-cons, All-append}
+use Rattle.std.proofs.lemmas.List.Elements.{All-nil, All-cons, All-head, All-tail}
 use Rattle.std.proofs.lemmas.Map.Views.{All-keys-insert_entry, All-values-insert_entry}
 use Rattle.xm_num.specs.declared.Enclave.{Enclave}
-use Rattle.xm_num.specs.Rows.{put}
+use Rattle.xm_num.specs.declared.Page.{Page}
+use Rattle.xm_num.specs.Rows.{at, put}
+use Rattle.frame_pool.specs.declared.BlockState.{BlockState}
+use Rattle.frame_pool.specs.declared.BlockState.TheVariants as states
+use Rattle.frame_pool.specs.Blocks.{is_free}
+use Rattle.xemem_language.specs.declared.command.Command.{Command}
+use Rattle.xemem_language.specs.declared.command.Command.TheVariants as commands
 use Rattle.xemem_language.specs.declared.record.Record.{Record}
 use Rattle.xemem_language.specs.declared.line.Line.{Line}
 use Rattle.xemem_language.specs.declared.line.Line.TheVariants as lines
+use Rattle.xemem_language.specs.Ranges.{IsInRange}
 use Rattle.xemem_wire.specs.Spelling.{is_valid, AreValid}
 use Rattle.line_reader.specs.Typed.{Is16, Is32}
-use Rattle.enclave_rules.specs.Blocks.{BlockFact, Absent, Free, Lent, Held}
-use Rattle.global_model.specs.Facts.{ChannelFact, EnclaveFact, Facts, OwnPage, after_line, after_lines, as_admitted, at_number, at_pair, fact_of, with_got, with_sent, with_taken}
+use Rattle.enclave_rules.specs.Core.{with_death}
+use Rattle.enclave_rules.specs.Ways.{WaysView, ways_line}
+use Rattle.enclave_rules.specs.Memory.{ProcessView, MemoryView}
+use Rattle.enclave_rules.specs.Hand.{Hand}
+use Rattle.global_model.specs.Facts.{ChannelFact, EnclaveFact, Facts, after_line, after_lines, as_admitted, at_number, at_pair, block_after, fact_of, pool_after, with_got, with_sent, with_taken, with_ways}
 
 -- ---- what fits
 
@@ -29,47 +39,48 @@ AllNumbers rows = All IsNumber (values_of rows)
 abbrev pub IsLow : ℕ → Type 0
 IsLow n = n ≤ 255
 
-abbrev pub IsFitBlock : BlockFact → Type 0
-IsFitBlock Absent = Unit {0}
-IsFitBlock Free = Unit {0}
-IsFitBlock (Lent e) = e ≤ 255
-IsFitBlock (Held e) = e ≤ 255
+abbrev pub IsFitState : BlockState → Type 0
+IsFitState states.Free = Unit {0}
+IsFitState (states.Lent e) = IsNumber e
+IsFitState (states.Held e) = IsNumber e
 
-pub record IsFitPool (pool : ℕ) (block : ℕ → BlockFact) : Type 0 where
+-- a block that isn't free has a number that fits
+pub record IsFitPool (pool : ℕ) (block : ℕ → BlockState) : Type 0 where
   pub most : pool ≤ 65536
-  pub lent : (b : ℕ) → IsFitBlock (block b)
+  pub state : (b : ℕ) → IsFitState (block b)
+  pub inside : (b : ℕ) → is_free (block b) ≡ false → Is16 b
 
 pub record IsFitTree (born : ℕ) (enclave : ℕ → Option EnclaveFact) : Type 0 where
   pub most : born ≤ 256
   pub number : (e : ℕ) → is_some (enclave e) ≡ true → e ≤ 255
   pub parent : (e : ℕ) → IsNumber (fact_of (enclave e)).parent
 
-pub record IsFitKnown (way : ℕ → Option Enclave) (askers backs routes : ℕ → List (ℕ × Enclave)) (heard : ℕ → List Enclave) : Type 0 where
-  pub over : (e : ℕ) (x : Enclave) → way e ≡ Some x → IsNumber x
-  pub asked : (e : ℕ) → AllNumbers (askers e)
-  pub back : (e : ℕ) → AllNumbers (backs e)
-  pub route : (e : ℕ) → AllNumbers (routes e)
-  pub lies : (e : ℕ) → All IsLow (keys_of (routes e))
-  pub dead : (e : ℕ) → All IsNumber (heard e)
+pub record IsFitWays (w : WaysView) : Type 0 where
+  pub over : (x : Enclave) → w.way ≡ Some x → IsNumber x
+  pub asked : AllNumbers w.askers
+  pub back : AllNumbers w.backs
+  pub route : AllNumbers w.routes
+  pub lies : All IsLow (keys_of w.routes)
+
+-- the numbers of a process's pages fit
+abbrev pub IsFitProcess : ProcessView → Type 0
+IsFitProcess process = (v : ℕ) (page : Page) → at process.pages v ≡ Some page → Is32 v
+
+pub record IsFitMemory (starts : ℕ) (m : MemoryView) : Type 0 where
+  pub started : m.started ≤ starts
+  pub pages : All IsFitProcess (values_of m.processes)
 
 abbrev pub AreFitChannels : (ℕ → ℕ → ChannelFact) → Type 0
 AreFitChannels channel = (x y : ℕ) → AreValid (channel x y).sent
 
-pub record AreFitStarts (starts : ℕ) (started : ℕ → ℕ) : Type 0 where
-  pub most : starts ≤ 1024
-  pub each : (e : ℕ) → started e ≤ starts
-
--- an own page, whose number and frame fit
-abbrev pub IsFitPage : OwnPage → Type 0
-IsFitPage own = Is32 own.page × Is32 own.frame.0
-
 pub record IsFit (G : Facts) : Type 0 where
   pub pool : IsFitPool G.pool G.block
   pub tree : IsFitTree G.born G.enclave
-  pub known : IsFitKnown G.way G.askers G.backs G.routes G.heard
+  pub heard : (e : ℕ) → All IsNumber (G.heard e)
+  pub ways : (e : ℕ) → IsFitWays (G.ways e)
   pub channels : AreFitChannels G.channel
-  pub starts : AreFitStarts G.starts G.started
-  pub own : All IsFitPage G.own
+  pub starts : G.starts ≤ 1024
+  pub memory : (e : ℕ) → IsFitMemory G.starts (G.memory e)
 
 -- ---- functions that are changed at one number, or at one pair
 
@@ -87,6 +98,14 @@ put_numbers rows k x all number = All-values-insert_entry nat_cmp k x IsNumber r
 put_keys : (rows : List (ℕ × Enclave)) (k : ℕ) (x : Enclave) → All IsLow (keys_of rows) → k ≤ 255 → All IsLow (keys_of (put rows k x))
 unfolding put
 put_keys rows k x all low = All-keys-insert_entry nat_cmp k x IsLow rows all low
+
+death_numbers : (d : Enclave) (heard : List Enclave) → IsNumber d → All IsNumber heard → All IsNumber (with_death d heard)
+death_numbers d [] number all = All-cons IsNumber d [] number all
+death_numbers d (x ∷ heard) number all =
+    let first = All-head IsNumber x heard all in
+    let later = All-tail IsNumber x heard all in
+    cond_both (ltb d.0 x.0) (d ∷ x ∷ heard) (cond (eqb d.0 x.0) (x ∷ heard) (x ∷ with_death d heard)) (All IsNumber) (λ is. All-cons IsNumber d (x ∷ heard) number all)
+    (λ other. cond_both (eqb d.0 x.0) (x ∷ heard) (x ∷ with_death d heard) (All IsNumber) (λ is. all) (λ more. All-cons IsNumber x (with_death d heard) first (death_numbers d heard number later)))
 
 valid-sent : (rs : List Record) (r : Record) → AreValid rs → is_valid r ≡ true → AreValid (rs ++ r ∷ [])
 valid-sent [] r all valid = (valid, tt)
@@ -121,25 +140,37 @@ IsSteady line = ⊥
 abbrev pub AreSteady : List Line → Type 0
 AreSteady journal = AllByRecursion IsSteady journal
 
+-- what a command gives into the pool fits, and what it gives into the hand is no matter
+do_pool : (c : Command) (pool : ℕ) (block : ℕ → BlockState) → IsInRange c → IsFitPool pool block → IsFitPool (pool_after c pool) (block_after c block)
+do_pool (commands.Pool blocks) pool block range fit = let most = range.1 in record { most = omega (arith, most); state = λ b. tt; inside = λ b taken. cc }
+do_pool _ pool block range fit = fit
+
 module _ (G : Facts) (fit : IsFit G) where
-  pub fit_line : (l : Line) → IsSteady l → IsFit (after_line G l)
-  fit_line (lines.Told e of) steady =
-      let all = All-append IsNumber (G.heard e.0) (of ∷ []) (fit.known.dead e.0) (All-cons IsNumber of [] steady.1 (All-nil IsNumber)) in
+  pub fit_do : (c : Command) → IsInRange c → IsFit (after_line G (lines.Do c))
+  fit_do c range = record { pool = do_pool c G.pool G.block range fit.pool; tree = fit.tree; heard = fit.heard; ways = fit.ways; channels = fit.channels; starts = fit.starts; memory = fit.memory }
+
+  fit_ways : (e : Enclave) (l : Line) → IsFitWays (ways_line (fact_of (G.enclave e.0)).parent (G.ways e.0) l) → IsFit (with_ways e l G)
+  fit_ways e l new =
       record {
         pool = fit.pool;
         tree = fit.tree;
-        known = record {
-          over = fit.known.over;
-          asked = fit.known.asked;
-          back = fit.known.back;
-          route = fit.known.route;
-          lies = fit.known.lies;
-          dead = at_number_fits (All IsNumber) e.0 _ G.heard all fit.known.dead;
-        };
+        heard = fit.heard;
+        ways = at_number_fits IsFitWays e.0 _ G.ways new fit.ways;
         channels = fit.channels;
         starts = fit.starts;
-        own = fit.own;
+        memory = fit.memory;
       }
+
+  fit_channels : (x y : Enclave) (change : ChannelFact → ChannelFact) (hand : Hand) → ((a b : ℕ) → AreValid (change (G.channel a b)).sent)
+      → IsFit (record G { channel = at_pair x.0 y.0 change G.channel; hand = hand })
+  fit_channels x y change hand new =
+      let channels = at_pair_fits (λ (c : ChannelFact). AreValid c.sent) x.0 y.0 change G.channel new fit.channels in
+      record { pool = fit.pool; tree = fit.tree; heard = fit.heard; ways = fit.ways; channels = channels; starts = fit.starts; memory = fit.memory }
+
+  pub fit_line : (l : Line) → IsSteady l → IsFit (after_line G l)
+  fit_line (lines.Told e of) steady =
+      let heard = at_number_fits (All IsNumber) e.0 _ G.heard (death_numbers of (G.heard e.0) steady.1 (fit.heard e.0)) fit.heard in
+      record { pool = fit.pool; tree = fit.tree; heard = heard; ways = fit.ways; channels = fit.channels; starts = fit.starts; memory = fit.memory }
   fit_line (lines.Admitted e) steady =
       record {
         pool = fit.pool;
@@ -148,88 +179,33 @@ module _ (G : Facts) (fit : IsFit G) where
           number = λ j. cond_both (eqb j e.0) (as_admitted (G.enclave e.0)) (G.enclave j) (λ fact. is_some fact ≡ true → j ≤ 255) (λ is some. subst (λ k. k ≤ 255) (sym (eqb-true j e.0 is)) steady) (λ other. fit.tree.number j);
           parent = at_number_fits (λ fact. IsNumber (fact_of fact).parent) e.0 _ G.enclave (admitted (G.enclave e.0) (fit.tree.parent e.0)) fit.tree.parent;
         };
-        known = fit.known;
+        heard = fit.heard;
+        ways = fit.ways;
         channels = fit.channels;
         starts = fit.starts;
-        own = fit.own;
+        memory = fit.memory;
       }
     where
       admitted : (fact : Option EnclaveFact) → IsNumber (fact_of fact).parent → IsNumber (fact_of (as_admitted fact)).parent
       admitted None number = number
       admitted (Some fact) number = number
-  fit_line (lines.Sent x y r) steady =
-      let channels = at_pair_fits (λ (c : ChannelFact). AreValid c.sent) x.0 y.0 (with_sent r) G.channel (λ a b. valid-sent (G.channel a b).sent r (fit.channels a b) steady.2) fit.channels in
-      record { pool = fit.pool; tree = fit.tree; known = fit.known; channels = channels; starts = fit.starts; own = fit.own }
-  fit_line (lines.Took x y count) steady =
-      let channels = at_pair_fits (λ (c : ChannelFact). AreValid c.sent) x.0 y.0 (with_taken count) G.channel fit.channels fit.channels in
-      record { pool = fit.pool; tree = fit.tree; known = fit.known; channels = channels; starts = fit.starts; own = fit.own }
-  fit_line (lines.Got x y) steady =
-      let channels = at_pair_fits (λ (c : ChannelFact). AreValid c.sent) x.0 y.0 with_got G.channel fit.channels fit.channels in
-      record { pool = fit.pool; tree = fit.tree; known = fit.known; channels = channels; starts = fit.starts; own = fit.own }
+  fit_line (lines.Sent x y r) steady = fit_channels x y (with_sent r) _ (λ a b. valid-sent (G.channel a b).sent r (fit.channels a b) steady.2)
+  fit_line (lines.Took x y count) steady = fit_channels x y (with_taken count) _ fit.channels
+  fit_line (lines.Got x y) steady = fit_channels x y with_got _ fit.channels
   fit_line (lines.Asked e by) steady =
-      record {
-        pool = fit.pool;
-        tree = fit.tree;
-        known = record {
-          over = fit.known.over;
-          asked = at_number_fits AllNumbers e.0 _ G.askers (put_numbers (G.askers e.0) _ by (fit.known.asked e.0) steady.1) fit.known.asked;
-          back = fit.known.back;
-          route = fit.known.route;
-          lies = fit.known.lies;
-          dead = fit.known.dead;
-        };
-        channels = fit.channels;
-        starts = fit.starts;
-        own = fit.own;
-      }
+      let old = fit.ways e.0 in
+      fit_ways e (lines.Asked e by) (record { over = old.over; asked = put_numbers (G.ways e.0).askers _ by old.asked steady.1; back = old.back; route = old.route; lies = old.lies })
   fit_line (lines.Way e over) steady =
-      record {
-        pool = fit.pool;
-        tree = fit.tree;
-        known = record {
-          over = at_number_fits (λ way. (x : Enclave) → way ≡ Some x → IsNumber x) e.0 (Some over) G.way (λ x is. let same : over ≡ x = cc in subst IsNumber same steady.1) fit.known.over;
-          asked = at_number_fits AllNumbers e.0 [] G.askers (All-nil IsNumber) fit.known.asked;
-          back = fit.known.back;
-          route = fit.known.route;
-          lies = fit.known.lies;
-          dead = fit.known.dead;
-        };
-        channels = fit.channels;
-        starts = fit.starts;
-        own = fit.own;
-      }
+      let old = fit.ways e.0 in
+      fit_ways e (lines.Way e over) (record { over = λ x is. let same : over ≡ x = cc in subst IsNumber same steady.1; asked = All-nil IsNumber; back = old.back; route = old.route; lies = old.lies })
   fit_line (lines.Back e of over) steady =
-      record {
-        pool = fit.pool;
-        tree = fit.tree;
-        known = record {
-          over = fit.known.over;
-          asked = fit.known.asked;
-          back = at_number_fits AllNumbers e.0 _ G.backs (put_numbers (G.backs e.0) of.0 over (fit.known.back e.0) steady.2) fit.known.back;
-          route = fit.known.route;
-          lies = fit.known.lies;
-          dead = fit.known.dead;
-        };
-        channels = fit.channels;
-        starts = fit.starts;
-        own = fit.own;
-      }
+      let old = fit.ways e.0 in
+      fit_ways e (lines.Back e of over) (record { over = old.over; asked = old.asked; back = put_numbers (G.ways e.0).backs of.0 over old.back steady.2; route = old.route; lies = old.lies })
   fit_line (lines.Route e of over) steady =
-      record {
-        pool = fit.pool;
-        tree = fit.tree;
-        known = record {
-          over = fit.known.over;
-          asked = fit.known.asked;
-          back = fit.known.back;
-          route = at_number_fits AllNumbers e.0 _ G.routes (put_numbers (G.routes e.0) of.0 over (fit.known.route e.0) steady.2) fit.known.route;
-          lies = at_number_fits (λ rows. All IsLow (keys_of rows)) e.0 _ G.routes (put_keys (G.routes e.0) of.0 over (fit.known.lies e.0) steady.1) fit.known.lies;
-          dead = fit.known.dead;
-        };
-        channels = fit.channels;
-        starts = fit.starts;
-        own = fit.own;
-      }
+      let old = fit.ways e.0 in
+      let rows = (G.ways e.0).routes in
+      fit_ways e (lines.Route e of over)
+      (record { over = old.over; asked = old.asked; back = old.back; route = put_numbers rows of.0 over old.route steady.2; lies = put_keys rows of.0 over old.lies steady.1 })
   fit_line (lines.Do command) steady = absurd steady
   fit_line (lines.Born e kind parent ns blocks) steady = absurd steady
   fit_line (lines.Proc e p uid gid) steady = absurd steady

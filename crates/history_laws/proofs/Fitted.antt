@@ -1,11 +1,14 @@
 -- The lines of a command whose numbers fit their types, and leave facts whose numbers do: births, processes and their pages, and
 -- what is shown.
-use Rattle.std.proofs.Common.{◌≡◌, ◌+◌, ◌-◌, ◌*◌, ◌/◌, ◌<◌, ◌≤◌, ℕ, zero, suc, List, [], ◌∷◌, ◌++◌, length, take, drop, filter, map, Bool, true, false, leb, ltb, eqb, not, ◌&&◌, is_some, Option, None, Some, if◌then◌else◌, All, refl, sym, ap, ◌∙◌, subst, arith, length-append, length-drop, length-take}
+use Rattle.std.proofs.Common.{◌≡◌, ◌+◌, ◌-◌, ◌*◌, ◌/◌, ◌<◌, ◌≤◌, ℕ, zero, suc, List, [], ◌∷◌, ◌++◌, length, take, drop, map, Bool, true, false, cond, leb, ltb, eqb, not, ◌&&◌, ◌||◌, is_some, Option, None, Some, if◌then◌else◌, All, refl, sym, ap, ◌∙◌, subst, arith, length-append, length-drop, length-take}
 use Rattle.std.specs.List.{AllByRecursion, range_with_len}
 use Rattle.std.specs.Option.{option_map, option_map_or}
 use Rattle.std.specs.Map.{values_of, keys_of}
+use Rattle.std.specs.Ordering.{nat_cmp}
 use Rattle.std.proofs.lemmas.Bool.{leb-false, ltb-false, eqb-true, and_parts, cond_both}
+use Rattle.std.proofs.lemmas.List.{length-map}
 use Rattle.std.proofs.lemmas.List.Concat.{flat_map-append}
+use Rattle.std.proofs.lemmas.Map.Views.{All-values-insert_entry}
 use Rattle.std.proofs.lemmas.List.Elements.{All-nil, All-cons, All-head, All-tail, All-append, All-map, All-take, All-drop, All-filter, All-weaker}
 use Rattle.xm_num.specs.declared.Enclave.{Enclave}
 use Rattle.xm_num.specs.declared.Pid.{Pid}
@@ -18,7 +21,7 @@ use Rattle.xm_num.specs.declared.Want.{Want}
 use Rattle.xm_num.specs.declared.Page.{Page}
 use Rattle.xm_num.specs.declared.Cause.{Cause}
 use Rattle.xm_num.specs.declared.Cause.TheVariants as causes
-use Rattle.xm_num.specs.Rows.{at}
+use Rattle.xm_num.specs.Rows.{at, put, put_all}
 use Rattle.xemem_language.specs.declared.command.Command.{Command}
 use Rattle.xemem_language.specs.declared.command.Command.TheVariants as commands
 use Rattle.xemem_language.specs.declared.record.Record.{Record}
@@ -28,21 +31,27 @@ use Rattle.xemem_language.specs.Spelling.{line_words, words_in}
 use Rattle.xemem_language.specs.Ranges.{IsInRange}
 use Rattle.xemem_wire.specs.Spelling.{spelling_of, header_of, spellings_of, AreValid}
 use Rattle.line_reader.specs.Typed.{Is8, Is16, Is32, IsTyped}
-use Rattle.enclave_rules.specs.Blocks.{BlockFact, Absent, Free, Lent, Held, is_listed}
-use Rattle.enclave_rules.specs.View.{host}
-use Rattle.enclave_rules.specs.Steps.{child_lines, told_lines, adopt_lines, query_of, knows_way, route_lines, bytes_lines, state_line, state_lines}
-use Rattle.global_model.specs.Facts.{EnclaveFact, Facts, after_line, facts_at, own_from, fact_of, with_sent, with_taken, with_got, is_living_enclave, is_living_process}
-use Rattle.global_model.specs.Space.{Mapping, is_of, pages_of, mapping_of, space_of, is_unused, unused_frames, free_blocks}
-use Rattle.global_model.specs.Channels.{is_neighbour, was_born, waiting_bytes}
+use Rattle.frame_pool.specs.declared.BlockState.{BlockState}
+use Rattle.frame_pool.specs.declared.BlockState.TheVariants as states
+use Rattle.frame_pool.specs.Blocks.{is_free, is_listed}
+use Rattle.enclave_rules.specs.Core.{host, local_frame}
+use Rattle.enclave_rules.specs.Memory.{ProcessView, MemoryView, new_process, with_pages, with_process}
+use Rattle.enclave_rules.specs.Pages.{own_page}
+use Rattle.enclave_rules.specs.Sending.{knows_way}
+use Rattle.enclave_rules.specs.Steps.{child_lines, told_lines, adopt_lines, query_of, route_lines, bytes_lines, state_line, state_lines}
+use Rattle.global_model.specs.Apt.{AreOwned}
+use Rattle.global_model.specs.Facts.{EnclaveFact, Facts, after_line, facts_at, fact_of, with_sent, with_taken, with_got, is_living_enclave, lives_at, runs}
+use Rattle.global_model.specs.Space.{Mapping, frame_of, mapping_of, space_of, is_lent_to, is_unused, unused_frames, free_blocks}
+use Rattle.global_model.specs.Channels.{is_neighbour, was_born, waiting_of, waiting_bytes}
 use Rattle.global_model.specs.Views.{view_of}
 use Rattle.global_model.specs.Refusals.{when, is_taken, refusal_of}
 use Rattle.global_model.specs.Due.{next_enclave, next_pid, touched_lines, acts_of, step_lines}
 use Rattle.global_model.specs.Journals.{onto}
 use Rattle.history_laws.specs.Fitting.{IsCountable}
 use Rattle.history_laws.specs.Laws.{Laws}
-use Rattle.history_laws.proofs.Legal.{All-range, behind_page}
-use Rattle.history_laws.proofs.Fit.{IsNumber, AllNumbers, IsLow, IsFitBlock, IsFitPage, IsFit, IsSteady, AreSteady, fit_line, at_number_fits}
-use Rattle.history_laws.proofs.Steady.{steady_append, steady_either, valid_query, valid_numbers}
+use Rattle.history_laws.proofs.Lending.{All-range}
+use Rattle.history_laws.proofs.Fit.{IsNumber, AllNumbers, IsLow, IsFitState, IsFitProcess, IsFitMemory, IsFit, IsSteady, AreSteady, fit_do, fit_line, at_number_fits}
+use Rattle.history_laws.proofs.Steady.{steady_append, steady_either, valid_query, valid_numbers, at_has}
 
 -- ---- steady lines
 
@@ -99,15 +108,21 @@ pub fitted_one : (few : Type 0) (l : Line) (past : List Line) → IsTyped l → 
 fitted_one few l past typed fit = fitted_cons few l [] past typed (record { typed = λ is. All-nil IsTyped; fit = fit })
 
 -- a command whose acts fit where it isn't refused
-pub with_refusal : (c : Command) (past : List Line) → IsFit (facts_at (lines.Do c ∷ past))
-    → (refusal_of (facts_at past) c ≡ None → IsFittedUpTo (IsCountable past) (lines.Do c ∷ past) (acts_of (facts_at past) c))
+pub with_refusal : (c : Command) (past : List Line) → IsFit (facts_at past) → IsInRange c
+    → (refusal_of (facts_at past) c ≡ None → IsFit (facts_at (lines.Do c ∷ past)) → IsFittedUpTo (IsCountable past) (lines.Do c ∷ past) (acts_of (facts_at (lines.Do c ∷ past)) c))
     → IsFittedUpTo (IsCountable past) past (step_lines (facts_at past) c)
-with_refusal c past fit acts = by (refusal_of (facts_at past) c) refl
+with_refusal c past fit range acts = by (refusal_of (facts_at past) c) refl
   where
+    few : Type 0
+    few = IsCountable past
+
+    after : IsFit (facts_at (lines.Do c ∷ past))
+    after = fit_do (facts_at past) fit c range
+
     by : (o : Option Cause) → refusal_of (facts_at past) c ≡ o
-        → IsFittedUpTo (IsCountable past) past (lines.Do c ∷ option_map_or (λ cause. lines.Refused cause ∷ []) o (acts_of (facts_at past) c))
-    by None is = fitted_cons (IsCountable past) (lines.Do c) (acts_of (facts_at past) c) past tt (acts is)
-    by (Some cause) is = fitted_cons (IsCountable past) (lines.Do c) (lines.Refused cause ∷ []) past tt (fitted_one (IsCountable past) (lines.Refused cause) (lines.Do c ∷ past) tt fit)
+        → IsFittedUpTo (IsCountable past) past (lines.Do c ∷ option_map_or (λ cause. lines.Refused cause ∷ []) o (acts_of (facts_at (lines.Do c ∷ past)) c))
+    by None is = fitted_cons few (lines.Do c) (acts_of (facts_at (lines.Do c ∷ past)) c) past tt (acts is after)
+    by (Some cause) is = fitted_cons few (lines.Do c) (lines.Refused cause ∷ []) past tt (fitted_one few (lines.Refused cause) (lines.Do c ∷ past) tt after)
 
 -- ---- conditions that don't hold
 
@@ -137,21 +152,34 @@ blocks_fit G n fit =
     let low = All-weaker (λ b. (0 ≤ b) × (b < 0 + G.pool)) Is16 (λ b h. omega (arith, h.1, most)) (range_with_len 0 G.pool) (All-range 0 G.pool) in
     All-take (λ b. Is16 b.0) n (free_blocks G) (All-map (λ (b : Block). Is16 b.0) (λ b. record { 0 = b }) _ (All-filter _ Is16 (range_with_len 0 G.pool) low))
 
+listed_fits : (blocks : List Block) (k : ℕ) → All (λ b. Is16 b.0) blocks → is_listed blocks k ≡ true → Is16 k
+listed_fits [] k all is = cc
+listed_fits (b ∷ blocks) k all is = by (eqb b.0 k) refl (listed_fits blocks k (All-tail (λ (x : Block). Is16 x.0) b blocks all)) is
+  where
+    by : (here : Bool) → eqb b.0 k ≡ here → (is_listed blocks k ≡ true → Is16 k) → (here || is_listed blocks k) ≡ true → Is16 k
+    by true same later h = subst Is16 (eqb-true b.0 k same) (All-head (λ (x : Block). Is16 x.0) b blocks all)
+    by false same later h = later h
+
 fit_born : (G : Facts) (e : Enclave) (kind : Kind) (parent : Enclave) (ns : Bool) (blocks : List Block) → IsFit G → G.born ≤ 255 → IsNumber e → IsNumber parent
-    → IsFit (after_line G (lines.Born e kind parent ns blocks))
-fit_born G e kind parent ns blocks fit room number above =
+    → All (λ b. Is16 b.0) blocks → IsFit (after_line G (lines.Born e kind parent ns blocks))
+fit_born G e kind parent ns blocks fit room number above lent =
     let fact : Option EnclaveFact = Some (record { kind = kind; parent = parent; blocks = blocks; ns = ns; living = true; admitted = false }) in
     record {
-      pool = record { most = fit.pool.most; lent = λ b. cond_both (is_listed blocks b) (Lent e.0) (G.block b) IsFitBlock (λ is. number) (λ other. fit.pool.lent b) };
+      pool = record {
+        most = fit.pool.most;
+        state = λ b. cond_both (is_listed blocks b) (states.Lent e) (G.block b) IsFitState (λ is. number) (λ other. fit.pool.state b);
+        inside = λ b. cond_both (is_listed blocks b) (states.Lent e) (G.block b) (λ state. is_free state ≡ false → Is16 b) (λ is taken. listed_fits blocks b lent is) (λ other. fit.pool.inside b);
+      };
       tree = record {
         most = omega (arith, room);
         number = λ j. cond_both (eqb j e.0) fact (G.enclave j) (λ found. is_some found ≡ true → j ≤ 255) (λ is some. subst (λ k. k ≤ 255) (sym (eqb-true j e.0 is)) number) (λ other. fit.tree.number j);
         parent = λ j. cond_both (eqb j e.0) fact (G.enclave j) (λ found. IsNumber (fact_of found).parent) (λ is. above) (λ other. fit.tree.parent j);
       };
-      known = fit.known;
+      heard = fit.heard;
+      ways = fit.ways;
       channels = fit.channels;
       starts = fit.starts;
-      own = fit.own;
+      memory = fit.memory;
     }
 
 fitted_born : (few : Type 0) (G : Facts) (past : List Line) (e : Enclave) (kind : Kind) (parent : Enclave) (ns : Bool) (blocks : ℕ) (more : List Line)
@@ -159,70 +187,83 @@ fitted_born : (few : Type 0) (G : Facts) (past : List Line) (e : Enclave) (kind 
     → IsFittedUpTo few past (lines.Born e kind parent ns (take blocks (free_blocks G)) ∷ more)
 fitted_born few G past e kind parent ns blocks more is fit room number above steady =
     let line = lines.Born e kind parent ns (take blocks (free_blocks G)) in
-    let after : IsFit (facts_at (line ∷ past)) = subst (λ H. IsFit (after_line H line)) is (fit_born G e kind parent ns _ fit room number above) in
-    fitted_cons few line more past (wide e number, wide parent above, blocks_fit G blocks fit) (fitted_steady few more (line ∷ past) after steady)
+    let lent = blocks_fit G blocks fit in
+    let after : IsFit (facts_at (line ∷ past)) = subst (λ H. IsFit (after_line H line)) is (fit_born G e kind parent ns _ fit room number above lent) in
+    fitted_cons few line more past (wide e number, wide parent above, lent) (fitted_steady few more (line ∷ past) after steady)
 
 steady_told : (child : Enclave) (dead : List Enclave) → IsNumber child → All IsNumber dead → AreSteady (told_lines child dead)
 steady_told child [] number all = tt
 steady_told child (d ∷ dead) number all = ((number, All-head IsNumber d dead all), steady_told child dead number (All-tail IsNumber d dead all))
 
-pub fitted_host : (blocks : ℕ) (ns : Bool) (past : List Line) → IsFit (facts_at past) → (facts_at past).born ≡ 0
+pub fitted_host : (blocks : ℕ) (ns : Bool) (past : List Line) → IsFit (facts_at past) → IsInRange (commands.Host blocks ns) → (facts_at past).born ≡ 0
     → IsFittedUpTo (IsCountable past) past (step_lines (facts_at past) (commands.Host blocks ns))
-fitted_host blocks ns past fit none =
-    with_refusal (commands.Host blocks ns) past fit
-    (λ met. fitted_born (IsCountable past) (facts_at past) (lines.Do (commands.Host blocks ns) ∷ past) host kinds.Host host ns blocks (if ns then lines.Admitted host ∷ [] else []) refl fit (omega (arith, none)) (omega arith) (omega arith)
+fitted_host blocks ns past fit range none =
+    let c = commands.Host blocks ns in
+    with_refusal c past fit range
+    (λ met after. fitted_born (IsCountable past) (facts_at (lines.Do c ∷ past)) (lines.Do c ∷ past) host kinds.Host host ns blocks (if ns then lines.Admitted host ∷ [] else []) refl after (omega (arith, none)) (omega arith) (omega arith)
     (steady_either ns (lines.Admitted host ∷ []) [] (omega arith, tt) tt))
 
-pub fitted_boot : Laws → (kind : Kind) (parent : Enclave) (blocks : ℕ) (ns : Bool) (past : List Line) → IsFit (facts_at past)
+pub fitted_boot : Laws → (kind : Kind) (parent : Enclave) (blocks : ℕ) (ns : Bool) (past : List Line) → IsFit (facts_at past) → IsInRange (commands.Boot kind parent blocks ns)
     → IsFittedUpTo (IsCountable past) past (step_lines (facts_at past) (commands.Boot kind parent blocks ns))
-fitted_boot laws kind parent blocks ns past fit = with_refusal (commands.Boot kind parent blocks ns) past fit acts
+fitted_boot laws kind parent blocks ns past fit range = with_refusal c past fit range acts
   where
-    G : Facts
-    G = facts_at past
+    c : Command
+    c = commands.Boot kind parent blocks ns
 
-    acts : refusal_of (facts_at past) (commands.Boot kind parent blocks ns) ≡ None
-        → IsFittedUpTo (IsCountable past) (lines.Do (commands.Boot kind parent blocks ns) ∷ past) (acts_of (facts_at past) (commands.Boot kind parent blocks ns))
-    acts none =
-        let H = facts_at past in
+    acts : refusal_of (facts_at past) (commands.Boot kind parent blocks ns) ≡ None → IsFit (facts_at (lines.Do (commands.Boot kind parent blocks ns) ∷ past))
+        → IsFittedUpTo (IsCountable past) (lines.Do (commands.Boot kind parent blocks ns) ∷ past) (acts_of (facts_at (lines.Do (commands.Boot kind parent blocks ns) ∷ past)) (commands.Boot kind parent blocks ns))
+    acts none after =
+        let H = facts_at (lines.Do (commands.Boot kind parent blocks ns) ∷ past) in
         let fourth = when causes.NoBlocks (ltb (length (free_blocks H)) blocks) ∷ [] in
         let third = when causes.NameServerTaken (ns && H.server) ∷ fourth in
         let second = when causes.TooMany (leb 256 H.born) ∷ third in
         let one = laws.act.unmet causes.NoEnclave (not (is_living_enclave (H.enclave parent.0))) second none in
         let two = laws.act.unmet causes.TooMany (leb 256 H.born) third one.1 in
         let room = leb-false 256 H.born two.0 in
-        let above : IsNumber parent = living_number H parent fit one.0 in
+        let above : IsNumber parent = living_number H parent after one.0 in
         let child = next_enclave H in
         let number : IsNumber child = omega (arith, room) in
         let told = told_lines child (H.heard parent.0) in
         let own = child_lines child parent ns in
         let adopted = adopt_lines (view_of H parent) child in
-        fitted_born (IsCountable past) H (lines.Do (commands.Boot kind parent blocks ns) ∷ past) child kind parent ns blocks ((told ++ own) ++ adopted) refl fit (omega (arith, room)) number above
+        fitted_born (IsCountable past) H (lines.Do (commands.Boot kind parent blocks ns) ∷ past) child kind parent ns blocks ((told ++ own) ++ adopted) refl after (omega (arith, room)) number above
         (steady_append (told ++ own) adopted
-        (steady_append told own (steady_told child (H.heard parent.0) number (fit.known.dead parent.0))
+        (steady_append told own (steady_told child (H.heard parent.0) number (after.heard parent.0))
         (steady_either ns (lines.Admitted child ∷ []) (lines.Sent child parent (query_of child) ∷ []) (number, tt) ((number, above, valid_query child number), tt)))
         (steady_either (knows_way (view_of H parent)) [] (lines.Sent parent child (query_of parent) ∷ []) tt ((above, number, valid_query parent above), tt)))
 
 -- ---- processes and their pages
 
+put_processes : (rows : List (ℕ × ProcessView)) (p : ℕ) (process : ProcessView) → All IsFitProcess (values_of rows) → IsFitProcess process
+    → All IsFitProcess (values_of (put rows p process))
+unfolding put
+put_processes rows p process all fits = All-values-insert_entry nat_cmp p process IsFitProcess rows all fits
+
+-- a process that has no pages yet
+new_fits : (uid gid : ℕ) → IsFitProcess (new_process uid gid)
+unfolding at
+new_fits uid gid v page is = cc
+
 pub fitted_proc : Laws → (e : Enclave) (uid gid : ℕ) (past : List Line) → IsFit (facts_at past) → IsInRange (commands.Proc e uid gid)
     → IsFittedUpTo (IsCountable past) past (step_lines (facts_at past) (commands.Proc e uid gid))
-fitted_proc laws e uid gid past fit range = with_refusal (commands.Proc e uid gid) past fit (λ none.
+fitted_proc laws e uid gid past fit range = with_refusal (commands.Proc e uid gid) past fit range (λ none after.
     let G = facts_at past in
     let one = laws.act.unmet causes.NoEnclave (not (is_living_enclave (G.enclave e.0))) (when causes.TooMany (leb 1024 G.starts) ∷ []) none in
     let few = leb-false 1024 G.starts (laws.act.unmet causes.TooMany (leb 1024 G.starts) [] one.1).0 in
-    let mine = fit.starts.each e.0 in
+    let mine = fit.memory e.0 in
+    let begun = mine.started in
     let number : Is16 e.0 = wide e (living_number G e fit one.0) in
-    fitted_one (IsCountable past) (lines.Proc e (next_pid G e) uid gid) (lines.Do (commands.Proc e uid gid) ∷ past) (number, omega (arith, few, mine), range.1.1, range.2.1)
+    let new : IsFitMemory (G.starts + 1) (record { started = (G.memory e.0).started + 1; processes = put (G.memory e.0).processes ((G.memory e.0).started + 1) (new_process uid gid) }) =
+    record { started = omega (arith, begun); pages = put_processes (G.memory e.0).processes _ (new_process uid gid) mine.pages (new_fits uid gid) } in
+    fitted_one (IsCountable past) (lines.Proc e (next_pid G e) uid gid) (lines.Do (commands.Proc e uid gid) ∷ past) (number, omega (arith, few, begun), range.1.1, range.2.1)
     (record {
-      pool = fit.pool;
-      tree = fit.tree;
-      known = fit.known;
-      channels = fit.channels;
-      starts = record {
-        most = omega (arith, few);
-        each = at_number_fits (λ n. n ≤ G.starts + 1) e.0 (G.started e.0 + 1) G.started (omega (arith, mine)) (λ j. let old = fit.starts.each j in omega (arith, old));
-      };
-      own = fit.own;
+      pool = after.pool;
+      tree = after.tree;
+      heard = after.heard;
+      ways = after.ways;
+      channels = after.channels;
+      starts = omega (arith, few);
+      memory = at_number_fits (IsFitMemory (G.starts + 1)) e.0 _ G.memory new (λ j. let old = (fit.memory j).started in record { started = omega (arith, old); pages = (fit.memory j).pages });
     }))
 
 frames_fit : (G : Facts) (e n : ℕ) → IsFit G → All (λ f. Is32 f.0) (take n (unused_frames G e))
@@ -231,64 +272,96 @@ frames_fit G e n fit =
     let low = All-weaker (λ f. (0 ≤ f) × (f < 0 + 64 * G.pool)) Is32 (λ f h. omega (arith, h.1, most)) (range_with_len 0 (64 * G.pool)) (All-range 0 (64 * G.pool)) in
     All-take (λ f. Is32 f.0) n (unused_frames G e) (All-map (λ (f : Frame). Is32 f.0) (λ f. record { 0 = f }) _ (All-filter (is_unused G e) Is32 (range_with_len 0 (64 * G.pool)) low))
 
-own_fits : (e : Enclave) (p : Pid) (page : ℕ) (frames : List Frame) → page + length frames ≤ 16777216 → All (λ f. Is32 f.0) frames → All IsFitPage (own_from e p page frames)
-own_fits e p page [] within all = All-nil IsFitPage
-own_fits e p page (f ∷ frames) within all =
-    All-cons IsFitPage _ _ (omega (arith, within), All-head (λ (x : Frame). Is32 x.0) f frames all)
-    (own_fits e p (page + 1) frames (omega (arith, within)) (All-tail (λ (x : Frame). Is32 x.0) f frames all))
+-- a page whose number fits, and several
+put_fits : Laws → (rows : List (ℕ × Page)) (k : ℕ) (page : Page) → Is32 k → ((v : ℕ) (x : Page) → at rows v ≡ Some x → Is32 v)
+    → (v : ℕ) (x : Page) → at (put rows k page) v ≡ Some x → Is32 v
+put_fits laws rows k page low fits v x is = by (eqb k v) refl (sym (laws.row.pages rows k v page) ∙ is)
+  where
+    by : (b : Bool) → eqb k v ≡ b → cond b (Some page) (at rows v) ≡ Some x → Is32 v
+    by true same found = subst Is32 (eqb-true k v same) low
+    by false same found = fits v x found
+
+put_all_fits : Laws → (rows : List (ℕ × Page)) (k : ℕ) (pages : List Page) → k + length pages ≤ 16777216 → ((v : ℕ) (x : Page) → at rows v ≡ Some x → Is32 v)
+    → (v : ℕ) (x : Page) → at (put_all rows k pages) v ≡ Some x → Is32 v
+put_all_fits laws rows k [] within fits = fits
+put_all_fits laws rows k (page ∷ pages) within fits = put_all_fits laws (put rows k page) (k + 1) pages (omega (arith, within)) (put_fits laws rows k page (omega (arith, within)) fits)
+
+pages_fit : Laws → (starts : ℕ) (m : MemoryView) (p page : ℕ) (frames : List Frame) → IsFitMemory starts m → page + length frames ≤ 16777216
+    → IsFitMemory starts (with_process p (with_pages page frames) m)
+pages_fit laws starts m p page frames fit within = by (at m.processes p) refl
+  where
+    by : (o : Option ProcessView) → at m.processes p ≡ o → IsFitMemory starts (option_map_or (λ process. record m { processes = put m.processes p (with_pages page frames process) }) o m)
+    by None is = fit
+    by (Some process) is =
+        let count = length-map frames own_page in
+        let old : IsFitProcess process = at_has IsFitProcess m.processes p process fit.pages is in
+        let new : IsFitProcess (with_pages page frames process) = put_all_fits laws process.pages page (map own_page frames) (omega (arith, count, within)) old in
+        record { started = fit.started; pages = put_processes m.processes p (with_pages page frames process) fit.pages new }
 
 pub fitted_alloc : Laws → (e : Enclave) (p : Pid) (at : Vpn) (pages : ℕ) (past : List Line) → IsFit (facts_at past) → IsInRange (commands.Alloc e p at pages)
     → IsFittedUpTo (IsCountable past) past (step_lines (facts_at past) (commands.Alloc e p at pages))
-fitted_alloc laws e p at pages past fit range = with_refusal (commands.Alloc e p at pages) past fit (λ none.
+fitted_alloc laws e p at pages past fit range = with_refusal (commands.Alloc e p at pages) past fit range (λ none after.
     let G = facts_at past in
     let drawn = take pages (unused_frames G e.0) in
     let fifth = when causes.NoFrames (ltb (length (unused_frames G e.0)) pages) ∷ [] in
     let fourth = when causes.Taken (is_taken G e.0 p.0 at.0 pages) ∷ fifth in
     let third = when causes.BadRange (ltb 16777216 (at.0 + pages)) ∷ fourth in
-    let second = when causes.NoProcess (not (is_living_process (G.process e.0 p.0))) ∷ third in
+    let second = when causes.NoProcess (not (runs G e.0 p.0)) ∷ third in
     let one = laws.act.unmet causes.NoEnclave (not (is_living_enclave (G.enclave e.0))) second none in
-    let two = laws.act.unmet causes.NoProcess (not (is_living_process (G.process e.0 p.0))) third one.1 in
+    let two = laws.act.unmet causes.NoProcess (not (runs G e.0 p.0)) third one.1 in
     let within = ltb-false 16777216 (at.0 + pages) (laws.act.unmet causes.BadRange (ltb 16777216 (at.0 + pages)) fourth two.1).0 in
-    let frames = frames_fit G e.0 pages fit in
     let few = length-take pages (unused_frames G e.0) in
-    fitted_one (IsCountable past) (lines.Alloc e p at drawn) (lines.Do (commands.Alloc e p at pages) ∷ past) (wide e (living_number G e fit one.0), range.1.1, omega (arith, within), frames)
+    let fact = fact_of (G.enclave e.0) in
+    let named = map (local_frame fact.kind fact.blocks) drawn in
+    let count = length-map drawn (local_frame fact.kind fact.blocks) in
+    fitted_one (IsCountable past) (lines.Alloc e p at drawn) (lines.Do (commands.Alloc e p at pages) ∷ past) (wide e (living_number G e fit one.0), range.1.1, omega (arith, within), frames_fit G e.0 pages fit)
     (record {
-      pool = fit.pool;
-      tree = fit.tree;
-      known = fit.known;
-      channels = fit.channels;
-      starts = fit.starts;
-      own = All-append IsFitPage G.own (own_from e p at.0 drawn) fit.own (own_fits e p at.0 drawn (omega (arith, within, few)) frames);
+      pool = after.pool;
+      tree = after.tree;
+      heard = after.heard;
+      ways = after.ways;
+      channels = after.channels;
+      starts = after.starts;
+      memory = at_number_fits (IsFitMemory G.starts) e.0 _ G.memory (pages_fit laws G.starts (G.memory e.0) p.0 at.0 named (fit.memory e.0) (omega (arith, within, few, count))) fit.memory;
     }))
 
--- a page that is mapped, and its frame
-found_fits : Laws → (G : Facts) → IsFit G → (e p page : ℕ) (m : Mapping) → space_of G e p page ≡ Some m → Is32 page × Is32 m.frame.0
-found_fits laws G fit e p page m is = by (at (pages_of G e p) page) refl is
-  where
-    by : (o : Option Page) → at (pages_of G e p) page ≡ o → option_map mapping_of o ≡ Some m → Is32 page × Is32 m.frame.0
-    by None found same = cc
-    by (Some row) found same =
-        let b = behind_page laws IsFitPage (filter (is_of e p) G.own) page row (All-filter (is_of e p) IsFitPage G.own fit.own) found in
-        let mapping : mapping_of row ≡ m = cc in
-        let frame : b.own.frame ≡ m.frame = ap (λ x. x.frame) b.is ∙ ap (λ x. x.frame) mapping in
-        (subst Is32 b.number b.has.0, subst (λ f. Is32 f.0) frame b.has.1)
+-- a block that is lent isn't free
+lent_taken : (e : ℕ) (state : BlockState) → is_lent_to e state ≡ true → is_free state ≡ false
+lent_taken e states.Free lent = cc
+lent_taken e (states.Lent owner) lent = refl
+lent_taken e (states.Held owner) lent = cc
 
-pub fitted_touch : Laws → (e : Enclave) (p : Pid) (addr : ℕ) (want : Want) (past : List Line) → IsFit (facts_at past) → IsInRange (commands.Touch e p addr want)
+-- a page that is mapped, and its frame
+module _ (G : Facts) (fit : IsFit G) (owned : AreOwned G) where
+  found_fits : (e p v : ℕ) (found : Option ProcessView) → at (G.memory e).processes p ≡ found → (mapped : Option Page)
+      → at (option_map_or (λ (process : ProcessView). process.pages) found []) v ≡ mapped → (m : Mapping) → option_map (mapping_of (fact_of (G.enclave e))) mapped ≡ Some m
+      → Is32 v × Is32 m.frame.0
+  unfolding at
+  found_fits e p v found process None page m is = cc
+  found_fits e p v None process (Some row) page m is = cc
+  found_fits e p v (Some found) process (Some row) page m is =
+      let fact = fact_of (G.enclave e) in
+      let mapping : mapping_of fact row ≡ m = cc in
+      let frame : (frame_of fact row).0 ≡ m.frame.0 = ap (λ (x : Mapping). x.frame.0) mapping in
+      let inside = fit.pool.inside _ (lent_taken e _ (owned.lent e p v found row process page)) in
+      (at_has IsFitProcess (G.memory e).processes p found (fit.memory e).pages process v row page, omega (arith, frame, inside))
+
+pub fitted_touch : (e : Enclave) (p : Pid) (addr : ℕ) (want : Want) (past : List Line) → IsFit (facts_at past) → AreOwned (facts_at past) → IsInRange (commands.Touch e p addr want)
     → IsFittedUpTo (IsCountable past) past (step_lines (facts_at past) (commands.Touch e p addr want))
-fitted_touch laws e p addr want past fit range = with_refusal (commands.Touch e p addr want) past fit (λ none. by (space_of (facts_at past) e.0 p.0 (addr / 4096)) refl)
+fitted_touch e p addr want past fit owned range = with_refusal (commands.Touch e p addr want) past fit range (λ none after. by after (space_of (facts_at past) e.0 p.0 (addr / 4096)) refl)
   where
-    by : (o : Option Mapping) → space_of (facts_at past) e.0 p.0 (addr / 4096) ≡ o
+    by : IsFit (facts_at (lines.Do (commands.Touch e p addr want) ∷ past)) → (o : Option Mapping) → space_of (facts_at past) e.0 p.0 (addr / 4096) ≡ o
         → IsFittedUpTo (IsCountable past) (lines.Do (commands.Touch e p addr want) ∷ past) (touched_lines e p (record { 0 = addr / 4096 }) o)
-    by None is = record { typed = λ few. All-nil IsTyped; fit = fit }
-    by (Some m) is =
-        let found = found_fits laws (facts_at past) fit e.0 p.0 (addr / 4096) m is in
+    by after None is = record { typed = λ few. All-nil IsTyped; fit = after }
+    by after (Some m) is =
+        let found = found_fits (facts_at past) fit owned e.0 p.0 (addr / 4096) _ refl _ refl m is in
         let most = range.0.1 in
-        fitted_one (IsCountable past) (lines.Touched e p (record { 0 = addr / 4096 }) m.frame) (lines.Do (commands.Touch e p addr want) ∷ past) (omega (arith, most), range.1.1, found.0, found.1) fit
+        fitted_one (IsCountable past) (lines.Touched e p (record { 0 = addr / 4096 }) m.frame) (lines.Do (commands.Touch e p addr want) ∷ past) (omega (arith, most), range.1.1, found.0, found.1) after
 
 -- ---- what is shown
 
 pub steady_routes : (G : Facts) (e : Enclave) → IsFit G → IsNumber e → AreSteady (route_lines (view_of G e))
-steady_routes G e fit number = (by (view_of G e).holder (G.way e.0) (fit.known.over e.0), rows (G.routes e.0) (fit.known.lies e.0) (fit.known.route e.0))
+steady_routes G e fit number = (by (view_of G e).core.holder (G.ways e.0).way (fit.ways e.0).over, rows (G.ways e.0).routes (fit.ways e.0).lies (fit.ways e.0).route)
   where
     by : (holder : Bool) (way : Option Enclave) → ((x : Enclave) → way ≡ Some x → IsNumber x)
         → IsSteady (if holder then lines.AtWayOwn e else option_map_or (λ over. lines.AtWay e over) way (lines.AtWayNone e))
@@ -302,16 +375,14 @@ steady_routes G e fit number = (by (view_of G e).holder (G.way e.0) (fit.known.o
     rows (row ∷ routes) low near =
         ((number, All-head IsLow row.0 (keys_of routes) low, All-head IsNumber row.1 (values_of routes) near), rows routes (All-tail IsLow row.0 (keys_of routes) low) (All-tail IsNumber row.1 (values_of routes) near))
 
-pub steady_states : (b : ℕ) (ss : List BlockFact) → b + length ss ≤ 65536 → All IsFitBlock ss → AreSteady (state_lines b ss)
+pub steady_states : (b : ℕ) (ss : List BlockState) → b + length ss ≤ 65536 → All IsFitState ss → AreSteady (state_lines b ss)
 steady_states b [] within all = tt
-steady_states b (s ∷ ss) within all =
-    steady_append (state_line b s) (state_lines (b + 1) ss) (by s (All-head IsFitBlock s ss all)) (steady_states (b + 1) ss (omega (arith, within)) (All-tail IsFitBlock s ss all))
+steady_states b (s ∷ ss) within all = (by s (All-head IsFitState s ss all), steady_states (b + 1) ss (omega (arith, within)) (All-tail IsFitState s ss all))
   where
-    by : (state : BlockFact) → IsFitBlock state → AreSteady (state_line b state)
-    by Absent fits = tt
-    by Free fits = (omega (arith, within), tt)
-    by (Lent e) fits = ((omega (arith, within), fits), tt)
-    by (Held e) fits = ((omega (arith, within), fits), tt)
+    by : (state : BlockState) → IsFitState state → IsSteady (state_line b state)
+    by states.Free fits = omega (arith, within)
+    by (states.Lent e) fits = (omega (arith, within), fits)
+    by (states.Held e) fits = (omega (arith, within), fits)
 
 -- bytes are spelled of valid records
 bytes_fit : Laws → (rs : List Record) → AreValid rs → All Is8 (spellings_of rs)
@@ -344,14 +415,17 @@ sent_bytes (lines.Got a b ∷ past) x y =
     let old = sent_bytes past x y in
     let G = facts_at past in
     cond_both (eqb x a.0 && eqb y b.0) (with_got (G.channel x y)) (G.channel x y) (λ c. length (spellings_of c.sent) ≤ 4 * words_in (lines.Got a b ∷ past)) (λ is. omega (arith, old)) (λ other. omega (arith, old))
-sent_bytes (lines.Do (commands.Pool blocks) ∷ past) x y = let old = sent_bytes past x y in omega (arith, old)
 sent_bytes (line ∷ past) x y = let old = sent_bytes past x y in omega (arith, old)
 
 waiting_few : (past : List Line) (x y : ℕ) → IsCountable past → length (waiting_bytes (facts_at past) x y) ≤ 4294967295
 waiting_few past x y few =
+    let G = facts_at past in
+    let channel = G.channel x y in
+    let bytes = spellings_of channel.sent in
     let sent = sent_bytes past x y in
-    let left = length-drop ((facts_at past).channel x y).taken (spellings_of ((facts_at past).channel x y).sent) in
-    omega (arith, sent, left, few)
+    let whole = length-take (length bytes - channel.cut) bytes in
+    let left = length-drop channel.taken (take (length bytes - channel.cut) bytes) in
+    cond_both (lives_at G y) (waiting_of channel) [] (λ waiting. length waiting ≤ 4294967295) (λ is. omega (arith, sent, whole, left, few)) (λ other. omega arith)
 
 -- lines of bytes, which are no more than so many behind the place of the first
 fitted_bytes : (few : Type 0) (all : ℕ) (x y : Enclave) (most at : ℕ) (bytes : List ℕ) (past : List Line) → (few → all ≤ 4294967295) → IsFit (facts_at past)
@@ -368,12 +442,19 @@ fitted_bytes few all x y (suc most) at (byte ∷ bytes) past low fit from to wit
       fit = more.fit;
     }
 
-pub fitted_link : Laws → (x y : Enclave) (past : List Line) → IsFit (facts_at past) → IsFittedUpTo (IsCountable past) past (step_lines (facts_at past) (commands.ShowLink x y))
-fitted_link laws x y past fit = with_refusal (commands.ShowLink x y) past fit (λ none.
+bytes_wait : Laws → (G : Facts) (x y : ℕ) → IsFit G → All Is8 (waiting_bytes G x y)
+bytes_wait laws G x y fit =
+    let channel = G.channel x y in
+    let bytes = spellings_of channel.sent in
+    let whole = All-take Is8 (length bytes - channel.cut) bytes (bytes_fit laws channel.sent (fit.channels x y)) in
+    cond_both (lives_at G y) (waiting_of channel) [] (All Is8) (λ is. All-drop Is8 channel.taken (take (length bytes - channel.cut) bytes) whole) (λ other. All-nil Is8)
+
+pub fitted_link : Laws → (x y : Enclave) (past : List Line) → IsFit (facts_at past) → IsInRange (commands.ShowLink x y)
+    → IsFittedUpTo (IsCountable past) past (step_lines (facts_at past) (commands.ShowLink x y))
+fitted_link laws x y past fit range = with_refusal (commands.ShowLink x y) past fit range (λ none after.
     let G = facts_at past in
     let ends = channel_numbers laws G x y fit none in
-    let channel = G.channel x.0 y.0 in
     let waiting = waiting_bytes G x.0 y.0 in
-    fitted_bytes (IsCountable past) (length waiting) x y (length waiting) 0 waiting (lines.Do (commands.ShowLink x y) ∷ past) (waiting_few past x.0 y.0) fit (wide x ends.0) (wide y ends.1)
+    fitted_bytes (IsCountable past) (length waiting) x y (length waiting) 0 waiting (lines.Do (commands.ShowLink x y) ∷ past) (waiting_few past x.0 y.0) after (wide x ends.0) (wide y ends.1)
     (omega arith)
-    (All-drop Is8 channel.taken (spellings_of channel.sent) (bytes_fit laws channel.sent (fit.channels x.0 y.0))))
+    (bytes_wait laws G x.0 y.0 fit))

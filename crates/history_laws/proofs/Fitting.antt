@@ -1,7 +1,7 @@
 -- The numbers of the lines of a journal fit their types, command by command.
-use Rattle.std.proofs.Common.{◌≡◌, ◌+◌, ◌<◌, ◌≤◌, ◌^◌, ℕ, List, [], ◌∷◌, ◌++◌, length, map, true, ltb, not, None, All, refl, sym, ap, ◌∙◌, subst, arith, append-nil}
+use Rattle.std.proofs.Common.{◌≡◌, ◌+◌, ◌<◌, ◌≤◌, ◌^◌, ℕ, List, [], ◌∷◌, ◌++◌, length, map, true, not, None, All, refl, sym, ap, ◌∙◌, subst, arith, append-nil}
 use Rattle.std.specs.List.{range_with_len}
-use Rattle.std.proofs.lemmas.Bool.{leb-true, eqb-true, and_parts, cond_both}
+use Rattle.std.proofs.lemmas.Bool.{leb-true, eqb-true, and_parts}
 use Rattle.std.proofs.lemmas.List.FromFn.{length-map-range_with_len}
 use Rattle.std.proofs.lemmas.List.Elements.{All-nil, All-append, All-map}
 use Rattle.xm_num.specs.declared.Cause.TheVariants as causes
@@ -13,68 +13,58 @@ use Rattle.xemem_language.specs.declared.line.Line.TheVariants as lines
 use Rattle.xemem_language.specs.Spelling.{words_in}
 use Rattle.xemem_language.specs.Ranges.{IsInRange}
 use Rattle.line_reader.specs.Typed.{IsTyped}
-use Rattle.enclave_rules.specs.Blocks.{Absent, Free}
+use Rattle.global_model.specs.Apt.{AreOwned, OwnedAt}
 use Rattle.global_model.specs.Facts.{Facts, after_lines, facts_at, no_facts, is_living_enclave}
 use Rattle.global_model.specs.Refusals.{refusal_of}
 use Rattle.global_model.specs.Place.{may_stand, IsPlacedAfter, IsPlaced}
 use Rattle.global_model.specs.Due.{acts_of, step_lines, journal_from, journal_of}
-use Rattle.global_model.specs.Journals.{onto}
+use Rattle.global_model.specs.Journals.{Follows, onto}
 use Rattle.history_laws.specs.Fitting.{IsCountable}
 use Rattle.history_laws.specs.Laws.{Laws}
-use Rattle.history_laws.proofs.Fit.{IsNumber, IsLow, IsFitBlock, IsFitPage, IsFit, AreSteady}
+use Rattle.history_laws.proofs.Follow.{Follows-behind}
+use Rattle.history_laws.proofs.Fit.{IsNumber, IsLow, IsFitState, IsFitProcess, IsFit, AreSteady, fit_do}
 use Rattle.history_laws.proofs.Steady.{steady_deliver, steady_settle}
 use Rattle.history_laws.proofs.Fitted.{IsFittedUpTo, with_refusal, fitted_steady, fitted_one, living_number, channel_numbers, fitted_host, fitted_boot, fitted_proc, fitted_alloc, fitted_touch, fitted_link, steady_routes, steady_states}
 
 -- ---- each command
 
--- a command that changes no facts, and whose acts are steady
-fitted_acts : (c : Command) (past : List Line) → IsFit (facts_at (lines.Do c ∷ past)) → (refusal_of (facts_at past) c ≡ None → AreSteady (acts_of (facts_at past) c))
-    → IsFittedUpTo (IsCountable past) past (step_lines (facts_at past) c)
-fitted_acts c past fit steady = with_refusal c past fit (λ none. fitted_steady (IsCountable past) (acts_of (facts_at past) c) (lines.Do c ∷ past) fit (steady none))
-
-fitted_pool : (blocks : ℕ) (past : List Line) → IsFit (facts_at past) → IsInRange (commands.Pool blocks)
-    → IsFittedUpTo (IsCountable past) past (step_lines (facts_at past) (commands.Pool blocks))
-fitted_pool blocks past fit range =
-    let most = range.1 in
-    fitted_one (IsCountable past) (lines.Do (commands.Pool blocks)) past tt
-    (record {
-      pool = record { most = omega (arith, most); lent = λ b. cond_both (ltb b blocks) Free Absent IsFitBlock (λ is. tt) (λ other. tt) };
-      tree = fit.tree;
-      known = fit.known;
-      channels = fit.channels;
-      starts = fit.starts;
-      own = fit.own;
-    })
+-- a command whose acts are steady
+fitted_acts : (c : Command) (past : List Line) → IsFit (facts_at past) → IsInRange c
+    → (refusal_of (facts_at past) c ≡ None → IsFit (facts_at (lines.Do c ∷ past)) → AreSteady (acts_of (facts_at (lines.Do c ∷ past)) c)) → IsFittedUpTo (IsCountable past) past (step_lines (facts_at past) c)
+fitted_acts c past fit range steady =
+    with_refusal c past fit range (λ none after. fitted_steady (IsCountable past) (acts_of (facts_at (lines.Do c ∷ past)) c) (lines.Do c ∷ past) after (steady none after))
 
 -- what is kept along commands, of which there were so many: none is born after the first
 record IsReady (before : ℕ) (past : List Line) : Type 0 where
   fit : IsFit (facts_at past)
   fresh : before ≤ 1 → (facts_at past).born ≡ 0
 
-fitted_step : Laws → (before : ℕ) (c : Command) (past : List Line) → IsReady before past → may_stand before c ≡ true → IsInRange c
+fitted_step : Laws → (before : ℕ) (c : Command) (past : List Line) → IsReady before past → AreOwned (facts_at past) → may_stand before c ≡ true → IsInRange c
     → IsFittedUpTo (IsCountable past) past (step_lines (facts_at past) c)
-fitted_step laws before (commands.Pool blocks) past ready may range = fitted_pool blocks past ready.fit range
-fitted_step laws before (commands.Host blocks ns) past ready may range =
+fitted_step laws before (commands.Host blocks ns) past ready owned may range =
     let second : before ≡ 1 = eqb-true before 1 (and_parts _ _ may).0 in
-    fitted_host blocks ns past ready.fit (ready.fresh (omega (arith, second)))
-fitted_step laws before (commands.Boot kind parent blocks ns) past ready may range = fitted_boot laws kind parent blocks ns past ready.fit
-fitted_step laws before (commands.Proc e uid gid) past ready may range = fitted_proc laws e uid gid past ready.fit range
-fitted_step laws before (commands.Alloc e p at pages) past ready may range = fitted_alloc laws e p at pages past ready.fit range
-fitted_step laws before (commands.Touch e p addr want) past ready may range = fitted_touch laws e p addr want past ready.fit range
-fitted_step laws before (commands.Deliver x y count) past ready may range =
-    fitted_acts (commands.Deliver x y count) past ready.fit (λ none. let ends = channel_numbers laws (facts_at past) x y ready.fit none in steady_deliver (facts_at past) x y count ready.fit ends.0 ends.1 range.2.1)
-fitted_step laws before (commands.Settle most) past ready may range =
-    fitted_acts (commands.Settle most) past ready.fit (λ none. let few = range.1 in steady_settle laws most 0 (facts_at past) ready.fit (omega (arith, few)))
-fitted_step laws before (commands.ShowRoutes e) past ready may range =
-    fitted_acts (commands.ShowRoutes e) past ready.fit (λ none. steady_routes (facts_at past) e ready.fit (living_number (facts_at past) e ready.fit (laws.act.unmet causes.NoEnclave (not (is_living_enclave ((facts_at past).enclave e.0))) [] none).0))
-fitted_step laws before (commands.ShowLink x y) past ready may range = fitted_link laws x y past ready.fit
-fitted_step laws before commands.ShowPool past ready may range =
+    fitted_host blocks ns past ready.fit range (ready.fresh (omega (arith, second)))
+fitted_step laws before (commands.Boot kind parent blocks ns) past ready owned may range = fitted_boot laws kind parent blocks ns past ready.fit range
+fitted_step laws before (commands.Proc e uid gid) past ready owned may range = fitted_proc laws e uid gid past ready.fit range
+fitted_step laws before (commands.Alloc e p at pages) past ready owned may range = fitted_alloc laws e p at pages past ready.fit range
+fitted_step laws before (commands.Touch e p addr want) past ready owned may range = fitted_touch e p addr want past ready.fit owned range
+fitted_step laws before (commands.Deliver x y count) past ready owned may range =
+    let c = commands.Deliver x y count in
+    fitted_acts c past ready.fit range (λ none after. let ends = channel_numbers laws (facts_at past) x y ready.fit none in steady_deliver (facts_at (lines.Do c ∷ past)) x y count after ends.0 ends.1 range.2.1)
+fitted_step laws before (commands.Settle most) past ready owned may range =
+    let c = commands.Settle most in
+    fitted_acts c past ready.fit range (λ none after. let few = range.1 in steady_settle laws most 0 (facts_at (lines.Do c ∷ past)) after (omega (arith, few)))
+fitted_step laws before (commands.ShowRoutes e) past ready owned may range =
+    let c = commands.ShowRoutes e in
+    fitted_acts c past ready.fit range (λ none after. steady_routes (facts_at (lines.Do c ∷ past)) e after (living_number (facts_at past) e ready.fit (laws.act.unmet causes.NoEnclave (not (is_living_enclave ((facts_at past).enclave e.0))) [] none).0))
+fitted_step laws before (commands.ShowLink x y) past ready owned may range = fitted_link laws x y past ready.fit range
+fitted_step laws before commands.ShowPool past ready owned may range =
     let G = facts_at past in
     let pool = ready.fit.pool in
     let most = pool.most in
     let count = length-map-range_with_len G.block 0 G.pool in
-    fitted_acts commands.ShowPool past ready.fit (λ none. steady_states 0 (map G.block (range_with_len 0 G.pool)) (omega (arith, count, most)) (All-map IsFitBlock G.block (range_with_len 0 G.pool) (λ k d lt. pool.lent _)))
-fitted_step laws before c past ready may range = fitted_one (IsCountable past) (lines.Do c) past tt ready.fit
+    fitted_acts commands.ShowPool past ready.fit range (λ none after. steady_states 0 (map G.block (range_with_len 0 G.pool)) (omega (arith, count, most)) (All-map IsFitState G.block (range_with_len 0 G.pool) (λ k d lt. pool.state _)))
+fitted_step laws before c past ready owned may range = fitted_one (IsCountable past) (lines.Do c) past tt (fit_do (facts_at past) ready.fit c range)
 
 fresh_step : (before : ℕ) (c : Command) (past : List Line) → IsReady before past → may_stand before c ≡ true → before + 1 ≤ 1
     → (facts_at (onto (step_lines (facts_at past) c) past)).born ≡ 0
@@ -84,12 +74,13 @@ fresh_step before _ past ready may few = let late = leb-true 2 before (and_parts
 
 no_facts-fit : IsFit no_facts
 no_facts-fit = record {
-  pool = record { most = omega arith; lent = λ b. tt };
+  pool = record { most = omega arith; state = λ b. tt; inside = λ b taken. cc };
   tree = record { most = omega arith; number = λ e some. cc; parent = λ e. omega arith };
-  known = record { over = λ e x is. cc; asked = λ e. All-nil IsNumber; back = λ e. All-nil IsNumber; route = λ e. All-nil IsNumber; lies = λ e. All-nil IsLow; dead = λ e. All-nil IsNumber };
+  heard = λ e. All-nil IsNumber;
+  ways = λ e. record { over = λ x is. cc; asked = All-nil IsNumber; back = All-nil IsNumber; route = All-nil IsNumber; lies = All-nil IsLow };
   channels = λ x y. tt;
-  starts = record { most = omega arith; each = λ e. omega arith };
-  own = All-nil IsFitPage;
+  starts = omega arith;
+  memory = λ e. record { started = omega arith; pages = All-nil IsFitProcess };
 }
 
 -- ---- journals
@@ -102,40 +93,45 @@ words_in-onto : (ls past : List Line) → words_in (onto ls past) ≡ words_in l
 words_in-onto [] past = omega arith
 words_in-onto (l ∷ ls) past = let more = words_in-onto ls (l ∷ past) in omega (arith, more)
 
-next_ready : Laws → (before : ℕ) (c : Command) (G : Facts) (past : List Line) → G ≡ facts_at past → IsReady before past → may_stand before c ≡ true → IsInRange c
-    → IsReady (before + 1) (onto (step_lines G c) past)
-next_ready laws before c G past is ready may range =
-    record { fit = rw is (fitted_step laws before c past ready may range).fit; fresh = rw is (fresh_step before c past ready may) }
+next_ready : Laws → (before : ℕ) (c : Command) (G : Facts) (past : List Line) → G ≡ facts_at past → IsReady before past → AreOwned (facts_at past)
+    → may_stand before c ≡ true → IsInRange c → IsReady (before + 1) (onto (step_lines G c) past)
+next_ready laws before c G past is ready owned may range =
+    record { fit = rw is (fitted_step laws before c past ready owned may range).fit; fresh = rw is (fresh_step before c past ready may) }
 
 next_facts : Laws → (ls : List Line) (G : Facts) (past : List Line) → G ≡ facts_at past → after_lines G ls ≡ facts_at (onto ls past)
 next_facts laws ls G past is = ap (λ H. after_lines H ls) is ∙ sym (laws.past.facts ls past)
 
-typed_step : Laws → (before : ℕ) (c : Command) (G : Facts) (past : List Line) → G ≡ facts_at past → IsReady before past → may_stand before c ≡ true → IsInRange c
-    → IsCountable past → All IsTyped (step_lines G c)
-typed_step laws before c G past is ready may range few = subst (λ H. All IsTyped (step_lines H c)) (sym is) ((fitted_step laws before c past ready may range).typed few)
+typed_step : Laws → (before : ℕ) (c : Command) (G : Facts) (past : List Line) → G ≡ facts_at past → IsReady before past → AreOwned (facts_at past)
+    → may_stand before c ≡ true → IsInRange c → IsCountable past → All IsTyped (step_lines G c)
+typed_step laws before c G past is ready owned may range few =
+    subst (λ H. All IsTyped (step_lines H c)) (sym is) ((fitted_step laws before c past ready owned may range).typed few)
 
 -- the lines of commands, and of one more where there is one, where few words stand before that one
 typed_from : Laws → (cs last : List Command) (before : ℕ) (G : Facts) (past : List Line) → G ≡ facts_at past → IsReady before past
-    → IsPlacedAfter before (cs ++ last) → length last ≤ 1 → words_in past + words_in (journal_from G cs) < 2 ^ 30 → All IsTyped (journal_from G (cs ++ last))
-typed_from laws [] [] before G past is ready placed one few = All-nil IsTyped
-typed_from laws [] (c ∷ []) before G past is ready placed one few =
-    All-append IsTyped (step_lines G c) [] (typed_step laws before c G past is ready placed.0 placed.1 (omega (arith, few))) (All-nil IsTyped)
-typed_from laws [] (c ∷ d ∷ last) before G past is ready placed one few = absurd (omega (arith, one))
-typed_from laws (c ∷ cs) last before G past is ready placed one few =
+    → Follows OwnedAt past (journal_from G (cs ++ last)) → IsPlacedAfter before (cs ++ last) → length last ≤ 1
+    → words_in past + words_in (journal_from G cs) < 2 ^ 30 → All IsTyped (journal_from G (cs ++ last))
+typed_from laws [] [] before G past is ready owned placed one few = All-nil IsTyped
+typed_from laws [] (c ∷ []) before G past is ready owned placed one few =
+    All-append IsTyped (step_lines G c) [] (typed_step laws before c G past is ready owned.0 placed.0 placed.1 (omega (arith, few))) (All-nil IsTyped)
+typed_from laws [] (c ∷ d ∷ last) before G past is ready owned placed one few = absurd (omega (arith, one))
+typed_from laws (c ∷ cs) last before G past is ready owned placed one few =
     let ls = step_lines G c in
     let H = after_lines G ls in
     let sum = words_in-append ls (journal_from H cs) in
     let turned = words_in-onto ls past in
-    All-append IsTyped ls (journal_from H (cs ++ last)) (typed_step laws before c G past is ready placed.0 placed.1 (omega (arith, few)))
-    (typed_from laws cs last (before + 1) H (onto ls past) (next_facts laws ls G past is) (next_ready laws before c G past is ready placed.0 placed.1) placed.2 one (omega (arith, few, sum, turned)))
+    let later = Follows-behind OwnedAt ls (journal_from H (cs ++ last)) past owned in
+    All-append IsTyped ls (journal_from H (cs ++ last)) (typed_step laws before c G past is ready owned.0 placed.0 placed.1 (omega (arith, few)))
+    (typed_from laws cs last (before + 1) H (onto ls past) (next_facts laws ls G past is) (next_ready laws before c G past is ready owned.0 placed.0 placed.1) later placed.2 one (omega (arith, few, sum, turned)))
 
 start_ready : IsReady 0 []
 start_ready = record { fit = no_facts-fit; fresh = λ few. refl }
 
 pub journal_of-typed : Laws → (cs : List Command) → IsPlaced cs → IsCountable (journal_of cs) → All IsTyped (journal_of cs)
 journal_of-typed laws cs placed few =
-    subst (λ ds. All IsTyped (journal_of ds)) (append-nil cs)
-    (typed_from laws cs [] 0 no_facts [] refl start_ready (subst IsPlaced (sym (append-nil cs)) placed) (omega arith) (omega (arith, few)))
+    let same = append-nil cs in
+    subst (λ ds. All IsTyped (journal_of ds)) same
+    (typed_from laws cs [] 0 no_facts [] refl start_ready (subst (λ ds. Follows OwnedAt [] (journal_of ds)) (sym same) (laws.journal.owned cs placed)) (subst IsPlaced (sym same) placed) (omega arith) (omega (arith, few)))
 
 pub journal_of-typed_more : Laws → (cs : List Command) (c : Command) → IsPlaced (cs ++ c ∷ []) → IsCountable (journal_of cs) → All IsTyped (journal_of (cs ++ c ∷ []))
-journal_of-typed_more laws cs c placed few = typed_from laws cs (c ∷ []) 0 no_facts [] refl start_ready placed (omega arith) (omega (arith, few))
+journal_of-typed_more laws cs c placed few =
+    typed_from laws cs (c ∷ []) 0 no_facts [] refl start_ready (laws.journal.owned (cs ++ c ∷ []) placed) placed (omega arith) (omega (arith, few))

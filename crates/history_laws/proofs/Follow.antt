@@ -13,6 +13,11 @@ pub Follows-front : (Law : List Line → Line → Type 0) (ls ms past : List Lin
 Follows-front Law [] ms past follows = tt
 Follows-front Law (l ∷ ls) ms past follows = (follows.0, Follows-front Law ls ms (l ∷ past) follows.1)
 
+-- and the lines behind it
+pub Follows-behind : (Law : List Line → Line → Type 0) (ls ms past : List Line) → Follows Law past (ls ++ ms) → Follows Law (onto ls past) ms
+Follows-behind Law [] ms past follows = follows
+Follows-behind Law (l ∷ ls) ms past follows = Follows-behind Law ls ms (l ∷ past) follows.1
+
 -- what follows from a law along a journal
 pub Follows-weaker : (Law Other : List Line → Line → Type 0) → ((past : List Line) (line : Line) → Law past line → Other past line)
     → (ls past : List Line) → Follows Law past ls → Follows Other past ls

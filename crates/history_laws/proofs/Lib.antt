@@ -2,6 +2,8 @@ pub mod Follow
 pub mod Fronts
 pub mod Heard
 pub mod Counted
+pub mod Lending
+pub mod Ruled
 pub mod Legal
 pub mod Told
 pub mod Spelled

@@ -19,15 +19,17 @@ use Rattle.xemem_language.specs.declared.line.Line.TheVariants as lines
 use Rattle.xemem_wire.specs.Table.{kind_of, is_built, has_call, is_destination, is_enclave, is_undirected}
 use Rattle.xemem_wire.specs.Spelling.{is_valid, AreValid}
 use Rattle.line_reader.specs.Typed.{Is32, IsTypedBody}
-use Rattle.enclave_rules.specs.View.{View, place_among}
-use Rattle.enclave_rules.specs.Steps.{query_of, here_of, register_of, admit_of, knows_way, is_stray, drop_lines, query_lines, told_askers, here_lines, passed_lines, register_lines, admit_over, admit_to, body_lines, record_lines}
+use Rattle.enclave_rules.specs.View.{View}
+use Rattle.enclave_rules.specs.Ways.{place_among}
+use Rattle.enclave_rules.specs.Sending.{Server, knows_way, way_to, drop_lines, over_lines}
+use Rattle.enclave_rules.specs.Steps.{query_of, here_of, register_of, admit_of, is_stray, query_lines, told_askers, here_lines, register_lines, admit_over, admit_to, body_lines, record_lines, handled_lines}
 use Rattle.global_model.specs.Facts.{Facts, ChannelFact, after_line, after_lines, fact_of}
 use Rattle.global_model.specs.Channels.{size_of, waiting_bytes, whole_records, arriving}
 use Rattle.global_model.specs.Views.{view_of}
 use Rattle.global_model.specs.Due.{got_lines, took_lines, deliver_lines, next_rest, rest_of_record, channels_of, waits, waiting_channels, first_waiting, settle_end, settle_from}
 use Rattle.history_laws.specs.Laws.{Laws}
-use Rattle.history_laws.proofs.Fit.{IsNumber, AllNumbers, IsFit, IsSteady, AreSteady, fit_line, fit_lines}
-use Rattle.history_laws.proofs.Legal.{All-range}
+use Rattle.history_laws.proofs.Fit.{IsNumber, AllNumbers, IsFitWays, IsFit, IsSteady, AreSteady, fit_line, fit_lines}
+use Rattle.history_laws.proofs.Lending.{All-range}
 
 -- ---- lists of lines
 
@@ -100,30 +102,41 @@ less_numbers : (rows : List (ℕ × Enclave)) (k : ℕ) → AllNumbers rows → 
 unfolding less
 less_numbers rows k all = All-map-remove_entry (is_at (nat_cmp k)) (λ row. row.1) IsNumber rows all
 
-found_number : (test : ℕ → Bool) (rows : List (ℕ × Enclave)) (x : Enclave) → AllNumbers rows → lookup test rows ≡ Some x → IsNumber x
-found_number test [] x all is = cc
-found_number test (row ∷ rows) x all is = by (test row.0) (found_number test rows x (All-tail IsNumber row.1 (values_of rows) all)) is
+found_has : {V : Type 0} (P : V → Type 0) (test : ℕ → Bool) (rows : List (ℕ × V)) (x : V) → All P (values_of rows) → lookup test rows ≡ Some x → P x
+found_has P test [] x all is = cc
+found_has {V = V} P test (row ∷ rows) x all is = by (test row.0) (found_has P test rows x (All-tail P row.1 (values_of rows) all)) is
   where
-    by : (b : Bool) → (lookup test rows ≡ Some x → IsNumber x) → cond b (Some row.1) (lookup test rows) ≡ Some x → IsNumber x
-    by true later found = let same : row.1 ≡ x = cc in subst IsNumber same (All-head IsNumber row.1 (values_of rows) all)
+    by : (b : Bool) → (lookup test rows ≡ Some x → P x) → cond b (Some row.1) (lookup test rows) ≡ Some x → P x
+    by true later found = let same : row.1 ≡ x = cc in subst P same (All-head P row.1 (values_of rows) all)
     by false later found = later found
 
-at_number : (rows : List (ℕ × Enclave)) (k : ℕ) (x : Enclave) → AllNumbers rows → at rows k ≡ Some x → IsNumber x
+-- what stands at a number has what all rows have
+pub at_has : {V : Type 0} (P : V → Type 0) (rows : List (ℕ × V)) (k : ℕ) (x : V) → All P (values_of rows) → at rows k ≡ Some x → P x
 unfolding at
-at_number rows k x all is = found_number (is_at (nat_cmp k)) rows x all is
+at_has P rows k x all is = found_has P (is_at (nat_cmp k)) rows x all is
 
 -- ---- what is written for a record
 
 -- what a view knows of enclaves fits
 pub record IsFitView (v : View) : Type 0 where
   pub me : IsNumber v.me
-  pub way : (x : Enclave) → v.way ≡ Some x → IsNumber x
-  pub askers : AllNumbers v.askers
-  pub backs : AllNumbers v.backs
+  pub ways : IsFitWays v.ways
 
 module _ (v : View) (fit : IsFitView v) where
   steady_drop : AreSteady (drop_lines v)
   steady_drop = (fit.me, tt)
+
+  steady_over : (came over : Option Enclave) (r : Record) → ((x : Enclave) → over ≡ Some x → IsNumber x) → is_valid r ≡ true → AreSteady (over_lines v came over r)
+  steady_over came None r near valid = steady_drop
+  steady_over came (Some over) r near valid =
+      steady_either (option_map_or (λ (from : Enclave). over.0 == from.0) came false) (drop_lines v) (lines.Sent v.me over r ∷ []) steady_drop ((fit.me, near over refl, valid), tt)
+
+  way_number : (x : Enclave) → way_to v Server ≡ Some x → IsNumber x
+  way_number x is = by v.core.holder is
+    where
+      by : (holder : Bool) → cond holder None v.ways.way ≡ Some x → IsNumber x
+      by true none = cc
+      by false some = fit.ways.over x some
 
   steady_query : (from : Enclave) → IsNumber from → AreSteady (query_lines v from)
   steady_query from near =
@@ -136,38 +149,33 @@ module _ (v : View) (fit : IsFitView v) where
 
   steady_here : (from : Enclave) → IsNumber from → AreSteady (here_lines v from)
   steady_here from near =
-      let others = less v.askers (place_among v.parent from) in
+      let others = less v.ways.askers (place_among v.core.parent from) in
       let last = lines.Sent v.me from (register_of v.me) ∷ [] in
       steady_either (knows_way v) (drop_lines v) (lines.Way v.me from ∷ told_askers v others ++ last) steady_drop
-      ((fit.me, near), steady_append (told_askers v others) last (steady_askers others (less_numbers v.askers _ fit.askers)) ((fit.me, near, valid_register v.me fit.me), tt))
-
-  steady_passed : (from : Enclave) (over : Option Enclave) (r : Record) → ((x : Enclave) → over ≡ Some x → IsNumber x) → is_valid r ≡ true
-      → AreSteady (passed_lines v from over r)
-  steady_passed from None r near valid = steady_drop
-  steady_passed from (Some over) r near valid =
-      steady_either (over.0 == from.0) (drop_lines v) (lines.Sent v.me over r ∷ []) steady_drop ((fit.me, near over refl, valid), tt)
+      ((fit.me, near), steady_append (told_askers v others) last (steady_askers others (less_numbers v.ways.askers _ fit.ways.asked)) ((fit.me, near, valid_register v.me fit.me), tt))
 
   steady_register : (from : Enclave) (r : Record) → IsNumber from → is_valid r ≡ true → AreSteady (register_lines v from r)
   steady_register from r near valid =
       let origin = (valid_numbers r valid).origin in (
         (fit.me, origin, near),
-        steady_either v.holder (lines.Route v.me r.origin from ∷ lines.Sent v.me from (admit_of v.me r.origin) ∷ []) (passed_lines v from v.way r)
+        steady_either v.core.holder (lines.Route v.me r.origin from ∷ lines.Sent v.me from (admit_of v.me r.origin) ∷ []) (over_lines v (Some from) (way_to v Server) r)
             ((fit.me, origin, near), ((fit.me, near, valid_admit v.me r.origin fit.me origin), tt))
-            (steady_passed from v.way r fit.way valid),
+            (steady_over (Some from) (way_to v Server) r way_number valid),
       )
 
-  steady_over : (from d : Enclave) (r : Record) (over : Option Enclave) → IsNumber d → ((x : Enclave) → over ≡ Some x → IsNumber x) → is_valid r ≡ true
+  steady_back : (from d : Enclave) (r : Record) (over : Option Enclave) → IsNumber d → ((x : Enclave) → over ≡ Some x → IsNumber x) → is_valid r ≡ true
       → AreSteady (admit_over v from d r over)
-  steady_over from d r None dest near valid = steady_drop
-  steady_over from d r (Some over) dest near valid = ((fit.me, dest, near over refl), steady_passed from (Some over) r near valid)
+  steady_back from d r None dest near valid = steady_drop
+  steady_back from d r (Some over) dest near valid = ((fit.me, dest, near over refl), steady_over (Some from) (Some over) r near valid)
 
   steady_admit : (from : Enclave) (r : Record) (dest : Option Enclave) → ((d : Enclave) → dest ≡ Some d → IsNumber d) → is_valid r ≡ true
       → AreSteady (admit_to v from r dest)
   steady_admit from r None dest valid = steady_drop
   steady_admit from r (Some d) dest valid =
-      steady_either (d.0 == v.me.0) (if v.admitted then drop_lines v else lines.Admitted v.me ∷ []) (admit_over v from d r (at v.backs d.0))
-      (steady_either v.admitted (drop_lines v) (lines.Admitted v.me ∷ []) steady_drop (fit.me, tt))
-      (steady_over from d r (at v.backs d.0) (dest d refl) (λ x is. at_number v.backs d.0 x fit.backs is) valid)
+      let backs = v.ways.backs in
+      steady_either (d.0 == v.me.0) (if v.core.admitted then drop_lines v else lines.Admitted v.me ∷ []) (admit_over v from d r (at backs d.0))
+      (steady_either v.core.admitted (drop_lines v) (lines.Admitted v.me ∷ []) steady_drop (fit.me, tt))
+      (steady_back from d r (at backs d.0) (dest d refl) (λ x is. at_has IsNumber backs d.0 x fit.ways.back is) valid)
 
   steady_body : (from : Enclave) (r : Record) (body : Body) → IsNumber from → is_valid r ≡ true → AreSteady (body_lines v from r body)
   steady_body from r bodies.Query near valid = steady_query from near
@@ -176,11 +184,11 @@ module _ (v : View) (fit : IsFitView v) where
   steady_body from r bodies.Admit near valid = steady_admit from r r.dest (valid_numbers r valid).dest valid
   steady_body from r _ near valid = steady_drop
 
-  pub steady_record : (from : Enclave) (r : Record) → IsNumber from → is_valid r ≡ true → AreSteady (record_lines v from r)
+  steady_record : (from : Enclave) (r : Record) → IsNumber from → is_valid r ≡ true → AreSteady (record_lines v from r)
   steady_record from r near valid = steady_either (is_stray v r) (drop_lines v) (body_lines v from r r.body) steady_drop (steady_body from r r.body near valid)
 
-pub fit_view : (G : Facts) (y : Enclave) → IsFit G → IsNumber y → IsFitView (view_of G y)
-fit_view G y fit number = record { me = number; way = fit.known.over y.0; askers = fit.known.asked y.0; backs = fit.known.back y.0 }
+  steady_handled : (from : Enclave) (r : Record) → IsNumber from → is_valid r ≡ true → AreSteady (handled_lines v from r)
+  steady_handled from r near valid = ((near, fit.me), steady_record from r near valid)
 
 -- ---- deliveries
 
@@ -203,8 +211,8 @@ valid_arriving c all = valid-drop c.got (whole_records c.taken c.sent) (valid-wh
 steady_got : (G : Facts) (x y : Enclave) (rs : List Record) → IsFit G → IsNumber x → IsNumber y → AreValid rs → AreSteady (got_lines G x y rs)
 steady_got G x y [] fit from to valid = tt
 steady_got G x y (r ∷ rs) fit from to valid =
-    let own = lines.Got x y ∷ record_lines (view_of G y) x r in
-    let steady : AreSteady own = ((from, to), steady_record (view_of G y) (fit_view G y fit to) x r from valid.0) in
+    let own = handled_lines (view_of G y) x r in
+    let steady : AreSteady own = steady_handled (view_of G y) (record { me = to; ways = fit.ways y.0 }) x r from valid.0 in
     steady_append own (got_lines (after_lines G own) x y rs) steady (steady_got (after_lines G own) x y rs (fit_lines G own fit steady) from to valid.1)
 
 steady_took : (G : Facts) (x y : Enclave) (count : ℕ) → IsFit G → IsNumber x → IsNumber y → Is32 count → AreSteady (took_lines G x y count)

@@ -10,7 +10,8 @@ use Rattle.xemem_language.specs.declared.line.Line.{Line}
 use Rattle.xemem_language.specs.declared.record.Record.{Record}
 use Rattle.xemem_wire.specs.Spelling.{is_valid, spelling_of}
 use Rattle.global_model.specs.Facts.{Facts, facts_after, after_lines, facts_at}
-use Rattle.global_model.specs.Journals.{do_commands, onto}
+use Rattle.global_model.specs.Journals.{Follows, do_commands, onto}
+use Rattle.global_model.specs.Apt.{AptAt, OwnedAt}
 use Rattle.global_model.specs.Carriage.{IsCarried}
 use Rattle.global_model.specs.Plain.{ArePlain, AreActs, IsQuiet, IsBirth}
 use Rattle.global_model.specs.Place.{IsPlaced}
@@ -28,6 +29,8 @@ pub record JournalLaws : Type 0 where
   pub more : (commands : List Command) (command : Command) → journal_of (commands ++ command ∷ []) ≡ journal_of commands ++ step_lines (facts_after (journal_of commands)) command
   pub commands : (commands : List Command) → do_commands (journal_of commands) ≡ commands
   pub carried : (commands : List Command) → IsPlaced commands → IsCarried (journal_of commands)
+  pub apt : (commands : List Command) → IsPlaced commands → Follows AptAt [] (journal_of commands)
+  pub owned : (commands : List Command) → IsPlaced commands → Follows OwnedAt [] (journal_of commands)
 
 -- the lines of a command
 pub record ActLaws : Type 0 where

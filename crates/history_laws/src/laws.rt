@@ -16,8 +16,8 @@ ghost use Rattle.history_laws.specs.Counts.{IsLimited, births_in, starts_in, sta
 ghost use Rattle.history_laws.specs.Laws.{Laws};
 
 use global_model::{
-    acts_are_plain, journals_are_carried, journals_are_rested, journals_grow, pasts_grow,
-    refusals_come_first,
+    acts_are_plain, journals_are_apt, journals_are_carried, journals_are_rested, journals_grow,
+    pasts_grow, refusals_come_first,
 };
 use xemem_wire::laws::spelling_length;
 use xm_num::laws::rows;
@@ -30,6 +30,7 @@ fn laws()
     pasts_grow();
     journals_grow();
     journals_are_carried();
+    journals_are_apt();
     acts_are_plain();
     refusals_come_first();
     rows::<Enclave>();
@@ -96,9 +97,9 @@ pub fn journals_fit()
 
 /// The neighbours over which an enclave's ways go are those of which it heard last.
 pub fn ways_are_heard()
-    ensures way { (e : ℕ) (past : List JournalLine) → (facts_at past).way e ≡ way_heard e past }
-    ensures backs { (e d : ℕ) (past : List JournalLine) → at ((facts_at past).backs e) d ≡ back_heard e d past }
-    ensures routes { (e d : ℕ) (past : List JournalLine) → at ((facts_at past).routes e) d ≡ route_heard e d past }
+    ensures way { (e : ℕ) (past : List JournalLine) → ((facts_at past).ways e).way ≡ way_heard e past }
+    ensures backs { (e d : ℕ) (past : List JournalLine) → at ((facts_at past).ways e).backs d ≡ back_heard e d past }
+    ensures routes { (e d : ℕ) (past : List JournalLine) → at ((facts_at past).ways e).routes d ≡ route_heard e d past }
 {
     laws();
 }
@@ -109,7 +110,7 @@ pub fn ways_are_heard()
 pub fn pasts_are_counted()
     ensures births { (past : List JournalLine) → (facts_at past).born ≡ births_in past }
     ensures starts { (past : List JournalLine) → (facts_at past).starts ≡ starts_in past }
-    ensures started { (e : ℕ) (past : List JournalLine) → (facts_at past).started e ≡ starts_by e past }
+    ensures started { (e : ℕ) (past : List JournalLine) → ((facts_at past).memory e).started ≡ starts_by e past }
     ensures server { (past : List JournalLine) → (facts_at past).server ≡ has_server past }
     ensures refusals { (journal : List JournalLine) → IsLegal journal → IsLimited journal }
 {}

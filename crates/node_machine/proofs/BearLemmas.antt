@@ -8,7 +8,8 @@ use Rattle.xm_num.specs.declared.Kind.{Kind}
 use Rattle.xm_num.specs.declared.Block.{Block}
 use Rattle.byte_link.specs.Channel.{Channel, fresh}
 use Rattle.xemem_language.specs.declared.line.Line.{Line}
-use Rattle.enclave_rules.specs.View.{host}
+use Rattle.enclave_rules.specs.Core.{host}
+use Rattle.enclave_rules.specs.Hand.{Nothing}
 use Rattle.enclave_rules.specs.Steps.{birth_lines, adopt_lines}
 use Rattle.enclave_node.specs.Nodes.{NodeView, unborn_node, wrote, adopted, new_node}
 use Rattle.node_machine.specs.declared.pair.Pair.{Pair}
@@ -30,18 +31,18 @@ pair_is pair parent one two three =
 
 module _ (m : MachineView) (child : Enclave) (kind : Kind) (parent : Enclave) (blocks : List Block) (ns : Bool) (node : NodeView) (is : node ≡ node_at m.nodes parent.0) where
   -- the lines of the child and of its parent
-  pub borne_are : (out one two : List Line) → one ≡ out ++ birth_lines child kind parent blocks ns node.view.heard → two ≡ one ++ adopt_lines node.view child → two ≡ out ++ borne_lines m child kind parent blocks ns
+  pub borne_are : (out one two : List Line) → one ≡ out ++ birth_lines child kind parent blocks ns node.view.core.heard → two ≡ one ++ adopt_lines node.view child → two ≡ out ++ borne_lines m child kind parent blocks ns
   borne_are out one two first second =
-      second ∙ ap (λ ls. ls ++ adopt_lines node.view child) first ∙ append_assoc out (birth_lines child kind parent blocks ns node.view.heard) (adopt_lines node.view child)
-      ∙ ap (λ (n : NodeView). out ++ (birth_lines child kind parent blocks ns n.view.heard ++ adopt_lines n.view child)) is
+      second ∙ ap (λ ls. ls ++ adopt_lines node.view child) first ∙ append_assoc out (birth_lines child kind parent blocks ns node.view.core.heard) (adopt_lines node.view child)
+      ∙ ap (λ (n : NodeView). out ++ (birth_lines child kind parent blocks ns n.view.core.heard ++ adopt_lines n.view child)) is
 
   -- the nodes and the channels then
-  pub birth_is : (born after : NodeView) (pair : Pair) → parent.0 < length m.nodes → born ≡ new_node child kind parent blocks ns node.view.heard → after ≡ wrote (adopted node child kind) (adopt_lines node.view child)
+  pub birth_is : (born after : NodeView) (pair : Pair) → parent.0 < length m.nodes → born ≡ new_node child kind parent blocks ns node.view.core.heard → after ≡ wrote Nothing (adopted node child kind) (adopt_lines node.view child)
       → pair ≡ record { parent = parent; up = fresh; down = fresh }
       → record m { server = m.server || ns; nodes = slice_set (m.nodes ++ born ∷ []) parent.0 after; pairs = m.pairs ++ pair ∷ [] } ≡ after_birth m child kind parent blocks ns
   birth_is born after pair within one two three =
       ap (λ (nodes : List NodeView). record m { server = m.server || ns; nodes = nodes; pairs = m.pairs ++ pair ∷ [] }) (set-append_left m.nodes (born ∷ []) parent.0 after within)
       ∙ ap (λ (n : NodeView). record m { server = m.server || ns; nodes = slice_set m.nodes parent.0 after ++ n ∷ []; pairs = m.pairs ++ pair ∷ [] }) one
-      ∙ ap (λ (n : NodeView). record m { server = m.server || ns; nodes = slice_set m.nodes parent.0 n ++ new_node child kind parent blocks ns node.view.heard ∷ []; pairs = m.pairs ++ pair ∷ [] }) two
-      ∙ ap (λ (p : Pair). record m { server = m.server || ns; nodes = slice_set m.nodes parent.0 (wrote (adopted node child kind) (adopt_lines node.view child)) ++ new_node child kind parent blocks ns node.view.heard ∷ []; pairs = m.pairs ++ p ∷ [] }) three
-      ∙ ap (λ (n : NodeView). record m { server = m.server || ns; nodes = slice_set m.nodes parent.0 (wrote (adopted n child kind) (adopt_lines n.view child)) ++ new_node child kind parent blocks ns n.view.heard ∷ []; pairs = m.pairs ++ record { parent = parent; up = fresh; down = fresh } ∷ [] }) is
+      ∙ ap (λ (n : NodeView). record m { server = m.server || ns; nodes = slice_set m.nodes parent.0 n ++ new_node child kind parent blocks ns node.view.core.heard ∷ []; pairs = m.pairs ++ pair ∷ [] }) two
+      ∙ ap (λ (p : Pair). record m { server = m.server || ns; nodes = slice_set m.nodes parent.0 (wrote Nothing (adopted node child kind) (adopt_lines node.view child)) ++ new_node child kind parent blocks ns node.view.core.heard ∷ []; pairs = m.pairs ++ p ∷ [] }) three
+      ∙ ap (λ (n : NodeView). record m { server = m.server || ns; nodes = slice_set m.nodes parent.0 (wrote Nothing (adopted n child kind) (adopt_lines n.view child)) ++ new_node child kind parent blocks ns n.view.core.heard ∷ []; pairs = m.pairs ++ record { parent = parent; up = fresh; down = fresh } ∷ [] }) is

@@ -1,9 +1,8 @@
 -- What comes over a link that flows has no bad field, and the pair that a hop names.
-use Rattle.std.proofs.Common.{◌≡◌, ◌+◌, ◌≤◌, ℕ, List, ◌++◌, length, take, drop, None, Some, refl, sym, ap, ◌∙◌, subst, append_assoc}
+use Rattle.std.proofs.Common.{◌≡◌, ◌+◌, ◌≤◌, ℕ, List, ◌++◌, length, take, drop, true, None, Some, refl, sym, ap, ◌∙◌, subst, append_assoc}
+use Rattle.std.proofs.lemmas.Bool.{and_parts}
 use Rattle.std.proofs.lemmas.List.{take-append-drop}
-use Rattle.std.specs.Prelude.{IsSome}
 use Rattle.xm_num.specs.declared.Enclave.{Enclave}
-use Rattle.xm_num.specs.Rows.{at}
 use Rattle.byte_link.specs.Channel.{Channel, waiting_bytes}
 use Rattle.xemem_wire.specs.declared.format.BadField.{BadField}
 use Rattle.xemem_wire.specs.Spelling.{spellings_of}
@@ -13,20 +12,21 @@ use Rattle.xm_num.specs.declared.Neighbour.{Neighbour}
 use Rattle.enclave_node.specs.Nodes.{NodeView, number_of, feed_at, fed}
 use Rattle.node_machine.specs.Links.{IsFlowing}
 use Rattle.node_machine.specs.declared.pair.Hop.TheVariants as hops
-use Rattle.node_machine.specs.Machine.{MachineView, node_at, pair_at, hop_in}
-use Rattle.node_machine.specs.Ready.{IsReady}
-use Rattle.node_machine.specs.Machine.{enclave}
+use Rattle.node_machine.specs.Machine.{MachineView, are_known, enclave, has_node, hop_in, node_at, pair_at}
+use Rattle.node_machine.specs.Ready.{CanTake, IsReady}
 use Rattle.node_machine.specs.Laws.{Laws}
-use Rattle.node_machine.proofs.Hops.{up_is, down_is}
+use Rattle.node_machine.proofs.Hops.{up_is, down_is, is_known}
 
 -- no field of the first n waiting bytes is bad: with what the decoder has they are a front of what comes
 pub never_bad : Laws → (link : Channel) (d : Decoding) → IsFlowing link d → (n : ℕ) → (bad : BadField) → (after_piece d (take n (waiting_bytes link))).bad ≡ Some bad → ⊥
 unfolding after_piece
 never_bad laws link d f n bad is =
     let waiting = waiting_bytes link in
-    let whole : (d.rest ++ take n waiting) ++ drop n waiting ≡ spellings_of f.coming =
-    append_assoc d.rest (take n waiting) (drop n waiting) ∙ ap (λ xs. d.rest ++ xs) (take-append-drop n waiting) ∙ f.bytes in
-    let fine : first_bad (d.rest ++ take n waiting) ≡ None = laws.fine f.coming (d.rest ++ take n waiting) (drop n waiting) f.valid whole in
+    let taken : (d.rest ++ take n waiting) ++ drop n waiting ≡ d.rest ++ waiting =
+    append_assoc d.rest (take n waiting) (drop n waiting) ∙ ap (λ xs. d.rest ++ xs) (take-append-drop n waiting) in
+    let whole : (d.rest ++ take n waiting) ++ (drop n waiting ++ f.off) ≡ spellings_of f.coming =
+    sym (append_assoc (d.rest ++ take n waiting) (drop n waiting) f.off) ∙ ap (λ xs. xs ++ f.off) taken ∙ f.bytes in
+    let fine : first_bad (d.rest ++ take n waiting) ≡ None = laws.fine f.coming (d.rest ++ take n waiting) (drop n waiting ++ f.off) f.valid whole in
     let made : (after_piece d (take n waiting)).bad ≡ None = rw (f.fine, fine) refl in
     let clash : None ≡ Some bad = sym made ∙ is in
     cc
@@ -41,30 +41,25 @@ never_refused laws link node old side from n piece bad is flows side_is fits pie
 
 -- ---- the channel that a hop names
 
--- the node may take what waits in the link
-pub record CanTake (link : Channel) (node : NodeView) (x : Enclave) : Type 0 where
-  pub flows : IsFlowing link (feed_at node.feeds x)
-  pub open_end : IsSome (at node.feeds x.0)
-
 pub take_up : (m : MachineView) (x y : Enclave) (i : ℕ) → IsReady m → hop_in m x y ≡ hops.Up i → CanTake (pair_at m.pairs i).up (node_at m.nodes y.0) x
 take_up m x y i ready hop =
-    let k = up_is m.pairs (length m.nodes) x y i hop in
+    let known = are_known m.nodes x y in
+    let both = and_parts _ _ (is_known m.pairs known x y (λ none. let no : hops.Up i ≡ hops.NoEnclave = sym hop ∙ none in cc)) in
+    let k = up_is m.pairs known x y i hop in
     let h = ready.links i k.within in
     let parent = k.parent_is in
-    record {
-      flows = subst (λ c. IsFlowing (pair_at m.pairs i).up (feed_at (node_at m.nodes y.0).feeds (enclave c))) (sym k.child_is) (subst (λ e. IsFlowing (pair_at m.pairs i).up (feed_at (node_at m.nodes e).feeds (enclave (i + 1)))) parent h.up);
-      open_end = subst (λ c. IsSome (at (node_at m.nodes y.0).feeds c)) (sym k.child_is) (subst (λ e. IsSome (at (node_at m.nodes e).feeds (i + 1))) parent h.up_open);
-    }
+    subst (λ c. CanTake (pair_at m.pairs i).up (node_at m.nodes y.0) (enclave c)) (sym k.child_is)
+    (subst (λ e. CanTake (pair_at m.pairs i).up (node_at m.nodes e) (enclave (i + 1))) parent (h.up (ap (has_node m.nodes) parent ∙ both.0)))
 
-pub take_down : (m : MachineView) (x y : Enclave) (i : ℕ) → IsReady m → hop_in m x y ≡ hops.Down i → CanTake (pair_at m.pairs i).down (node_at m.nodes y.0) x × ((node_at m.nodes y.0).view.parent ≡ x)
+pub take_down : (m : MachineView) (x y : Enclave) (i : ℕ) → IsReady m → hop_in m x y ≡ hops.Down i → CanTake (pair_at m.pairs i).down (node_at m.nodes y.0) x × ((node_at m.nodes y.0).view.core.parent ≡ x)
 take_down m x y i ready hop =
-    let k = down_is m.pairs (length m.nodes) x y i hop in
+    let known = are_known m.nodes x y in
+    let both = and_parts _ _ (is_known m.pairs known x y (λ none. let no : hops.Down i ≡ hops.NoEnclave = sym hop ∙ none in cc)) in
+    let k = down_is m.pairs known x y i hop in
     let h = ready.links i k.within in
     let parent : (pair_at m.pairs i).parent ≡ x = ap enclave k.parent_is in
-    let child = sym k.child_is in (
-      record {
-        flows = subst (λ c. IsFlowing (pair_at m.pairs i).down (feed_at (node_at m.nodes c).feeds x)) child (subst (λ e. IsFlowing (pair_at m.pairs i).down (feed_at (node_at m.nodes (i + 1)).feeds e)) parent h.down);
-        open_end = subst (λ c. IsSome (at (node_at m.nodes c).feeds x.0)) child (subst (λ (e : Enclave). IsSome (at (node_at m.nodes (i + 1)).feeds e.0)) parent h.down_open);
-      },
-      ap (λ c. (node_at m.nodes c).view.parent) (sym child) ∙ h.parent ∙ parent,
+    let child = sym k.child_is in
+    let lives : has_node m.nodes (i + 1) ≡ true = ap (has_node m.nodes) child ∙ both.0 in (
+      subst (λ c. CanTake (pair_at m.pairs i).down (node_at m.nodes c) x) child (subst (CanTake (pair_at m.pairs i).down (node_at m.nodes (i + 1))) parent (h.down lives)),
+      ap (λ c. (node_at m.nodes c).view.core.parent) (sym child) ∙ h.parent lives ∙ parent,
     )

@@ -1,8 +1,8 @@
 -- Which channel goes from one enclave to another.
-use Rattle.std.proofs.Common.{◌≡◌, ◌-◌, ◌<◌, ℕ, List, Bool, true, false, eqb, leb, not, Option, None, Some, refl, ap, ◌∙◌, subst, arith}
+use Rattle.std.proofs.Common.{◌≡◌, ◌-◌, ℕ, List, Bool, true, false, eqb, leb, not, Option, None, Some, refl, ap, ◌∙◌, subst, arith}
 use Rattle.std.specs.Prelude.{if◌then◌else◌, slice_get}
 use Rattle.std.specs.Option.{option_map_or}
-use Rattle.std.proofs.lemmas.Bool.{eqb-true, eq-eqb, leb-true, le-leb, lt-ltb, and_parts, false_from_ne_true}
+use Rattle.std.proofs.lemmas.Bool.{eqb-true, eq-eqb, leb-true, le-leb, and_parts, false_from_ne_true}
 use Rattle.std.proofs.lemmas.Option.{slice_get_within, get_or_from_slice_get, slice_get-get_or}
 use Rattle.xm_num.specs.declared.Enclave.{Enclave}
 use Rattle.node_machine.specs.declared.pair.Pair.{Pair}
@@ -39,27 +39,32 @@ down_tests true true c m n i is = cc
 down_tests true false true m n i is = let same : n ≡ i = cc in (refl, same)
 down_tests true false false m n i is = cc
 
-pub up_is : (pairs : List Pair) (born : ℕ) (x y : Enclave) (i : ℕ) → hop_of pairs born x y ≡ hops.Up i → IsPairAt pairs i x.0 y.0
-up_is pairs born x y i is =
+pub up_is : (pairs : List Pair) (known : Bool) (x y : Enclave) (i : ℕ) → hop_of pairs known x y ≡ hops.Up i → IsPairAt pairs i x.0 y.0
+up_is pairs known x y i is =
     let tests = up_tests _ _ _ (x.0 - 1) (y.0 - 1) i is in
     subst (λ k. IsPairAt pairs k x.0 y.0) tests.1 (parent_found pairs x.0 y.0 tests.0)
 
-pub down_is : (pairs : List Pair) (born : ℕ) (x y : Enclave) (i : ℕ) → hop_of pairs born x y ≡ hops.Down i → IsPairAt pairs i y.0 x.0
-down_is pairs born x y i is =
+pub down_is : (pairs : List Pair) (known : Bool) (x y : Enclave) (i : ℕ) → hop_of pairs known x y ≡ hops.Down i → IsPairAt pairs i y.0 x.0
+down_is pairs known x y i is =
     let tests = down_tests _ _ _ (x.0 - 1) (y.0 - 1) i is in
     subst (λ k. IsPairAt pairs k y.0 x.0) tests.1 (parent_found pairs y.0 x.0 tests.0)
 
-pub is_up : (pairs : List Pair) (born : ℕ) (x y : Enclave) (i : ℕ) → IsPairAt pairs i x.0 y.0 → x.0 < born → y.0 < born → hop_of pairs born x y ≡ hops.Up i
-is_up pairs born x y i h mine yours =
+pub is_up : (pairs : List Pair) (x y : Enclave) (i : ℕ) → IsPairAt pairs i x.0 y.0 → hop_of pairs true x y ≡ hops.Up i
+is_up pairs x y i h =
     let place : x.0 - 1 ≡ i = let is = h.child_is in omega (arith, is) in
-    rw (lt-ltb y.0 born yours, lt-ltb x.0 born mine, parent_is pairs i x.0 y.0 h) (ap hops.Up place)
+    rw (parent_is pairs i x.0 y.0 h) (ap hops.Up place)
 
-pub is_down : (pairs : List Pair) (born : ℕ) (x y : Enclave) (i : ℕ) → AreAbove pairs → IsPairAt pairs i y.0 x.0 → x.0 < born → y.0 < born → hop_of pairs born x y ≡ hops.Down i
-is_down pairs born x y i above h mine yours =
+pub is_down : (pairs : List Pair) (x y : Enclave) (i : ℕ) → AreAbove pairs → IsPairAt pairs i y.0 x.0 → hop_of pairs true x y ≡ hops.Down i
+is_down pairs x y i above h =
     let place : y.0 - 1 ≡ i = let is = h.child_is in omega (arith, is) in
     let not_up : is_parent pairs x.0 y.0 ≡ false = false_from_ne_true (is_parent pairs x.0 y.0) (λ up.
     let k = parent_found pairs x.0 y.0 up in
     let one = above i h.within in let two = above (x.0 - 1) k.within in
     let a = h.child_is in let b = h.parent_is in let c = k.child_is in let d = k.parent_is in
     omega (arith, one, two, a, b, c, d)) in
-    rw (lt-ltb y.0 born yours, lt-ltb x.0 born mine, not_up, parent_is pairs i y.0 x.0 h) (ap hops.Down place)
+    rw (not_up, parent_is pairs i y.0 x.0 h) (ap hops.Down place)
+
+-- a channel goes between ends that are known
+pub is_known : (pairs : List Pair) (known : Bool) (x y : Enclave) → (hop_of pairs known x y ≡ hops.NoEnclave → ⊥) → known ≡ true
+is_known pairs true x y some = refl
+is_known pairs false x y some = absurd (some refl)

@@ -1,5 +1,5 @@
 -- The enclaves and the channels between them, as they are seen, and what a command makes of them.
-use Rattle.std.specs.Prelude.{◌≡◌, None, Some, ◌+◌, ◌-◌, ◌<◌, ℕ, min, List, [], ◌∷◌, ◌++◌, length, take, Bool, false, not, ◌&&◌, ◌||◌, ◌==◌, nat_le, nat_lt, if◌then◌else◌, Option, slice_get, slice_set, slice_index_or}
+use Rattle.std.specs.Prelude.{◌≡◌, None, Some, ◌+◌, ◌-◌, ◌<◌, ℕ, min, List, [], ◌∷◌, ◌++◌, length, take, Bool, false, not, ◌&&◌, ◌||◌, ◌==◌, nat_le, nat_lt, if◌then◌else◌, Option, is_some, slice_get, slice_set, slice_index_or}
 use Rattle.std.specs.Option.{option_map, option_map_or}
 use Rattle.xm_num.specs.declared.Enclave.{Enclave}
 use Rattle.xm_num.specs.declared.Pid.{Pid}
@@ -15,19 +15,22 @@ use Rattle.xemem_language.specs.declared.command.Command.{Command}
 use Rattle.xemem_language.specs.declared.command.Command.TheVariants as commands
 use Rattle.xemem_language.specs.declared.line.Line.{Line}
 use Rattle.xemem_language.specs.declared.line.Line.TheVariants as lines
-use Rattle.enclave_rules.specs.View.{host}
+use Rattle.frame_pool.specs.Blocks.{free_blocks}
+use Rattle.enclave_rules.specs.Core.{host}
+use Rattle.enclave_rules.specs.Hand.{Nothing, Calls}
 use Rattle.xemem_language.specs.declared.call.ProcessCall.{ProcessCall}
 use Rattle.xemem_language.specs.declared.call.NodeShow.{NodeShow}
 use Rattle.xemem_language.specs.Calls.{call_of, show_of}
 use Rattle.enclave_rules.specs.Calls.{call_lines, show_lines}
-use Rattle.enclave_rules.specs.Steps.{refusal, birth_lines, adopt_lines, host_lines, first_blocks, start_lines, touch_answer, answer_lines, free_from, bytes_lines}
+use Rattle.enclave_rules.specs.Steps.{refusal, birth_lines, adopt_lines, host_lines, first_blocks, start_lines, touch_answer, answer_lines, bytes_lines}
 use Rattle.enclave_node.specs.Nodes.{NodeView, unborn_node, wrote, new_host, new_node, lent, adopted, fed_lines, after_feed}
 use Rattle.node_machine.specs.declared.pair.Pair.{Pair}
 use Rattle.node_machine.specs.declared.pair.Hop.{Hop}
 use Rattle.node_machine.specs.declared.pair.Hop.TheVariants as hops
 
--- how many blocks there are; whether an enclave was born with the name server; how many processes were started; the nodes, of
--- which the first is the host; and for each child its parent and the two channels between them, the first for enclave 1
+-- how many blocks there are; whether an enclave was born with the name server; how many processes were started; the nodes of the
+-- enclaves that were born, by their numbers; and for each child its parent and the two channels between them, the first for
+-- enclave 1
 pub record MachineView : Type 0 where
   pub pool : ℕ
   pub server : Bool
@@ -38,6 +41,15 @@ pub record MachineView : Type 0 where
 abbrev pub no_machine : MachineView
 no_machine = record { pool = 0; server = false; starts = 0; nodes = []; pairs = [] }
 
+-- The node of the enclave of that number, where it has one. Each enclave that was born has its node so far; none is gone.
+abbrev pub node_of : List NodeView → ℕ → Option NodeView
+node_of nodes e = slice_get nodes e
+
+-- the enclave lives: it has a node
+abbrev pub has_node : List NodeView → ℕ → Bool
+has_node nodes e = is_some (node_of nodes e)
+
+-- what the node of an enclave has; nothing, where it has none
 abbrev pub node_at : List NodeView → ℕ → NodeView
 node_at nodes e = slice_index_or nodes e (unborn_node 0 host [])
 
@@ -70,16 +82,19 @@ pub record IsPairAt (pairs : List Pair) (i child parent : ℕ) : Type 0 where
   pub child_is : child ≡ i + 1
   pub parent_is : (pair_at pairs i).parent.0 ≡ parent
 
--- which channel goes from x to y
-abbrev pub hop_of : List Pair → ℕ → Enclave → Enclave → Hop
-hop_of pairs born x y =
-    if not (nat_lt y.0 born && nat_lt x.0 born) then hops.NoEnclave
+-- which channel goes from x to y, where the ends are known: y lives, and x was born
+abbrev pub hop_of : List Pair → Bool → Enclave → Enclave → Hop
+hop_of pairs known x y =
+    if not known then hops.NoEnclave
     else (if is_parent pairs x.0 y.0 then hops.Up (x.0 - 1)
     else (if is_parent pairs y.0 x.0 then hops.Down (y.0 - 1)
     else hops.NoLink))
 
+abbrev pub are_known : List NodeView → Enclave → Enclave → Bool
+are_known nodes x y = has_node nodes y.0 && nat_lt x.0 (length nodes)
+
 abbrev pub hop_in : MachineView → Enclave → Enclave → Hop
-hop_in m x y = hop_of m.pairs (length m.nodes) x y
+hop_in m x y = hop_of m.pairs (are_known m.nodes x y) x y
 
 abbrev pub link_of : List Pair → Hop → Channel
 link_of pairs hops.NoEnclave = fresh
@@ -108,15 +123,15 @@ with_link pairs hops.NoLink link = pairs
 with_link pairs (hops.Up i) link = slice_set pairs i (record (pair_at pairs i) { up = link })
 with_link pairs (hops.Down i) link = slice_set pairs i (record (pair_at pairs i) { down = link })
 
--- a record goes over a channel
+-- a record goes over a channel, where that hasn't ended
 abbrev pub carried_over : List Pair → Hop → Record → List Pair
-carried_over pairs hop r = with_link pairs hop (sent (link_of pairs hop) (spelling_of r))
+carried_over pairs hop r = if (link_of pairs hop).ended then pairs else with_link pairs hop (sent (link_of pairs hop) (spelling_of r))
 
--- what the lines send goes over the channels
-abbrev pub carried : ℕ → List Pair → List Line → List Pair
-carried born pairs [] = pairs
-carried born pairs (lines.Sent x y r ∷ journal) = carried born (carried_over pairs (hop_of pairs born x y) r) journal
-carried born pairs (line ∷ journal) = carried born pairs journal
+-- what the lines send goes over the channels; what is sent to an enclave that doesn't live is lost
+abbrev pub carried : List NodeView → List Pair → List Line → List Pair
+carried nodes pairs [] = pairs
+carried nodes pairs (lines.Sent x y r ∷ journal) = carried nodes (carried_over pairs (hop_of pairs (are_known nodes x y) x y) r) journal
+carried nodes pairs (line ∷ journal) = carried nodes pairs journal
 
 -- ---- births
 
@@ -126,8 +141,9 @@ host_by m blocks ns = if nat_lt m.pool blocks then refusal causes.NoBlocks else 
 abbrev pub after_host : MachineView → ℕ → Bool → MachineView
 after_host m blocks ns = if nat_lt m.pool blocks then m else record m { server = ns; nodes = new_host m.pool blocks ns ∷ [] }
 
+-- the lines of a command at an enclave, where it lives
 abbrev pub at_node : MachineView → Enclave → List Line → List Line
-at_node m e journal = if nat_lt e.0 (length m.nodes) then journal else refusal causes.NoEnclave
+at_node m e journal = if has_node m.nodes e.0 then journal else refusal causes.NoEnclave
 
 -- the number of the next enclave
 abbrev pub next_enclave : MachineView → Enclave
@@ -135,7 +151,7 @@ next_enclave m = record { 0 = length m.nodes }
 
 -- the free blocks, by what the host keeps
 abbrev pub free_of : MachineView → List Block
-free_of m = free_from 0 (node_at m.nodes 0).view.host.states
+free_of m = free_blocks (node_at m.nodes 0).view.host.states
 
 abbrev pub is_full : MachineView → Bool
 is_full m = nat_le 256 (length m.nodes)
@@ -145,7 +161,7 @@ is_short m blocks = nat_lt (length (free_of m)) blocks
 
 abbrev pub booted_lines : MachineView → Kind → Enclave → ℕ → Bool → List Line
 booted_lines m kind parent blocks ns =
-    birth_lines (next_enclave m) kind parent (take blocks (free_of m)) ns (node_at m.nodes parent.0).view.heard ++ adopt_lines (node_at m.nodes parent.0).view (next_enclave m)
+    birth_lines (next_enclave m) kind parent (take blocks (free_of m)) ns (node_at m.nodes parent.0).view.core.heard ++ adopt_lines (node_at m.nodes parent.0).view (next_enclave m)
 
 abbrev pub boot_by : MachineView → Kind → Enclave → ℕ → Bool → List Line
 boot_by m kind parent blocks ns =
@@ -157,12 +173,12 @@ boot_by m kind parent blocks ns =
 -- the child is new to the node
 pub record IsStranger (node : NodeView) (child : Enclave) : Type 0 where
   pub feed : at node.feeds child.0 ≡ None
-  pub kin : at node.view.children child.0 ≡ None
+  pub kin : at node.view.core.children child.0 ≡ None
 
 -- what is written when a child of the parent is born with these blocks
 abbrev pub borne_lines : MachineView → Enclave → Kind → Enclave → List Block → Bool → List Line
 borne_lines m child kind parent blocks ns =
-    birth_lines child kind parent blocks ns (node_at m.nodes parent.0).view.heard ++ adopt_lines (node_at m.nodes parent.0).view child
+    birth_lines child kind parent blocks ns (node_at m.nodes parent.0).view.core.heard ++ adopt_lines (node_at m.nodes parent.0).view child
 
 -- the parent takes the child, and the child is born
 abbrev pub after_birth : MachineView → Enclave → Kind → Enclave → List Block → Bool → MachineView
@@ -170,7 +186,7 @@ after_birth m child kind parent blocks ns =
     let node = node_at m.nodes parent.0 in
     record m {
       server = m.server || ns;
-      nodes = slice_set m.nodes parent.0 (wrote (adopted node child kind) (adopt_lines node.view child)) ++ new_node child kind parent blocks ns node.view.heard ∷ [];
+      nodes = slice_set m.nodes parent.0 (wrote Nothing (adopted node child kind) (adopt_lines node.view child)) ++ new_node child kind parent blocks ns node.view.core.heard ∷ [];
       pairs = m.pairs ++ record { parent = parent; up = fresh; down = fresh } ∷ [];
     }
 
@@ -180,12 +196,12 @@ booted_nodes m kind parent blocks ns =
     let child = next_enclave m in
     let lending = slice_set m.nodes 0 (lent (node_at m.nodes 0) child parent (take blocks (free_of m))) in
     let taking = adopted (node_at lending parent.0) child kind in
-    slice_set lending parent.0 (wrote taking (adopt_lines (node_at m.nodes parent.0).view child))
-    ++ new_node child kind parent (take blocks (free_of m)) ns (node_at m.nodes parent.0).view.heard ∷ []
+    slice_set lending parent.0 (wrote Nothing taking (adopt_lines (node_at m.nodes parent.0).view child))
+    ++ new_node child kind parent (take blocks (free_of m)) ns (node_at m.nodes parent.0).view.core.heard ∷ []
 
 abbrev pub after_boot : MachineView → Kind → Enclave → ℕ → Bool → MachineView
 after_boot m kind parent blocks ns =
-    if not (nat_lt parent.0 (length m.nodes)) then m
+    if not (has_node m.nodes parent.0) then m
     else (if is_full m then m
     else (if ns && m.server then m
     else (if is_short m blocks then m
@@ -198,9 +214,9 @@ start_by m e uid gid = if nat_le 1024 m.starts then refusal causes.TooMany else 
 
 abbrev pub after_start : MachineView → Enclave → ℕ → ℕ → MachineView
 after_start m e uid gid =
-    if not (nat_lt e.0 (length m.nodes)) then m
+    if not (has_node m.nodes e.0) then m
     else (if nat_le 1024 m.starts then m
-    else record (with_node m e.0 (wrote (node_at m.nodes e.0) (start_lines (node_at m.nodes e.0).view uid gid))) { starts = m.starts + 1 })
+    else record (with_node m e.0 (wrote Nothing (node_at m.nodes e.0) (start_lines (node_at m.nodes e.0).view uid gid))) { starts = m.starts + 1 })
 
 abbrev pub touch_by : MachineView → Enclave → Pid → ℕ → Want → List Line
 touch_by m e p addr want = answer_lines e p (touch_answer (node_at m.nodes e.0).view p addr want)
@@ -210,7 +226,7 @@ abbrev pub call_by : MachineView → ProcessCall → List Line
 call_by m k = call_lines (node_at m.nodes k.enclave.0).view k.pid k.call
 
 abbrev pub after_call : MachineView → ProcessCall → MachineView
-after_call m k = if nat_lt k.enclave.0 (length m.nodes) then with_node m k.enclave.0 (wrote (node_at m.nodes k.enclave.0) (call_by m k)) else m
+after_call m k = if has_node m.nodes k.enclave.0 then with_node m k.enclave.0 (wrote (Calls k) (node_at m.nodes k.enclave.0) (call_by m k)) else m
 
 -- what is shown of the node of the enclave
 abbrev pub node_shown : MachineView → NodeShow → List Line
@@ -320,7 +336,7 @@ abbrev pub acted : MachineView → Command → MachineView
 acted m command = option_map_or (λ k. after_call m k) (call_of command) (other_acted m command)
 
 abbrev pub with_carried : MachineView → List Line → MachineView
-with_carried m journal = record m { pairs = carried (length m.nodes) m.pairs journal }
+with_carried m journal = record m { pairs = carried m.nodes m.pairs journal }
 
 -- the machine after a command
 abbrev pub after_command : MachineView → Command → MachineView

@@ -1,7 +1,9 @@
 -- What the machine keeps between commands, and what a step asks of its command, so that each call of a node may be made.
-use Rattle.std.specs.Prelude.{◌≡◌, ◌+◌, ◌-◌, ◌≤◌, ◌<◌, ℕ, List, length, true, false, None, IsSome}
+use Rattle.std.specs.Prelude.{◌≡◌, ◌+◌, ◌-◌, ◌≤◌, ◌<◌, ℕ, length, true, false, None, IsSome}
 use Rattle.xm_num.specs.declared.Kind.TheVariants as kinds
+use Rattle.xm_num.specs.declared.Enclave.{Enclave}
 use Rattle.xm_num.specs.Rows.{at}
+use Rattle.byte_link.specs.Channel.{Channel}
 use Rattle.xemem_language.specs.declared.command.Command.{Command}
 use Rattle.xemem_language.specs.declared.command.Command.TheVariants as commands
 use Rattle.xemem_language.specs.Ranges.{IsInRange}
@@ -9,34 +11,33 @@ use Rattle.enclave_rules.specs.Built.{is_built}
 use Rattle.enclave_node.specs.Nodes.{NodeView, feed_at}
 use Rattle.node_machine.specs.declared.pair.Pair.{Pair}
 use Rattle.node_machine.specs.Links.{IsFlowing}
-use Rattle.node_machine.specs.Machine.{MachineView, node_at, pair_at}
-use Rattle.node_machine.specs.Machine.{enclave}
+use Rattle.node_machine.specs.Machine.{MachineView, enclave, has_node, node_at, pair_at}
 
 pub record IsNodeReady (e : ℕ) (node : NodeView) : Type 0 where
   pub me : node.view.me ≡ enclave e
   pub going : node.failed ≡ false
 
--- the channels of child c flow, and both ends are open
+-- the node may take what waits in the link from x: it flows into a decoder of the node
+pub record CanTake (link : Channel) (node : NodeView) (x : Enclave) : Type 0 where
+  pub flows : IsFlowing link (feed_at node.feeds x)
+  pub open_end : IsSome (at node.feeds x.0)
+
+-- child c lies below its parent, and each of the two that lives may take what the other sent
 pub record IsPairReady (m : MachineView) (c : ℕ) (pair : Pair) : Type 0 where
   pub above : pair.parent.0 < c
-  pub parent : (node_at m.nodes c).view.parent ≡ pair.parent
-  pub up : IsFlowing pair.up (feed_at (node_at m.nodes pair.parent.0).feeds (enclave c))
-  pub up_open : IsSome (at (node_at m.nodes pair.parent.0).feeds c)
-  pub down : IsFlowing pair.down (feed_at (node_at m.nodes c).feeds pair.parent)
-  pub down_open : IsSome (at (node_at m.nodes c).feeds pair.parent.0)
+  pub parent : has_node m.nodes c ≡ true → (node_at m.nodes c).view.core.parent ≡ pair.parent
+  pub up : has_node m.nodes pair.parent.0 ≡ true → CanTake pair.up (node_at m.nodes pair.parent.0) (enclave c)
+  pub down : has_node m.nodes c ≡ true → CanTake pair.down (node_at m.nodes c) pair.parent
 
 pub record IsReady (m : MachineView) : Type 0 where
   pub most : length m.nodes ≤ 256
   pub pairs : length m.pairs ≡ length m.nodes - 1
-  pub nodes : (e : ℕ) → e < length m.nodes → IsNodeReady e (node_at m.nodes e)
+  pub root : 0 < length m.nodes → has_node m.nodes 0 ≡ true
+  pub nodes : (e : ℕ) → has_node m.nodes e ≡ true → IsNodeReady e (node_at m.nodes e)
   pub links : (i : ℕ) → i < length m.pairs → IsPairReady m (i + 1) (pair_at m.pairs i)
   pub recorded : 1 ≤ length m.nodes → length (node_at m.nodes 0).view.host.parents ≡ length m.nodes
   pub strangers : (e c : ℕ) → length m.nodes ≤ c → at (node_at m.nodes e).feeds c ≡ None
-  pub unborn : (e c : ℕ) → length m.nodes ≤ c → at (node_at m.nodes e).view.children c ≡ None
-
--- no channel has ended
-abbrev pub AreOpen : List Pair → Type 0
-AreOpen pairs = (i : ℕ) → i < length pairs → ((pair_at pairs i).up.ended ≡ false) × ((pair_at pairs i).down.ended ≡ false)
+  pub unborn : (e c : ℕ) → length m.nodes ≤ c → at (node_at m.nodes e).view.core.children c ≡ None
 
 -- a settle is no step of the machine
 abbrev pub IsNoSettle : Command → Type 0

@@ -4,7 +4,6 @@ ghost use Rattle.byte_link.specs.Channel.{waiting_bytes, boundary_of, sent, take
 ghost use Rattle.xemem_wire.specs.Spelling.{is_valid, spelling_of};
 ghost use Rattle.node_machine.specs.Index as index;
 ghost use Rattle.node_machine.specs.Machine as spec;
-ghost use Rattle.node_machine.specs.Ready.{AreOpen};
 
 use crate::delivery::{send_over, take_bytes};
 use crate::laws::laws;
@@ -65,7 +64,6 @@ fn send_noted(
     requires open_end { link.old.ended ≡ false }
     requires noted { index.IsNoted waiting.old.keys number link.old }
     ensures sent { OnOk result (link.new ≡ sent link.old (spelling_of rec.now)) }
-    ensures open_end { link.new.ended ≡ false }
     ensures noted { index.IsNoted waiting.new.keys number link.new }
     ensures others { index.SameBut number waiting.old.keys waiting.new.keys }
 {
@@ -92,7 +90,6 @@ fn take_noted(
     requires noted { index.IsNoted waiting.old.keys number link.old }
     ensures bytes { OnOk result (into.new.items ≡ take count (waiting_bytes link.old)) }
     ensures rest { OnOk result (link.new ≡ taken link.old count) }
-    ensures open_end { link.new.ended ≡ link.old.ended }
     ensures noted { index.IsNoted waiting.new.keys number link.new }
     ensures others { index.SameBut number waiting.old.keys waiting.new.keys }
 {
@@ -126,12 +123,12 @@ impl Channels {
         Ok(())
     }
 
-    /// Which channel goes from one enclave to another, where so many enclaves were born.
-    pub fn hop(&self, born: usize, from: Enclave, to: Enclave) -> Hop
-        ensures hop { result ≡ spec.hop_of self.now born from to }
+    /// Which channel goes from one enclave to another, where these are known: the receiver lives, and the sender was born.
+    pub fn hop(&self, known: bool, from: Enclave, to: Enclave) -> Hop
+        ensures hop { result ≡ spec.hop_of self.now known from to }
         ensures within { spec.IsIn self.now result }
     {
-        hop_of(&self.pairs, born, from, to)
+        hop_of(&self.pairs, known, from, to)
     }
 
     /// The channel itself.
@@ -208,23 +205,27 @@ impl Channels {
         }
     }
 
-    /// Sends a record over a channel. It is spelled in `room` first, whose bytes are lost. For want of memory the channels are
-    /// as before.
+    /// Sends a record over a channel. Nothing goes over one that has ended. The record is spelled in `room` first, whose bytes
+    /// are lost. For want of memory the channels are as before.
     pub fn send(&mut self, hop: Hop, rec: &Record, room: &mut Vec<u8>) -> Result<(), AllocError>
         requires within { spec.IsIn self.old hop }
         requires valid { IsTrue (is_valid rec.now) }
-        requires open_ends { AreOpen self.old }
         ensures sent { OnOk result (self.new ≡ spec.carried_over self.old hop rec.now) }
-        ensures open_ends { AreOpen self.new }
     {
         match hop {
             Hop::NoEnclave | Hop::NoLink => Ok(()),
             Hop::Up(i) => {
                 let link = &mut self.pairs[i].up;
+                if link.has_ended() {
+                    return Ok(());
+                }
                 send_noted(link, &mut self.waiting, up_number(i), rec, room)
             }
             Hop::Down(i) => {
                 let link = &mut self.pairs[i].down;
+                if link.has_ended() {
+                    return Ok(());
+                }
                 send_noted(link, &mut self.waiting, down_number(i), rec, room)
             }
         }

@@ -1,5 +1,5 @@
 // The laws on which the machine rests, and what it has to say of its channels.
-ghost use Rattle.std.specs.Prelude.{◌≡◌, ◌<◌, ℕ, List};
+ghost use Rattle.std.specs.Prelude.{◌≡◌, ℕ, List, Bool, true};
 ghost use Rattle.xm_num.specs.declared.Enclave.{Enclave as Enclaves};
 ghost use Rattle.node_machine.specs.declared.pair.Hop.TheVariants as hops;
 ghost use Rattle.node_machine.specs.declared.pair.Pair.{Pair as Pairs};
@@ -20,10 +20,8 @@ pub fn laws()
 
 /// Which channel goes from one enclave to another: the one up from a child to its parent, or the one down from it.
 pub fn hops_are_pairs()
-    ensures up { (pairs : List Pairs) (born : ℕ) (x y : Enclaves) (i : ℕ) → hop_of pairs born x y ≡ hops.Up i → IsPairAt pairs i x.0 y.0 }
-    ensures down { (pairs : List Pairs) (born : ℕ) (x y : Enclaves) (i : ℕ) → hop_of pairs born x y ≡ hops.Down i → IsPairAt pairs i y.0 x.0 }
-    ensures to_up { (pairs : List Pairs) (born : ℕ) (x y : Enclaves) (i : ℕ) → IsPairAt pairs i x.0 y.0 → x.0 < born → y.0 < born
-        → hop_of pairs born x y ≡ hops.Up i }
-    ensures to_down { (pairs : List Pairs) (born : ℕ) (x y : Enclaves) (i : ℕ) → AreAbove pairs → IsPairAt pairs i y.0 x.0 → x.0 < born
-        → y.0 < born → hop_of pairs born x y ≡ hops.Down i }
+    ensures up { (pairs : List Pairs) (known : Bool) (x y : Enclaves) (i : ℕ) → hop_of pairs known x y ≡ hops.Up i → IsPairAt pairs i x.0 y.0 }
+    ensures down { (pairs : List Pairs) (known : Bool) (x y : Enclaves) (i : ℕ) → hop_of pairs known x y ≡ hops.Down i → IsPairAt pairs i y.0 x.0 }
+    ensures to_up { (pairs : List Pairs) (x y : Enclaves) (i : ℕ) → IsPairAt pairs i x.0 y.0 → hop_of pairs true x y ≡ hops.Up i }
+    ensures to_down { (pairs : List Pairs) (x y : Enclaves) (i : ℕ) → AreAbove pairs → IsPairAt pairs i y.0 x.0 → hop_of pairs true x y ≡ hops.Down i }
 {}

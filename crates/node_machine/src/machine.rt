@@ -1,14 +1,15 @@
 // The machine: its enclaves and the channels between them. It carries bytes and looks into no enclave.
-ghost use Rattle.std.specs.Prelude.{◌≡◌, ◌+◌, ◌-◌, ◌≤◌, ◌<◌, ◌∷◌, ◌++◌, [], length, false, option_copied, slice_get, IsTrue, IsSome, OnOk, IfOk};
+ghost use Rattle.std.specs.Prelude.{◌≡◌, ◌+◌, ◌-◌, ◌≤◌, ◌<◌, ◌∷◌, ◌++◌, [], length, false, option_copied, IsTrue, IsSome, OnOk, IfOk};
 ghost use Rattle.xm_num.specs.declared.Kind.TheVariants as kinds;
 ghost use Rattle.xemem_wire.specs.Spelling.{AreValid, is_valid};
 ghost use Rattle.xemem_language.specs.declared.line.Line.TheVariants as lines;
 ghost use Rattle.xemem_language.specs.Calls.{IsCallInRange, IsShowable};
 ghost use Rattle.xm_num.specs.Rows.{at};
+ghost use Rattle.enclave_rules.specs.Pages.{AreBlocks};
 ghost use Rattle.enclave_node.specs.Nodes.{feed_at, number_of};
 ghost use Rattle.node_machine.specs.Links.{IsFlowing, sent_in};
 ghost use Rattle.node_machine.specs.Machine as spec;
-ghost use Rattle.node_machine.specs.Ready.{IsReady, CanStep, AreOpen};
+ghost use Rattle.node_machine.specs.Ready.{IsReady, CanStep};
 
 use crate::channels::Channels;
 use crate::delivery::{refuse, show};
@@ -117,7 +118,6 @@ impl Machine {
         requires can { CanStep self.old command.now }
         ensures lines { OnOk result (out.new ≡ out.old ++ spec.lines_by self.old command.now) }
         ensures after { OnOk result (self.new ≡ spec.acted self.old command.now) }
-        ensures open_ends { OnOk result (AreOpen self.new.pairs) }
     {
         if let Some(asked) = call_of(command) {
             return self.call(&asked, out);
@@ -147,12 +147,21 @@ impl Machine {
         }
     }
 
+    // Whether the enclave lives, which it does where it has a node.
+    fn has_node(&self, e: Enclave) -> bool
+        ensures has { result ≡ spec.has_node self.now.nodes e.0 }
+        ensures within { IsTrue result → e.0 < length self.now.nodes }
+    {
+        (e.0 as usize) < self.nodes.len()
+    }
+
     // Which channel goes from one enclave to another.
     fn hop(&self, from: Enclave, to: Enclave) -> Hop
         ensures hop { result ≡ spec.hop_in self.now from to }
         ensures within { spec.IsIn self.now.pairs result }
     {
-        self.channels.hop(self.nodes.len(), from, to)
+        let known = self.has_node(to) && (from.0 as usize) < self.nodes.len();
+        self.channels.hop(known, from, to)
     }
 
     fn set_pool(&mut self, blocks: u16) -> Result<(), AllocError>
@@ -195,7 +204,7 @@ impl Machine {
         ensures lines { OnOk result (out.new ≡ out.old ++ spec.at_node self.old parent (spec.boot_by self.old kind parent blocks ns)) }
         ensures after { OnOk result (self.new ≡ spec.after_boot self.old kind parent blocks ns) }
     {
-        if parent.0 as usize >= self.nodes.len() {
+        if !self.has_node(parent) {
             return refuse(Cause::NoEnclave, out);
         }
         if self.nodes.len() >= MOST_ENCLAVES {
@@ -228,6 +237,7 @@ impl Machine {
         requires born { parent.0 < length self.old.nodes }
         requires kind { kind ≡ kinds.Cokernel }
         requires some { 1 ≤ length blocks.now }
+        requires blocks { AreBlocks blocks.now }
         requires me { (spec.node_at self.old.nodes parent.0).view.me.0 ≡ parent.0 }
         requires going { (spec.node_at self.old.nodes parent.0).failed ≡ false }
         requires stranger { spec.IsStranger (spec.node_at self.old.nodes parent.0) child }
@@ -263,10 +273,10 @@ impl Machine {
         ensures lines { OnOk result (out.new ≡ out.old ++ spec.at_node self.old enclave (spec.start_by self.old enclave uid gid)) }
         ensures after { OnOk result (self.new ≡ spec.after_start self.old enclave uid gid) }
     {
-        let at = enclave.0 as usize;
-        if at >= self.nodes.len() {
+        if !self.has_node(enclave) {
             return refuse(Cause::NoEnclave, out);
         }
+        let at = enclave.0 as usize;
         if self.starts >= MOST_PROCESSES {
             return refuse(Cause::TooMany, out);
         }
@@ -277,14 +287,15 @@ impl Machine {
 
     // A call of a process, which its node carries out.
     fn call(&mut self, asked: &ProcessCall, out: &mut Lines) -> Result<(), AllocError>
+        requires ready { IsReady self.old }
         requires range { IsCallInRange asked.now.call }
         ensures lines { OnOk result (out.new ≡ out.old ++ spec.at_node self.old asked.now.enclave (spec.call_by self.old asked.now)) }
         ensures after { OnOk result (self.new ≡ spec.after_call self.old asked.now) }
     {
-        let at = asked.enclave.0 as usize;
-        if at >= self.nodes.len() {
+        if !self.has_node(asked.enclave) {
             return refuse(Cause::NoEnclave, out);
         }
+        let at = asked.enclave.0 as usize;
         self.nodes[at].call(asked.pid, &asked.call, out)
     }
 
@@ -299,10 +310,10 @@ impl Machine {
         requires ready { IsReady self.now }
         ensures { OnOk result (out.new ≡ out.old ++ spec.at_node self.now enclave (spec.touch_by self.now enclave pid addr want)) }
     {
-        let at = enclave.0 as usize;
-        if at >= self.nodes.len() {
+        if !self.has_node(enclave) {
             return refuse(Cause::NoEnclave, out);
         }
+        let at = enclave.0 as usize;
         match self.nodes[at].touch(pid, addr, want) {
             Ok((page, frame)) => out.push(Line::Touched {
                 enclave,
@@ -386,17 +397,16 @@ impl Machine {
         requires host { IsShowable asked.now }
         ensures { OnOk result (out.new ≡ out.old ++ spec.at_node self.now asked.now.enclave (spec.node_shown self.now asked.now)) }
     {
-        let at = asked.enclave.0 as usize;
-        if at >= self.nodes.len() {
+        if !self.has_node(asked.enclave) {
             return refuse(Cause::NoEnclave, out);
         }
+        let at = asked.enclave.0 as usize;
         self.nodes[at].show(asked.show, out)
     }
 
     // Gives the records that the lines send to their channels, in order.
     fn carry(&mut self, lines: &[Line]) -> Result<(), AllocError>
         requires valid { AreValid (sent_in lines.now) }
-        requires open_ends { AreOpen self.old.pairs }
         ensures { OnOk result (self.new ≡ spec.with_carried self.old lines.now) }
     {
         for line in lines {
@@ -409,17 +419,15 @@ impl Machine {
 
     fn send(&mut self, from: Enclave, to: Enclave, rec: &Record) -> Result<(), AllocError>
         requires valid { IsTrue (is_valid rec.now) }
-        requires open_ends { AreOpen self.old.pairs }
         ensures sent { OnOk result (self.new ≡ record self.old { pairs = spec.carried_over self.old.pairs (spec.hop_in self.old from to) rec.now }) }
-        ensures open_ends { AreOpen self.new.pairs }
     {
         let hop = self.hop(from, to);
         self.channels.send(hop, rec, &mut self.bytes)
     }
 
-    /// The node of an enclave that was born.
+    /// The node of a living enclave.
     pub fn node(&self, e: Enclave) -> Option<&Node<PageTable>>
-        ensures { option_copied result ≡ slice_get self.now.nodes e.0 }
+        ensures { option_copied result ≡ spec.node_of self.now.nodes e.0 }
     {
         self.nodes.get(e.0 as usize)
     }

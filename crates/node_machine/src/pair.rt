@@ -49,11 +49,11 @@ fn is_parent(pairs: &[Pair], child: Enclave, parent: Enclave) -> bool
     }
 }
 
-/// Which channel goes from `from` to `to`, where so many enclaves were born.
-pub fn hop_of(pairs: &[Pair], born: usize, from: Enclave, to: Enclave) -> Hop
-    ensures { result ≡ spec.hop_of pairs.now born from to }
+/// Which channel goes from `from` to `to`, where these are known: `to` lives, and `from` was born.
+pub fn hop_of(pairs: &[Pair], known: bool, from: Enclave, to: Enclave) -> Hop
+    ensures { result ≡ spec.hop_of pairs.now known from to }
 {
-    if !((to.0 as usize) < born && (from.0 as usize) < born) {
+    if !known {
         Hop::NoEnclave
     } else if is_parent(pairs, from, to) {
         Hop::Up(from.0 as usize - 1)

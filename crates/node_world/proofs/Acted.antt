@@ -1,16 +1,16 @@
 -- The machine shows the facts, once what the lines of a command send is carried.
-use Rattle.std.proofs.Common.{◌≡◌, ◌+◌, ◌-◌, ◌<◌, ◌≤◌, ℕ, List, length, None, Some, sym, ap, ◌∙◌, subst, arith}
+use Rattle.std.proofs.Common.{◌≡◌, ◌+◌, ◌-◌, ◌<◌, ◌≤◌, ℕ, List, length, None, Some, true, sym, ap, ◌∙◌, subst, arith}
 use Rattle.xm_num.specs.declared.Enclave.{Enclave}
 use Rattle.xm_num.specs.Rows.{at}
 use Rattle.xemem_language.specs.declared.line.Line.{Line}
-use Rattle.global_model.specs.Facts.{Facts, ChannelFact, after_lines}
+use Rattle.global_model.specs.Facts.{Facts, ChannelFact, after_lines, lives_at}
 use Rattle.global_model.specs.Flow.{IsFlowing}
 use Rattle.enclave_node.specs.Nodes.{NodeView}
 use Rattle.node_machine.specs.declared.pair.Pair.{Pair}
 use Rattle.node_world.specs.Links.{feed_of}
-use Rattle.node_machine.specs.Machine.{MachineView, node_at, pair_at, with_carried, carried}
+use Rattle.node_machine.specs.Machine.{MachineView, has_node, node_at, pair_at, with_carried, carried}
 use Rattle.node_world.specs.Shown.{IsNodeOf, IsPairOf, IsShown}
-use Rattle.node_world.proofs.Flows.{link_of_channel, channel_of, feed_is}
+use Rattle.node_world.proofs.Flows.{feed_is}
 use Rattle.node_world.proofs.Carriage.{IsLinked, AreLinked, ArePlain, AreWithin, feed_by, carried-parent, carried-length, linked_lines, fed_lines, counted_lines}
 use Rattle.node_world.specs.Laws.{Laws}
 
@@ -18,10 +18,10 @@ use Rattle.node_world.specs.Laws.{Laws}
 abbrev pub HasFeed : (ℕ → ℕ → ChannelFact) → List NodeView → ℕ → ℕ → Type 0
 HasFeed channels nodes a b = at (node_at nodes b).feeds a ≡ Some (feed_by (channels a b))
 
--- the decoders of the two channels of enclave i + 1
-pub record IsFedPair (channels : ℕ → ℕ → ChannelFact) (nodes : List NodeView) (i : ℕ) (pair : Pair) : Type 0 where
-  pub up : HasFeed channels nodes (i + 1) pair.parent.0
-  pub down : HasFeed channels nodes pair.parent.0 (i + 1)
+-- the decoders of the two channels of enclave i + 1, each where its receiver lives
+pub record IsFedPair (G : Facts) (nodes : List NodeView) (i : ℕ) (pair : Pair) : Type 0 where
+  pub up : lives_at G pair.parent.0 ≡ true → HasFeed G.channel nodes (i + 1) pair.parent.0
+  pub down : lives_at G (i + 1) ≡ true → HasFeed G.channel nodes pair.parent.0 (i + 1)
 
 -- The machine shows by its counts, links and decoders the facts G, behind which only plain lines come, and by its nodes the
 -- facts H after these.
@@ -31,19 +31,22 @@ pub record IsActed (G H : Facts) (m : MachineView) : Type 0 where
   pub starts : m.starts ≡ G.starts
   pub born : length m.nodes ≡ G.born
   pub pairs : length m.pairs ≡ G.born - 1
-  pub nodes : (e : ℕ) → e < G.born → IsNodeOf H e (node_at m.nodes e)
+  pub living : (e : ℕ) → has_node m.nodes e ≡ lives_at G e
+  pub nodes : (e : ℕ) → lives_at G e ≡ true → IsNodeOf H e (node_at m.nodes e)
   pub links : AreLinked G.enclave G.channel m.pairs
   pub within : AreWithin G.channel
-  pub feeds : (i : ℕ) → i < length m.pairs → IsFedPair G.channel m.nodes i (pair_at m.pairs i)
+  pub feeds : (i : ℕ) → i < length m.pairs → IsFedPair G m.nodes i (pair_at m.pairs i)
   pub strangers : (e c : ℕ) → G.born ≤ c → at (node_at m.nodes e).feeds c ≡ None
 
 pub shown_of : Laws → (G : Facts) (ls : List Line) (m : MachineView) → ArePlain ls → IsFlowing (after_lines G ls) → IsActed G (after_lines G ls) m → IsShown (after_lines G ls) (with_carried m ls)
 shown_of laws G ls m plain flowing h =
     let H = after_lines G ls in
     let count = counted_lines ls G plain in
-    let size = carried-length (length m.nodes) ls m.pairs in
+    let size = carried-length m.nodes ls m.pairs in
     let now : length m.pairs ≡ length m.nodes - 1 = h.pairs ∙ ap (λ n. n - 1) (sym h.born) in
-    let linked = linked_lines laws (length m.nodes) ls G m.pairs now plain h.links in
+    -- all that were born live so far
+    let alive : (e : ℕ) → e < length m.nodes → lives_at G e ≡ true = λ e within. sym (count.living e) ∙ flowing.tree.all_live e (let mine = h.born in let same = count.born in omega (arith, mine, same, within)) in
+    let linked = linked_lines laws m.nodes ls G m.pairs now h.living alive plain h.links in
     let born = count.born in
     record {
       pool = h.pool ∙ sym count.pool;
@@ -51,7 +54,8 @@ shown_of laws G ls m plain flowing h =
       starts = h.starts ∙ sym count.starts;
       born = h.born ∙ sym count.born;
       pairs = size ∙ h.pairs ∙ ap (λ n. n - 1) (sym count.born);
-      nodes = λ e within. h.nodes e (omega (arith, born, within));
+      living = λ e. h.living e ∙ sym (count.living e);
+      nodes = λ e lives. h.nodes e (sym (count.living e) ∙ lives);
       links = λ i within. pair i (linked i within) (omega (arith, size, within));
       strangers = λ e c far. h.strangers e c (omega (arith, born, far));
     }
@@ -60,20 +64,24 @@ shown_of laws G ls m plain flowing h =
     feed : (a b : ℕ) → HasFeed G.channel m.nodes a b → at (node_at m.nodes b).feeds a ≡ Some (feed_of ((after_lines G ls).channel a b))
     feed a b is = is ∙ ap Some (sym (feed_is ((after_lines G ls).channel a b) (flowing.flows a b) (flowing.arrived a b) ∙ fed_lines ls G plain h.within a b))
 
-    pair : (i : ℕ) → IsLinked (after_lines G ls).enclave (after_lines G ls).channel i (pair_at (carried (length m.nodes) m.pairs ls) i) → i < length m.pairs
-        → IsPairOf (after_lines G ls) (with_carried m ls) (i + 1) (pair_at (carried (length m.nodes) m.pairs ls) i)
+    pair : (i : ℕ) → IsLinked (after_lines G ls).enclave (after_lines G ls).channel i (pair_at (carried m.nodes m.pairs ls) i) → i < length m.pairs
+        → IsPairOf (after_lines G ls) (with_carried m ls) (i + 1) (pair_at (carried m.nodes m.pairs ls) i)
     pair i k within =
-        let H = after_lines G ls in
-        let p = (pair_at (carried (length m.nodes) m.pairs ls) i).parent in
-        let same : (pair_at m.pairs i).parent ≡ p = sym (carried-parent (length m.nodes) ls m.pairs i) in
+        let p = (pair_at (carried m.nodes m.pairs ls) i).parent in
+        let same : (pair_at m.pairs i).parent ≡ p = sym (carried-parent m.nodes ls m.pairs i) in
         let feeds = h.feeds i within in
+        let before = (counted_lines ls G plain).living in
         record {
           parent = k.parent;
           above = k.above;
-          up = channel_of (H.channel (i + 1) p.0) _ (flowing.flows (i + 1) p.0) k.up;
-          down = channel_of (H.channel p.0 (i + 1)) _ (flowing.flows p.0 (i + 1)) k.down;
-          up_feed = feed (i + 1) p.0 (subst (λ (e : Enclave). HasFeed G.channel m.nodes (i + 1) e.0) same feeds.up);
-          down_feed = feed p.0 (i + 1) (subst (λ (e : Enclave). HasFeed G.channel m.nodes e.0 (i + 1)) same feeds.down);
+          up = λ lives. record {
+            bytes = k.up lives;
+            feed = feed (i + 1) p.0 (subst (λ (e : Enclave). lives_at G e.0 ≡ true → HasFeed G.channel m.nodes (i + 1) e.0) same feeds.up (sym (before p.0) ∙ lives));
+          };
+          down = λ lives. record {
+            bytes = k.down lives;
+            feed = feed p.0 (i + 1) (subst (λ (e : Enclave). HasFeed G.channel m.nodes e.0 (i + 1)) same (feeds.down (sym (before (i + 1)) ∙ lives)));
+          };
         }
 
 -- the same, with the facts after the lines by a name of their own
@@ -87,13 +95,16 @@ module _ (G : Facts) (m : MachineView) (flowing : IsFlowing G) (h : IsShown G m)
   linked_of i within =
       let k = h.links i within in
       let p = (pair_at m.pairs i).parent.0 in
-      record { parent = k.parent; above = k.above; up = link_of_channel (G.channel (i + 1) p) _ _ k.up; down = link_of_channel (G.channel p (i + 1)) _ _ k.down }
+      record { parent = k.parent; above = k.above; up = λ lives. (k.up lives).bytes; down = λ lives. (k.down lives).bytes }
 
   pub within_of : AreWithin G.channel
-  within_of a b = (flowing.flows a b).taken
+  within_of a b = let few = (flowing.flows a b).taken in omega (arith, few)
 
-  pub fed_of : (i : ℕ) → i < length m.pairs → IsFedPair G.channel m.nodes i (pair_at m.pairs i)
+  pub fed_of : (i : ℕ) → i < length m.pairs → IsFedPair G m.nodes i (pair_at m.pairs i)
   fed_of i within =
       let k = h.links i within in
       let p = (pair_at m.pairs i).parent.0 in
-      record { up = k.up_feed ∙ ap Some (feed_is (G.channel (i + 1) p) (flowing.flows (i + 1) p) (flowing.arrived (i + 1) p)); down = k.down_feed ∙ ap Some (feed_is (G.channel p (i + 1)) (flowing.flows p (i + 1)) (flowing.arrived p (i + 1))) }
+      record {
+        up = λ lives. (k.up lives).feed ∙ ap Some (feed_is (G.channel (i + 1) p) (flowing.flows (i + 1) p) (flowing.arrived (i + 1) p));
+        down = λ lives. (k.down lives).feed ∙ ap Some (feed_is (G.channel p (i + 1)) (flowing.flows p (i + 1)) (flowing.arrived p (i + 1)));
+      }

@@ -1,6 +1,6 @@
 -- In the midst of a settle: its next delivery is that of a `deliver`, and what is left are the lines of the rest.
-use Rattle.std.proofs.Common.{◌≡◌, ◌+◌, ◌-◌, ◌<◌, ◌≤◌, ℕ, zero, suc, List, [], ◌∷◌, ◌++◌, cond, false, Option, None, Some, refl, sym, ap, ◌∙◌, subst, arith, append-nil, append_assoc}
-use Rattle.std.specs.Prelude.{is_some}
+use Rattle.std.proofs.Common.{◌≡◌, ◌+◌, ◌-◌, ◌<◌, ◌≤◌, ℕ, zero, suc, List, [], ◌∷◌, ◌++◌, length, Bool, cond, true, false, Option, None, Some, refl, sym, ap, ◌∙◌, subst, arith, append-nil, append_assoc}
+use Rattle.std.specs.Prelude.{◌==◌, min, is_some}
 use Rattle.xm_num.specs.declared.Enclave.{Enclave}
 use Rattle.xemem_wire.specs.Spelling.{AreValid}
 use Rattle.xemem_language.specs.declared.command.Command.{Command}
@@ -8,9 +8,11 @@ use Rattle.xemem_language.specs.declared.command.Command.TheVariants as commands
 use Rattle.xemem_language.specs.declared.line.Line.{Line}
 use Rattle.xemem_language.specs.declared.line.Line.TheVariants as lines
 use Rattle.global_model.specs.Facts.{Facts, facts_after, after_line, after_lines}
+use Rattle.enclave_rules.specs.Hand.{Hand, Nothing}
+use Rattle.global_model.specs.Channels.{waiting_bytes}
 use Rattle.global_model.specs.Flow.{IsFlowing}
 use Rattle.xemem_language.specs.Spelling.{words_in}
-use Rattle.global_model.specs.Due.{command_lines, deliver_lines, next_rest, first_waiting, settle_from, step_lines, journal_of}
+use Rattle.global_model.specs.Due.{command_lines, deliver_lines, took_lines, next_rest, first_waiting, settle_from, step_lines, journal_of}
 use Rattle.global_model.specs.Journals.{onto, command_at}
 use Rattle.global_model.specs.Place.{IsPlaced}
 use Rattle.node_world.specs.declared.world.Which.{Which}
@@ -20,9 +22,10 @@ use Rattle.node_machine.specs.Links.{sent_in}
 use Rattle.node_machine.specs.Machine.{MachineView, lines_by, after_command, next_delivery}
 use Rattle.node_machine.specs.Ready.{IsReady, IsNoSettle, CanStep}
 use Rattle.node_world.specs.Shown.{IsShown}
-use Rattle.node_world.specs.World.{most_words, IsAlong, IsShort, IsStopped}
+use Rattle.node_world.specs.World.{most_words, holding, IsAlong, IsShort, IsStopped}
 use Rattle.node_world.proofs.Counts.{AreCounted, counted_line, counted_delivery, hand_delivery}
 use Rattle.node_world.proofs.Nexts.{IsDue, none_next, some_next}
+use Rattle.node_world.proofs.Stills.{shown_hand}
 use Rattle.node_world.proofs.Steps.{stepped, ready, can_step, sent_valid}
 use Rattle.node_world.proofs.Stops.{stopped_more, stopped_behind}
 
@@ -43,14 +46,39 @@ left_end : (G : Facts) (d : Command) (left made : ℕ) → left ≡ 0 → IsDue 
 left_end G d left made none due =
     ap (λ n. settle_from n made G) none ∙ ap (λ (o : Option (Enclave × Enclave)). cond (is_some o) (lines.Waiting made) (lines.Settled made) ∷ []) due.waits
 
+-- ---- what is at hand
+
+-- the same facts, but for what is at hand
+record IsSame (F G : Facts) : Type 0 where
+  hand : Hand
+  same : F ≡ holding hand G
+
+flowing_holding : (hand : Hand) (G : Facts) → IsFlowing G → IsFlowing (holding hand G)
+flowing_holding hand G h = record {
+  tree = record { most = h.tree.most; enclaves = h.tree.enclaves; root = h.tree.root; upward = h.tree.upward; all_live = h.tree.all_live };
+  ways = record { way = h.ways.way; askers = h.ways.askers; backs = h.ways.backs; routes = h.ways.routes };
+  flows = h.flows;
+  arrived = h.arrived;
+  apart = h.apart;
+}
+
+-- a delivery asks nothing of the hand, and bytes that are taken leave nothing in it
+after_delivery : (G : Facts) (one other : Hand) (x y : Enclave) (n : ℕ)
+    → IsSame (after_lines (holding one G) (deliver_lines G x y n)) (after_lines (holding other G) (deliver_lines G x y n))
+after_delivery G one other x y n = by (length (waiting_bytes G x.0 y.0) == 0) refl
+  where
+    by : (b : Bool) → (length (waiting_bytes G x.0 y.0) == 0) ≡ b → IsSame (after_lines (holding one G) (deliver_lines G x y n)) (after_lines (holding other G) (deliver_lines G x y n))
+    by true none = rw none (record { hand = one; same = refl })
+    by false some = rw some (let F = after_lines (holding other G) (took_lines G x y (min n (length (waiting_bytes G x.0 y.0)))) in record { hand = F.hand; same = refl })
+
 -- ---- one delivery
 
 module _ (laws : Laws) (m : MachineView) (journal : List Line) (along : IsAlong m journal) where
   pub flowing_along : IsFlowing (facts_after journal)
-  flowing_along = subst IsFlowing (sym along.facts) (laws.flowing along.played along.placed)
+  flowing_along = subst IsFlowing (sym along.facts) (flowing_holding along.hand (facts_after (journal_of along.played)) (laws.flowing along.played along.placed))
 
   shown_played : IsShown (facts_after (journal_of along.played)) m
-  shown_played = subst (λ F. IsShown F m) along.facts along.shown
+  shown_played = shown_hand (holding along.hand (facts_after (journal_of along.played))) (facts_after (journal_of along.played)).hand m (subst (λ F. IsShown F m) along.facts along.shown)
 
   -- a line that changes no facts and is by no node
   pub along_line : (line : Line) → ((G : Facts) → after_line G line ≡ G) → ((e : ℕ) (past : List Line) → is_by e past line ≡ false) → IsAlong m (journal ++ line ∷ [])
@@ -59,6 +87,7 @@ module _ (laws : Laws) (m : MachineView) (journal : List Line) (along : IsAlong 
       record {
         played = along.played;
         placed = along.placed;
+        hand = along.hand;
         facts = same ∙ along.facts;
         shown = subst (λ F. IsShown F m) (sym same) along.shown;
         appended = counted_line m journal line quiet along.appended;
@@ -94,14 +123,18 @@ module _ (laws : Laws) (m : MachineView) (journal : List Line) (along : IsAlong 
         (stepped laws along.played d m no_settle placed_next shown_played).0 ∙ ap (command_lines H) command_then ∙ laws.settles.lines along.played due.from due.to along.placed waits_then
         ∙ ap (λ F. deliver_lines F due.from due.to (next_rest F due.from due.to)) (sym along.facts)
 
-    -- a `do` line of the delivery would change no facts
-    facts_next : facts_after (journal ++ lines_by m d) ≡ facts_after (journal_of (along.played ++ d ∷ []))
+    -- a `do` line of the delivery would change only what is at hand
+    facts_next : IsSame (facts_after (journal ++ lines_by m d)) (facts_after (journal_of (along.played ++ d ∷ [])))
     facts_next =
-        let still : after_line H (lines.Do d) ≡ H = ap (λ c. after_line H (lines.Do c)) due.is in
-        let step : facts_after (journal_of (along.played ++ d ∷ [])) ≡ after_lines H (lines_by m d) =
-        ap facts_after (laws.journal along.played d) ∙ laws.facts (journal_of along.played) (step_lines H d) ∙ ap (λ F. after_lines F (command_lines H d)) still
-        ∙ ap (after_lines H) (sym (stepped laws along.played d m no_settle placed_next shown_played).0) in
-        laws.facts journal (lines_by m d) ∙ ap (λ F. after_lines F (lines_by m d)) along.facts ∙ sym step
+        let begun : after_line H (lines.Do d) ≡ holding Nothing H = ap (λ c. after_line H (lines.Do c)) due.is in
+        let ls : List Line = deliver_lines H due.from due.to (next_rest H due.from due.to) in
+        let are : lines_by m d ≡ ls = lines_next ∙ ap (λ F. deliver_lines F due.from due.to (next_rest F due.from due.to)) along.facts in
+        let now : facts_after (journal ++ lines_by m d) ≡ after_lines (holding along.hand H) ls = laws.facts journal (lines_by m d) ∙ ap (λ F. after_lines F (lines_by m d)) along.facts ∙ ap (after_lines (holding along.hand H)) are in
+        let then : facts_after (journal_of (along.played ++ d ∷ [])) ≡ after_lines (holding Nothing H) ls =
+        ap facts_after (laws.journal along.played d) ∙ laws.facts (journal_of along.played) (step_lines H d) ∙ ap (λ F. after_lines F (command_lines H d)) begun
+        ∙ ap (after_lines (holding Nothing H)) (sym (stepped laws along.played d m no_settle placed_next shown_played).0 ∙ are) in
+        let same = after_delivery H along.hand Nothing due.from due.to (next_rest H due.from due.to) in
+        record { hand = same.hand; same = now ∙ same.same ∙ ap (holding same.hand) (sym then) }
 
     left_next : (left made : ℕ) → settle_from (suc left) made (facts_after journal) ≡ lines_by m d ++ settle_from left (made + 1) (facts_after (journal ++ lines_by m d))
     left_next left made =
@@ -112,8 +145,10 @@ module _ (laws : Laws) (m : MachineView) (journal : List Line) (along : IsAlong 
     along_next most hand few = record {
       played = along.played ++ d ∷ [];
       placed = placed_next;
-      facts = facts_next;
-      shown = subst (λ F. IsShown F (after_command m d)) (sym facts_next) (stepped laws along.played d m no_settle placed_next shown_played).1;
+      hand = facts_next.hand;
+      facts = facts_next.same;
+      shown = subst (λ F. IsShown F (after_command m d)) (sym facts_next.same)
+          (shown_hand (facts_after (journal_of (along.played ++ d ∷ []))) facts_next.hand (after_command m d) (stepped laws along.played d m no_settle placed_next shown_played).1);
       appended = subst (λ c. words_in (journal ++ lines_by m c) ≤ most_words → AreCounted (after_command m c) (journal ++ lines_by m c)) (sym due.is)
           (counted_delivery laws m due.from due.to (next_rest (facts_after journal) due.from due.to) most journal ready_next hand along.appended) few;
     }

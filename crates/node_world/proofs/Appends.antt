@@ -14,8 +14,10 @@ use Rattle.xemem_language.specs.declared.line.Line.{Line}
 use Rattle.xemem_language.specs.declared.line.Line.TheVariants as lines
 use Rattle.xemem_language.specs.Spelling.{line_words, words_in}
 use Rattle.global_model.specs.Journals.{command_at, onto}
-use Rattle.enclave_rules.specs.View.{View, host, AreOf}
-use Rattle.enclave_rules.specs.Steps.{host_lines, told_lines, child_lines, birth_lines, query_of, knows_way, adopt_lines, lines_of_records}
+use Rattle.enclave_rules.specs.Core.{host}
+use Rattle.enclave_rules.specs.Sending.{knows_way}
+use Rattle.enclave_rules.specs.View.{View, AreOf}
+use Rattle.enclave_rules.specs.Steps.{host_lines, told_lines, child_lines, birth_lines, query_of, adopt_lines, lines_of_records}
 use Rattle.node_world.specs.Appended.{is_unborn, refuses, is_by, words_by}
 use Rattle.node_world.proofs.Lists.{cond_case}
 use Rattle.node_world.proofs.Stills.{IsStill, AreStill}
@@ -141,7 +143,7 @@ pub by_adopt : (c : Command) (v : View) (child : Enclave) → AreBy c (only v.me
 by_adopt c v child = cond_case (knows_way v) [] (lines.Sent v.me child (query_of v.me) ∷ []) (AreBy c (only v.me)) tt (λ e. refl, tt)
 
 pub by_records : ViewLaws → (c : Command) (v : View) (x : Enclave) (rs : List Record) → AreBy c (only v.me) (lines_of_records v x rs)
-by_records views c v x rs = all (lines_of_records v x rs) (views.at v x rs)
+by_records views c v x rs = all (lines_of_records v x rs) (views.of v x rs)
   where
     all : (ls : List Line) → AreOf v.me ls → AreBy c (only v.me) ls
     all [] of = tt

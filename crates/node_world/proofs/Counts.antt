@@ -1,7 +1,7 @@
 -- Each command and each delivery of a settle raises what each node appended by the words of its lines that are by that node.
 use Rattle.std.proofs.Common.{◌≡◌, ◌+◌, ◌<◌, ◌≤◌, ℕ, zero, suc, List, [], ◌∷◌, ◌++◌, length, take, Bool, true, false, cond, eqb, ltb, leb, not, ◌&&◌, ◌||◌, Option, None, Some, refl, sym, ap, ◌∙◌, subst, inl, inr, arith, length-append}
 use Rattle.std.specs.Prelude.{◌⊎◌, slice_set}
-use Rattle.std.proofs.lemmas.Bool.{eqb-true, eqb-false, ltb-true, ne_eqb, cases_lt}
+use Rattle.std.proofs.lemmas.Bool.{eqb-true, eqb-false, ne_eqb, cases_lt}
 use Rattle.std.proofs.lemmas.List.{length-set, get_or_past, get_or-set_same, get_or-set_other}
 use Rattle.std.proofs.Math.ListN.{get_or-append}
 use Rattle.std.proofs.Math.Seq.{get_or-append_seam}
@@ -22,16 +22,18 @@ use Rattle.xemem_language.specs.declared.line.Line.{Line}
 use Rattle.xemem_language.specs.declared.line.Line.TheVariants as lines
 use Rattle.xemem_language.specs.Spelling.{line_words, words_in}
 use Rattle.global_model.specs.Journals.{onto, command_at}
-use Rattle.enclave_rules.specs.View.{View, host}
+use Rattle.enclave_rules.specs.Core.{host}
+use Rattle.enclave_rules.specs.Hand.{Nothing, Calls}
+use Rattle.enclave_rules.specs.View.{View}
 use Rattle.enclave_rules.specs.Steps.{refusal, host_lines, first_blocks, start_lines, touch_answer, birth_lines, adopt_lines}
 use Rattle.enclave_node.specs.Nodes.{NodeView, unborn_node, raised, wrote, new_host, new_node, lent, adopted, fed, fed_lines, after_feed}
 use Rattle.node_machine.specs.declared.pair.Hop.{Hop}
 use Rattle.node_machine.specs.declared.pair.Hop.TheVariants as hops
 use Rattle.node_world.specs.Appended.{refuses, is_by, words_by}
-use Rattle.node_machine.specs.Machine.{MachineView, node_at, with_node, hop_in, link_of, with_link, taken_by, is_idle, next_enclave, free_of, is_full, is_short, booted_lines, booted_nodes, touch_by, over_lines, over_machine, deliver_by, after_deliver, shown_by, lines_by, acted, after_command, call_by, node_shown}
+use Rattle.node_machine.specs.Machine.{MachineView, has_node, node_at, with_node, hop_in, link_of, with_link, taken_by, is_idle, next_enclave, free_of, is_full, is_short, booted_lines, booted_nodes, touch_by, over_lines, over_machine, deliver_by, after_deliver, shown_by, lines_by, acted, after_command, call_by, node_shown}
 use Rattle.node_machine.specs.Ready.{IsReady, Stands}
 use Rattle.node_world.specs.World.{most_words}
-use Rattle.node_world.proofs.Lists.{cond_case, set_field}
+use Rattle.node_world.proofs.Lists.{cond_case, node_within, set_field}
 use Rattle.node_world.proofs.Stills.{AreStill, still_answer, still_shown, show_no_call, show_stays, shown_lines, still_bytes}
 use Rattle.node_world.proofs.Appends.{AreBy, nobody, only, Adds, share, adds_append, adds_by, few_by, by_still, by_birth, by_host, by_adopt, by_records, by_call}
 use Rattle.node_world.proofs.Words.{onto-append}
@@ -141,7 +143,7 @@ counts_host m blocks ns none = by (ltb m.pool blocks)
     by true = counts_none c (refusal causes.NoBlocks) m.nodes (λ e. refl, tt)
     by false = record { gain = share (only host) ls; adds = adds_by c (only host) ls (by_host c (first_blocks blocks) ns); raises = raises }
 
-module _ (m : MachineView) (kind : Kind) (parent : Enclave) (blocks : ℕ) (ns : Bool) (me : parent.0 < length m.nodes → (node_at m.nodes parent.0).view.me ≡ parent) where
+module _ (m : MachineView) (kind : Kind) (parent : Enclave) (blocks : ℕ) (ns : Bool) (me : has_node m.nodes parent.0 ≡ true → (node_at m.nodes parent.0).view.me ≡ parent) where
   abbrev boot : Command
   boot = commands.Boot kind parent blocks ns
 
@@ -149,25 +151,25 @@ module _ (m : MachineView) (kind : Kind) (parent : Enclave) (blocks : ℕ) (ns :
   child = next_enclave m
 
   abbrev birth : List Line
-  birth = birth_lines child kind parent (take blocks (free_of m)) ns (node_at m.nodes parent.0).view.heard
+  birth = birth_lines child kind parent (take blocks (free_of m)) ns (node_at m.nodes parent.0).view.core.heard
 
   abbrev asked : List Line
   asked = adopt_lines (node_at m.nodes parent.0).view child
 
   booted_raises : parent.0 < length m.nodes → Raises m.nodes (booted_nodes m kind parent blocks ns) (λ e. share (only child) birth e + share (only parent) asked e)
-  booted_raises within = raises_more m.nodes taking (share (only parent) asked) child (new_node child kind parent (take blocks (free_of m)) ns (node_at m.nodes parent.0).view.heard) (words_in birth) taken (size_then ∙ size) refl silent refl
+  booted_raises within = raises_more m.nodes taking (share (only parent) asked) child (new_node child kind parent (take blocks (free_of m)) ns (node_at m.nodes parent.0).view.core.heard) (words_in birth) taken (size_then ∙ size) refl silent refl
     where
       lending : List NodeView
       lending = slice_set m.nodes 0 (lent (node_at m.nodes 0) child parent (take blocks (free_of m)))
 
       taking : List NodeView
-      taking = slice_set lending parent.0 (wrote (adopted (node_at lending parent.0) child kind) asked)
+      taking = slice_set lending parent.0 (wrote Nothing (adopted (node_at lending parent.0) child kind) asked)
 
       size : length lending ≡ length m.nodes
       size = length-set m.nodes 0 (lent (node_at m.nodes 0) child parent (take blocks (free_of m)))
 
       size_then : length taking ≡ length lending
-      size_then = length-set lending parent.0 (wrote (adopted (node_at lending parent.0) child kind) asked)
+      size_then = length-set lending parent.0 (wrote Nothing (adopted (node_at lending parent.0) child kind) asked)
 
       -- lending writes nothing
       same : (e : ℕ) → count_at lending e ≡ count_at m.nodes e
@@ -175,40 +177,40 @@ module _ (m : MachineView) (kind : Kind) (parent : Enclave) (blocks : ℕ) (ns :
 
       taken : Raises m.nodes taking (share (only parent) asked)
       taken e few =
-          let raised = raises_one lending parent (wrote (adopted (node_at lending parent.0) child kind) asked) (words_in asked) (omega (arith, size, within)) refl e (omega (arith, same e, few)) in
+          let raised = raises_one lending parent (wrote Nothing (adopted (node_at lending parent.0) child kind) asked) (words_in asked) (omega (arith, size, within)) refl e (omega (arith, same e, few)) in
           omega (arith, raised, same e)
 
       silent : (e : ℕ) → length m.nodes ≤ e → share (only parent) asked e ≡ 0
       silent e past = ap (λ b. cond b (words_in asked) 0) (ne_eqb parent.0 e (λ is. omega (arith, is, past, within)))
 
-  booted : parent.0 < length m.nodes → Counts boot (booted_lines m kind parent blocks ns) m.nodes (booted_nodes m kind parent blocks ns)
-  booted within = record {
+  booted : has_node m.nodes parent.0 ≡ true → Counts boot (booted_lines m kind parent blocks ns) m.nodes (booted_nodes m kind parent blocks ns)
+  booted has = record {
     gain = λ e. share (only child) birth e + share (only parent) asked e;
     adds = adds_append boot birth asked (share (only child) birth) (share (only parent) asked)
-        (adds_by boot (only child) birth (by_birth boot child kind parent (take blocks (free_of m)) ns (node_at m.nodes parent.0).view.heard))
-        (adds_by boot (only parent) asked (subst (λ e. AreBy boot (only e) asked) (me within) (by_adopt boot (node_at m.nodes parent.0).view child)));
-    raises = booted_raises within;
+        (adds_by boot (only child) birth (by_birth boot child kind parent (take blocks (free_of m)) ns (node_at m.nodes parent.0).view.core.heard))
+        (adds_by boot (only parent) asked (subst (λ e. AreBy boot (only e) asked) (me has) (by_adopt boot (node_at m.nodes parent.0).view child)));
+    raises = booted_raises (node_within m.nodes parent.0 has);
   }
 
   counts_boot : Counts boot (lines_by m boot) m.nodes (acted m boot).nodes
-  counts_boot = by (ltb parent.0 (length m.nodes)) (is_full m) (ns && m.server) (is_short m blocks) refl
+  counts_boot = by (has_node m.nodes parent.0) (is_full m) (ns && m.server) (is_short m blocks) refl
     where
       w : MachineView
       w = record m { server = m.server || ns; nodes = booted_nodes m kind parent blocks ns; pairs = m.pairs ++ record { parent = parent; up = fresh; down = fresh } ∷ [] }
 
-      by : (a b t d : Bool) → ltb parent.0 (length m.nodes) ≡ a
+      by : (a b t d : Bool) → has_node m.nodes parent.0 ≡ a
           → Counts boot (cond a (cond b (refusal causes.TooMany) (cond t (refusal causes.NameServerTaken) (cond d (refusal causes.NoBlocks) (booted_lines m kind parent blocks ns)))) (refusal causes.NoEnclave)) m.nodes
           (cond (not a) m (cond b m (cond t m (cond d m w)))).nodes
       by false b t d is = counts_none boot (refusal causes.NoEnclave) m.nodes (λ e. refl, tt)
       by true true t d is = counts_none boot (refusal causes.TooMany) m.nodes (λ e. refl, tt)
       by true false true d is = counts_none boot (refusal causes.NameServerTaken) m.nodes (λ e. refl, tt)
       by true false false true is = counts_none boot (refusal causes.NoBlocks) m.nodes (λ e. refl, tt)
-      by true false false false is = booted (ltb-true parent.0 (length m.nodes) is)
+      by true false false false is = booted is
 
 -- ---- calls of processes
 
-counts_start : (m : MachineView) (e : Enclave) (uid gid : ℕ) → (e.0 < length m.nodes → (node_at m.nodes e.0).view.me ≡ e) → Counts (commands.Proc e uid gid) (lines_by m (commands.Proc e uid gid)) m.nodes (acted m (commands.Proc e uid gid)).nodes
-counts_start m e uid gid me = by (ltb e.0 (length m.nodes)) (leb 1024 m.starts) refl
+counts_start : (m : MachineView) (e : Enclave) (uid gid : ℕ) → (has_node m.nodes e.0 ≡ true → (node_at m.nodes e.0).view.me ≡ e) → Counts (commands.Proc e uid gid) (lines_by m (commands.Proc e uid gid)) m.nodes (acted m (commands.Proc e uid gid)).nodes
+counts_start m e uid gid me = by (has_node m.nodes e.0) (leb 1024 m.starts) refl
   where
     c : Command
     c = commands.Proc e uid gid
@@ -217,18 +219,18 @@ counts_start m e uid gid me = by (ltb e.0 (length m.nodes)) (leb 1024 m.starts) 
     ls = start_lines (node_at m.nodes e.0).view uid gid
 
     w : MachineView
-    w = record m { nodes = slice_set m.nodes e.0 (wrote (node_at m.nodes e.0) ls); starts = m.starts + 1 }
+    w = record m { nodes = slice_set m.nodes e.0 (wrote Nothing (node_at m.nodes e.0) ls); starts = m.starts + 1 }
 
-    by : (a b : Bool) → ltb e.0 (length m.nodes) ≡ a → Counts c (cond a (cond b (refusal causes.TooMany) ls) (refusal causes.NoEnclave)) m.nodes (cond (not a) m (cond b m w)).nodes
+    by : (a b : Bool) → has_node m.nodes e.0 ≡ a → Counts c (cond a (cond b (refusal causes.TooMany) ls) (refusal causes.NoEnclave)) m.nodes (cond (not a) m (cond b m w)).nodes
     by false b is = counts_none c (refusal causes.NoEnclave) m.nodes (λ e. refl, tt)
     by true true is = counts_none c (refusal causes.TooMany) m.nodes (λ e. refl, tt)
     by true false is =
-        let lt = ltb-true e.0 (length m.nodes) is in
-        counts_one c m.nodes e (wrote (node_at m.nodes e.0) ls) ls lt refl (λ k. ap (λ a. only a k) (me lt), tt)
+        let lt = node_within m.nodes e.0 is in
+        counts_one c m.nodes e (wrote Nothing (node_at m.nodes e.0) ls) ls lt refl (λ k. ap (λ a. only a k) (me is), tt)
 
-counts_call : Laws → (m : MachineView) (c : Command) (k : ProcessCall) → call_of c ≡ Some k → (k.enclave.0 < length m.nodes → (node_at m.nodes k.enclave.0).view.me ≡ k.enclave)
+counts_call : Laws → (m : MachineView) (c : Command) (k : ProcessCall) → call_of c ≡ Some k → (has_node m.nodes k.enclave.0 ≡ true → (node_at m.nodes k.enclave.0).view.me ≡ k.enclave)
     → Counts c (lines_by m c) m.nodes (acted m c).nodes
-counts_call laws m c k is me = rw is (by (ltb k.enclave.0 (length m.nodes)) refl)
+counts_call laws m c k is me = rw is (by (has_node m.nodes k.enclave.0) refl)
   where
     e : Enclave
     e = k.enclave
@@ -242,23 +244,23 @@ counts_call laws m c k is me = rw is (by (ltb k.enclave.0 (length m.nodes)) refl
     refused : (j : ℕ) → refuses j (Some c) causes.NoEnclave ≡ false
     refused j = rw is refl
 
-    by : (a : Bool) → ltb e.0 (length m.nodes) ≡ a → Counts c (cond a ls (refusal causes.NoEnclave)) m.nodes (cond a (with_node m e.0 (wrote (node_at m.nodes e.0) ls)) m).nodes
+    by : (a : Bool) → has_node m.nodes e.0 ≡ a → Counts c (cond a ls (refusal causes.NoEnclave)) m.nodes (cond a (with_node m e.0 (wrote (Calls k) (node_at m.nodes e.0) ls)) m).nodes
     by false gone = counts_none c (refusal causes.NoEnclave) m.nodes (refused, tt)
     by true here =
-        let lt = ltb-true e.0 (length m.nodes) here in
-        let own : AreCallLines e ls = subst (λ (a : Enclave). AreCallLines a ls) (me lt) (laws.views.calls v k.pid k.call) in
-        counts_one c m.nodes e (wrote (node_at m.nodes e.0) ls) ls lt refl (by_call c k is ls own)
+        let lt = node_within m.nodes e.0 here in
+        let own : AreCallLines e ls = subst (λ (a : Enclave). AreCallLines a ls) (me here) (laws.views.calls v k.pid k.call) in
+        counts_one c m.nodes e (wrote (Calls k) (node_at m.nodes e.0) ls) ls lt refl (by_call c k is ls own)
 
 -- ---- deliveries
 
 -- The command at hand is the delivery's own, or a settle.
-module _ (laws : Laws) (hand : Command) (quiet : (e : ℕ) (cause : Cause) → refuses e (Some hand) cause ≡ false) (m : MachineView) (x y : Enclave) (count : ℕ) (me : y.0 < length m.nodes → (node_at m.nodes y.0).view.me ≡ y) where
-  -- nothing goes to an enclave that isn't born
-  unborn_hop : ltb y.0 (length m.nodes) ≡ false → hop_in m x y ≡ hops.NoEnclave
-  unborn_hop is = rw is refl
+module _ (laws : Laws) (hand : Command) (quiet : (e : ℕ) (cause : Cause) → refuses e (Some hand) cause ≡ false) (m : MachineView) (x y : Enclave) (count : ℕ) (me : has_node m.nodes y.0 ≡ true → (node_at m.nodes y.0).view.me ≡ y) where
+  -- nothing goes to an enclave that doesn't live
+  gone_hop : has_node m.nodes y.0 ≡ false → hop_in m x y ≡ hops.NoEnclave
+  gone_hop is = rw is refl
 
-  counts_over : y.0 < length m.nodes → (hop : Hop) → Counts hand (over_lines m x y count hop) m.nodes (over_machine m x y count hop).nodes
-  counts_over within hop = by (is_idle (link_of m.pairs hop))
+  counts_over : has_node m.nodes y.0 ≡ true → (hop : Hop) → Counts hand (over_lines m x y count hop) m.nodes (over_machine m x y count hop).nodes
+  counts_over has hop = by (is_idle (link_of m.pairs hop))
     where
       n : ℕ
       n = taken_by (link_of m.pairs hop) count
@@ -282,8 +284,8 @@ module _ (laws : Laws) (hand : Command) (quiet : (e : ℕ) (cause : Cause) → r
       busy = record {
         gain = λ e. share nobody took e + share (only y) ls e;
         adds = adds_append hand took ls (share nobody took) (share (only y) ls) (adds_by hand nobody took (λ e. refl, tt))
-            (adds_by hand (only y) ls (subst (λ e. AreBy hand (only e) ls) (me within) (by_records laws.views hand node.view x (fed node x piece).records)));
-        raises = λ e few. raises_one m.nodes y (after_feed node x piece) (words_in ls) within refl e (omega (arith, few)) ∙ omega arith;
+            (adds_by hand (only y) ls (subst (λ e. AreBy hand (only e) ls) (me has) (by_records laws.views hand node.view x (fed node x piece).records)));
+        raises = λ e few. raises_one m.nodes y (after_feed node x piece) (words_in ls) (node_within m.nodes y.0 has) refl e (omega (arith, few)) ∙ omega arith;
       }
 
       by : (b : Bool) → Counts hand (cond b (lines.Idle x y ∷ []) (lines.Took x y n ∷ ls)) m.nodes (cond b m w).nodes
@@ -291,7 +293,7 @@ module _ (laws : Laws) (hand : Command) (quiet : (e : ℕ) (cause : Cause) → r
       by false = busy
 
   counts_deliver : Counts hand (deliver_by m x y count (hop_in m x y)) m.nodes (after_deliver m x y count (hop_in m x y)).nodes
-  counts_deliver = by (ltb y.0 (length m.nodes)) refl
+  counts_deliver = by (has_node m.nodes y.0) refl
     where
       at : (hop : Hop) → Type 0
       at hop = Counts hand (deliver_by m x y count hop) m.nodes (after_deliver m x y count hop).nodes
@@ -299,15 +301,15 @@ module _ (laws : Laws) (hand : Command) (quiet : (e : ℕ) (cause : Cause) → r
       refused : (cause : Cause) → Counts hand (refusal cause) m.nodes m.nodes
       refused cause = counts_none hand (refusal cause) m.nodes (λ e. quiet e cause, tt)
 
-      over : y.0 < length m.nodes → (hop : Hop) → at hop
+      over : has_node m.nodes y.0 ≡ true → (hop : Hop) → at hop
       over within hops.NoEnclave = refused causes.NoEnclave
       over within hops.NoLink = refused causes.NoLink
       over within (hops.Up i) = counts_over within (hops.Up i)
       over within (hops.Down i) = counts_over within (hops.Down i)
 
-      by : (b : Bool) → ltb y.0 (length m.nodes) ≡ b → at (hop_in m x y)
-      by true is = over (ltb-true y.0 (length m.nodes) is) (hop_in m x y)
-      by false is = subst at (sym (unborn_hop is)) (refused causes.NoEnclave)
+      by : (b : Bool) → has_node m.nodes y.0 ≡ b → at (hop_in m x y)
+      by true is = over is (hop_in m x y)
+      by false is = subst at (sym (gone_hop is)) (refused causes.NoEnclave)
 
 -- ---- what is shown
 
@@ -316,7 +318,7 @@ counts_still c quiet ls nodes still = counts_none c ls nodes (by_still c quiet l
 
 counts_touch : (m : MachineView) (e : Enclave) (p : Pid) (addr : ℕ) (want : Want) → Counts (commands.Touch e p addr want) (lines_by m (commands.Touch e p addr want)) m.nodes m.nodes
 counts_touch m e p addr want = counts_still (commands.Touch e p addr want) (λ e cause. refl) (lines_by m (commands.Touch e p addr want)) m.nodes
-    (cond_case (ltb e.0 (length m.nodes)) (touch_by m e p addr want) (refusal causes.NoEnclave) AreStill (still_answer e p (touch_answer (node_at m.nodes e.0).view p addr want)) (tt, tt))
+    (cond_case (has_node m.nodes e.0) (touch_by m e p addr want) (refusal causes.NoEnclave) AreStill (still_answer e p (touch_answer (node_at m.nodes e.0).view p addr want)) (tt, tt))
 
 counts_show_link : (m : MachineView) (x y : Enclave) → Counts (commands.ShowLink x y) (lines_by m (commands.ShowLink x y)) m.nodes m.nodes
 counts_show_link m x y = counts_still (commands.ShowLink x y) (λ e cause. refl) (lines_by m (commands.ShowLink x y)) m.nodes (by (hop_in m x y))
@@ -331,7 +333,7 @@ counts_show : Laws → (m : MachineView) (c : Command) (s : NodeShow) → show_o
 counts_show laws m c s is = subst (λ (w : MachineView). Counts c (lines_by m c) m.nodes w.nodes) (sym (show_stays m c s is))
     (counts_still c (λ e cause. let none = show_no_call c s is in rw none refl) (lines_by m c) m.nodes
     (subst AreStill (sym (shown_lines m c s is))
-    (cond_case (ltb s.enclave.0 (length m.nodes)) (node_shown m s) (refusal causes.NoEnclave) AreStill
+    (cond_case (has_node m.nodes s.enclave.0) (node_shown m s) (refusal causes.NoEnclave) AreStill
     (still_shown (node_shown m s) (laws.views.shows (node_at m.nodes s.enclave.0).view s.show)) (tt, tt))))
 
 -- ---- any command

@@ -1,9 +1,9 @@
 -- A link and the decoder at its end, by what was sent over the channel and how much of it was taken.
-use Rattle.std.proofs.Common.{◌≡◌, ◌+◌, ◌-◌, ◌≤◌, ℕ, zero, suc, List, [], ◌∷◌, ◌++◌, length, map, take, drop, false, None, refl, sym, ap, ◌∙◌, subst, arith, append-nil, length-append, length-drop}
+use Rattle.std.proofs.Common.{◌≡◌, ◌+◌, ◌-◌, ◌≤◌, ℕ, zero, suc, List, [], ◌∷◌, ◌++◌, length, map, take, drop, Bool, false, None, refl, sym, ap, ◌∙◌, subst, arith, append-nil, length-append, length-drop}
 use Rattle.std.specs.List.{concat}
 use Rattle.std.proofs.Math.Seq.{take-append-add, drop-append-add}
-use Rattle.std.proofs.lemmas.List.{drop_at, drop-append-le, take-append-le, take-append-drop, length-take-le, map-append}
-use Rattle.byte_link.specs.Channel.{Channel, fresh, waiting_bytes, taken, sent}
+use Rattle.std.proofs.lemmas.List.{drop_at, drop-append-le, take-append-le, take-append-drop, take_all, length-take-le, map-append}
+use Rattle.byte_link.specs.Channel.{Channel, first_bytes, fresh, waiting_bytes, taken, sent}
 use Rattle.byte_link.specs.Passage.{left_of}
 use Rattle.xemem_language.specs.declared.record.Record.{Record}
 use Rattle.xemem_wire.specs.Spelling.{spelling_of, spellings_of, AreValid}
@@ -13,9 +13,9 @@ use Rattle.global_model.specs.Facts.{ChannelFact, no_channel, with_sent, with_ta
 use Rattle.global_model.specs.Channels.{whole_records, arriving, waiting_of}
 use Rattle.global_model.specs.Flow.{IsFlow}
 use Rattle.node_machine.specs.Links.{IsFlowing}
-use Rattle.node_world.specs.Links.{IsChannel, got_bytes, feed_of}
+use Rattle.node_world.specs.Links.{IsLinkOf, got_bytes, feed_of, rows_of}
 use Rattle.node_world.specs.Laws.{LinkLaws, WireLaws}
-use Rattle.node_world.proofs.Fronts.{spelling_of-length, IsFront, front_of, spellings-append, spellings-length, whole-after, whole-take, whole-length, whole-bytes, whole-more}
+use Rattle.node_world.proofs.Fronts.{spelling_of-length, IsFront, front_of, spellings-append, spellings-length, whole-after, whole-take, whole-bytes, whole-more}
 
 -- ---- what waits in a link
 
@@ -24,29 +24,43 @@ pub spellings-concat : (rs : List Record) → spellings_of rs ≡ concat (map sp
 spellings-concat [] = refl
 spellings-concat (r ∷ rs) = ap (λ rest. spelling_of r ++ rest) (spellings-concat rs)
 
--- what waits in the link are the bytes that were sent and not taken
-pub record IsLinkOf (fact : ChannelFact) (link : Channel) : Type 0 where
-  pub within : fact.taken ≤ length (spellings_of fact.sent)
-  pub waiting : waiting_bytes link ≡ waiting_of fact
-  pub pieces : link.pieces ≡ left_of (map spelling_of fact.sent) fact.taken
-  pub open_end : link.ended ≡ false
+-- where nothing is cut off, all rows are there
+all_rows : (rows : List (List ℕ)) (n : ℕ) → length (concat rows) ≤ n → first_bytes n rows ≡ rows
+all_rows [] n fits = refl
+all_rows (row ∷ rows) n fits =
+    let size = length-append row (concat rows) in
+    ap (λ first. first ∷ first_bytes (n - length row) rows) (take_all n row (omega (arith, size, fits))) ∙ ap (λ more. row ∷ more) (all_rows rows (n - length row) (omega (arith, size, fits)))
 
-pub fresh_link : IsLinkOf no_channel fresh
-fresh_link = record { within = omega arith; waiting = refl; pieces = refl; open_end = refl }
+pub uncut_rows : (f : ChannelFact) → f.cut ≡ 0 → rows_of f ≡ map spelling_of f.sent
+uncut_rows f uncut =
+    let all = ap length (spellings-concat f.sent) in
+    all_rows (map spelling_of f.sent) (length (spellings_of f.sent) - f.cut) (omega (arith, all, uncut))
 
-pub waiting-length : (f : ChannelFact) (link : Channel) → IsLinkOf f link → f.taken + length (waiting_bytes link) ≡ length (spellings_of f.sent)
-waiting-length f link h = let size = ap length h.waiting ∙ length-drop f.taken (spellings_of f.sent) in omega (arith, size, h.within)
+-- and what waits are the bytes that were sent and not taken
+pub uncut_waiting : (f : ChannelFact) → f.cut ≡ 0 → waiting_of f ≡ drop f.taken (spellings_of f.sent)
+uncut_waiting f uncut = ap (drop f.taken) (take_all (length (spellings_of f.sent) - f.cut) (spellings_of f.sent) (omega (arith, uncut)))
 
-pub link_sent : LinkLaws → (f : ChannelFact) (link : Channel) (r : Record) → IsLinkOf f link → IsLinkOf (with_sent r f) (sent link (spelling_of r))
-link_sent laws f link r h =
+pub fresh_link : IsLinkOf false no_channel fresh
+fresh_link = record { within = omega arith; waiting = refl; pieces = refl; ended = refl; end_taken = refl; uncut = refl }
+
+pub waiting-length : (dead : Bool) (f : ChannelFact) (link : Channel) → IsLinkOf dead f link → f.taken + length (waiting_bytes link) ≡ length (spellings_of f.sent)
+waiting-length dead f link h = let size = ap length (h.waiting ∙ uncut_waiting f h.uncut) ∙ length-drop f.taken (spellings_of f.sent) in omega (arith, size, h.within)
+
+pub link_sent : LinkLaws → (dead : Bool) (f : ChannelFact) (link : Channel) (r : Record) → IsLinkOf dead f link → IsLinkOf dead (with_sent r f) (sent link (spelling_of r))
+link_sent laws dead f link r h =
     let one : spellings_of (r ∷ []) ≡ spelling_of r = append-nil (spelling_of r) in
     let all : spellings_of (f.sent ++ r ∷ []) ≡ spellings_of f.sent ++ spelling_of r = spellings-append f.sent (r ∷ []) ∙ ap (λ xs. spellings_of f.sent ++ xs) one in
+    let few : f.taken ≤ length (spellings_of f.sent) = omega (arith, h.within) in
+    let rest : drop f.taken (spellings_of (f.sent ++ r ∷ [])) ≡ drop f.taken (spellings_of f.sent) ++ spelling_of r = ap (drop f.taken) all ∙ drop-append-le f.taken (spellings_of f.sent) (spelling_of r) few in
     record {
       within = let size = ap length all ∙ length-append (spellings_of f.sent) (spelling_of r) in omega (arith, size, h.within);
-      waiting = laws.send link (spelling_of r) ∙ ap (λ xs. xs ++ spelling_of r) h.waiting ∙ sym (ap (drop f.taken) all ∙ drop-append-le f.taken (spellings_of f.sent) (spelling_of r) h.within);
-      pieces = laws.sent link (map spelling_of f.sent) f.taken (spelling_of r) (let same = ap length (spellings-concat f.sent) in omega (arith, same, h.within)) (omega (arith, spelling_of-length r)) h.pieces
-          ∙ ap (λ rows. left_of rows f.taken) (sym (map-append spelling_of f.sent (r ∷ [])));
-      open_end = h.open_end;
+      waiting = laws.send link (spelling_of r) ∙ ap (λ xs. xs ++ spelling_of r) (h.waiting ∙ uncut_waiting f h.uncut) ∙ sym (uncut_waiting (with_sent r f) h.uncut ∙ rest);
+      pieces = laws.sent link (map spelling_of f.sent) f.taken (spelling_of r) (let same = ap length (spellings-concat f.sent) in omega (arith, same, few)) (omega (arith, spelling_of-length r))
+          (h.pieces ∙ ap (λ rows. left_of rows f.taken) (uncut_rows f h.uncut))
+          ∙ ap (λ rows. left_of rows f.taken) (sym (uncut_rows (with_sent r f) h.uncut ∙ map-append spelling_of f.sent (r ∷ [])));
+      ended = h.ended;
+      end_taken = h.end_taken;
+      uncut = h.uncut;
     }
 
 -- what is behind n more bytes
@@ -56,66 +70,43 @@ drop-more (suc t) zero [] = let one : suc t + 0 ≡ suc t = omega arith in sym (
 drop-more (suc t) (suc n) [] = let one : suc t + suc n ≡ suc (t + suc n) = omega arith in sym (ap (λ k. drop k []) one)
 drop-more (suc t) n (x ∷ xs) = let one : suc t + n ≡ suc (t + n) = omega arith in drop-more t n xs ∙ sym (ap (λ k. drop k (x ∷ xs)) one)
 
-pub link_taken : LinkLaws → (f : ChannelFact) (link : Channel) (n : ℕ) → n ≤ length (waiting_bytes link) → IsLinkOf f link → IsLinkOf (with_taken n f) (taken link n)
-link_taken laws f link n fits h = record {
-  within = let size = waiting-length f link h in omega (arith, size, fits);
-  waiting = laws.take link n ∙ ap (drop n) h.waiting ∙ drop-more f.taken n (spellings_of f.sent);
-  pieces = laws.taken link (map spelling_of f.sent) f.taken n h.pieces;
-  open_end = h.open_end;
+pub link_taken : LinkLaws → (dead : Bool) (f : ChannelFact) (link : Channel) (n : ℕ) → n ≤ length (waiting_bytes link) → IsLinkOf dead f link → IsLinkOf dead (with_taken n f) (taken link n)
+link_taken laws dead f link n fits h = record {
+  within = let size = waiting-length dead f link h in omega (arith, size, fits, h.uncut);
+  waiting = laws.take link n ∙ ap (drop n) h.waiting ∙ drop-more f.taken n (take (length (spellings_of f.sent) - f.cut) (spellings_of f.sent));
+  pieces = laws.taken link (rows_of f) f.taken n h.pieces;
+  ended = h.ended;
+  end_taken = h.end_taken;
+  uncut = h.uncut;
 }
 
--- ---- the channel
-
-pub link_of_channel : (f : ChannelFact) (link : Channel) (d : Decoding) → IsChannel f link d → IsLinkOf f link
-link_of_channel f link d h =
-    let all : spellings_of f.sent ≡ spellings_of h.done ++ spellings_of h.coming = ap spellings_of h.sent ∙ spellings-append h.done h.coming in
-    let size = ap length all ∙ length-append (spellings_of h.done) (spellings_of h.coming) in
-    let parts = sym (length-append d.rest (waiting_bytes link)) ∙ ap length h.bytes in
-    record {
-      within = omega (arith, size, parts, h.taken);
-      waiting = sym (
-          ap (λ n. drop n (spellings_of f.sent)) h.taken ∙ ap (drop (length (spellings_of h.done) + length d.rest)) all
-          ∙ drop-append-add (spellings_of h.done) (spellings_of h.coming) (length d.rest) ∙ ap (drop (length d.rest)) (sym h.bytes) ∙ drop_at d.rest (waiting_bytes link) (length d.rest) refl
-          );
-      pieces = h.pieces;
-      open_end = h.open_end;
-    }
+-- ---- what flows
 
 later-valid : (n : ℕ) (rs : List Record) → AreValid rs → AreValid (drop n rs)
 later-valid zero rs valid = valid
 later-valid (suc n) [] valid = tt
 later-valid (suc n) (r ∷ rs) valid = later-valid n rs valid.1
 
-pub channel_of : (f : ChannelFact) (link : Channel) → IsFlow f → IsLinkOf f link → IsChannel f link (feed_of f)
-channel_of f link flow h =
+-- what isn't decoded yet are the records that weren't got
+pub flowing_of : (dead : Bool) (f : ChannelFact) (link : Channel) → IsFlow f → IsLinkOf dead f link → IsFlowing link (feed_of f)
+flowing_of dead f link flow h =
     let S = spellings_of f.sent in
     let D = spellings_of (take f.got f.sent) in
     let C = spellings_of (drop f.got f.sent) in
     let whole : take f.got f.sent ++ drop f.got f.sent ≡ f.sent = take-append-drop f.got f.sent in
     let all : S ≡ D ++ C = ap spellings_of (sym whole) ∙ spellings-append (take f.got f.sent) (drop f.got f.sent) in
     let few : got_bytes f ≤ f.taken = whole-bytes f.got f.taken f.sent flow.got in
-    let short : length (take f.taken S) ≡ f.taken = length-take-le f.taken S flow.taken in
-    let rest : length (drop (got_bytes f) (take f.taken S)) ≡ f.taken - got_bytes f = length-drop (got_bytes f) (take f.taken S) ∙ ap (λ n. n - got_bytes f) short in
+    let short : length (take f.taken S) ≡ f.taken = length-take-le f.taken S (omega (arith, flow.taken)) in
     let joined : drop (got_bytes f) (take f.taken S) ++ drop f.taken S ≡ C =
     sym (drop-append-le (got_bytes f) (take f.taken S) (drop f.taken S) (omega (arith, short, few))) ∙ ap (drop (got_bytes f)) (take-append-drop f.taken S ∙ all) ∙ drop_at D C (got_bytes f) refl in
-    let most = whole-length f.taken f.sent in
     record {
-      done = take f.got f.sent;
       coming = drop f.got f.sent;
-      sent = sym whole;
-      got = sym (length-take-le f.got f.sent (omega (arith, most, flow.got)));
-      taken = omega (arith, rest, few);
+      off = [];
       valid = later-valid f.got f.sent flow.valid;
-      bytes = ap (λ xs. (feed_of f).rest ++ xs) h.waiting ∙ joined;
-      before = refl;
+      bytes = append-nil ((feed_of f).rest ++ waiting_bytes link) ∙ ap (λ xs. (feed_of f).rest ++ xs) (h.waiting ∙ uncut_waiting f h.uncut) ∙ joined;
       fine = refl;
       given = refl;
-      open_end = h.open_end;
-      pieces = h.pieces;
     }
-
-pub flowing_of : (f : ChannelFact) (link : Channel) (d : Decoding) → IsChannel f link d → IsFlowing link d
-flowing_of f link d h = record { coming = h.coming; valid = h.valid; bytes = h.bytes; fine = h.fine; given = h.given; open_end = h.open_end }
 
 -- ---- the decoder
 

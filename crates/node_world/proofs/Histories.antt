@@ -6,6 +6,7 @@ use Rattle.xemem_language.specs.declared.command.Command.TheVariants as commands
 use Rattle.xemem_language.specs.declared.line.Line.{Line}
 use Rattle.xemem_language.specs.declared.line.Line.TheVariants as lines
 use Rattle.xemem_language.specs.Ranges.{IsInRange}
+use Rattle.enclave_rules.specs.Hand.{Nothing}
 use Rattle.global_model.specs.Place.{may_stand, IsPlacedAfter, IsPlaced}
 use Rattle.xemem_language.specs.Spelling.{words_in}
 use Rattle.global_model.specs.Facts.{facts_after, after_line}
@@ -17,7 +18,8 @@ use Rattle.node_machine.specs.Links.{sent_in}
 use Rattle.node_machine.specs.Machine.{MachineView, lines_by, after_command}
 use Rattle.node_machine.specs.Ready.{IsReady, IsNoSettle, CanStep}
 use Rattle.node_world.specs.Shown.{IsShown}
-use Rattle.node_world.specs.World.{most_words, IsHistoryOf, IsAlong, IsCut, IsStopped}
+use Rattle.node_world.specs.World.{most_words, holding, IsHistoryOf, IsAlong, IsCut, IsStopped}
+use Rattle.node_world.proofs.Stills.{shown_hand}
 use Rattle.node_world.proofs.Steps.{stepped, ready, can_step, sent_valid}
 use Rattle.node_world.proofs.Counts.{AreCounted, counted_line, counted_after}
 use Rattle.node_world.proofs.Stops.{stopped_more, stopped_behind}
@@ -104,15 +106,16 @@ module _ (laws : Laws) (m : MachineView) (journal : List Line) (h : IsHistoryOf 
     -- ---- a settle
 
     module _ (w : MachineView) (same : w ≡ m) (most : ℕ) (settles : c ≡ commands.Settle most) where
-      same_facts : facts_after begun ≡ facts_after journal
-      same_facts = ap facts_after out ∙ laws.facts journal (lines.Do c ∷ []) ∙ ap (λ c. after_line (facts_after journal) (lines.Do c)) settles
+      facts_begun : facts_after begun ≡ after_line (facts_after journal) (lines.Do (commands.Settle most))
+      facts_begun = ap facts_after out ∙ laws.facts journal (lines.Do c ∷ []) ∙ ap (λ c. after_line (facts_after journal) (lines.Do c)) settles
 
       pub along_begun : IsAlong w begun
       along_begun = subst (λ w. IsAlong w begun) (sym same) (record {
         played = do_commands journal;
         placed = h.placed;
-        facts = same_facts ∙ ap facts_after h.told;
-        shown = subst (λ F. IsShown F m) (sym same_facts) h.shown;
+        hand = Nothing;
+        facts = facts_begun ∙ ap (λ j. holding Nothing (facts_after j)) h.told;
+        shown = subst (λ F. IsShown F m) (sym facts_begun) (shown_hand (facts_after journal) Nothing m h.shown);
         appended = counted_begun;
       })
 
@@ -120,7 +123,7 @@ module _ (laws : Laws) (m : MachineView) (journal : List Line) (h : IsHistoryOf 
       hand_begun = at_hand ∙ ap Some settles
 
       pub settle_lines : settle_from most 0 (facts_after begun) ≡ command_lines (facts_after journal) c
-      settle_lines = ap (settle_from most 0) same_facts ∙ ap (command_lines (facts_after journal)) (sym settles)
+      settle_lines = ap (settle_from most 0) facts_begun ∙ ap (command_lines (facts_after journal)) (sym settles)
 
       pub history_settled : (v : MachineView) (after : List Line) → after ≡ begun ++ settle_from most 0 (facts_after begun) → IsAlong v after → IsHistoryOf v after
       history_settled v after grown along = history_of v after (whole_journal after _ settle_lines grown) along.shown along.appended

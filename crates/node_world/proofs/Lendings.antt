@@ -1,26 +1,26 @@
 -- What the world lends: nodes that are seen as views, and links whose bytes wait by the facts.
-use Rattle.std.proofs.Common.{◌≡◌, ◌<◌, ℕ, List, length, Bool, true, false, eqb, ltb, not, ◌&&◌, ◌||◌, [], Option, None, Some, Bor, refl, sym, ap, ◌∙◌, subst, arith}
-use Rattle.std.specs.Prelude.{option_copied, IfSome, slice_get, is_some, ◌↔◌}
-use Rattle.std.proofs.lemmas.Bool.{and_parts, ltb-true, ltb-false, lt-ltb, eqb-false}
-use Rattle.std.proofs.lemmas.Option.{slice_get-get_or, slice_get_within, slice_get_past, get_or_from_slice_get}
+use Rattle.std.proofs.Common.{◌≡◌, ◌<◌, ℕ, List, Bool, true, false, eqb, not, ◌&&◌, ◌||◌, [], Option, None, Some, Bor, refl, sym, ap, ◌∙◌, subst, arith}
+use Rattle.std.specs.Prelude.{option_copied, IfSome, is_some, ◌↔◌}
+use Rattle.std.proofs.lemmas.Bool.{and_parts, ltb-true, lt-ltb, eqb-false}
+use Rattle.std.proofs.lemmas.Option.{get_or_from_slice_get}
 use Rattle.xm_num.specs.declared.Enclave.{Enclave}
 use Rattle.byte_link.specs.Channel.{Channel, waiting_bytes}
 use Rattle.xemem_language.specs.declared.line.Line.{Line}
-use Rattle.global_model.specs.Facts.{Facts, EnclaveFact, facts_after, is_living_enclave, has_parent}
+use Rattle.global_model.specs.Facts.{Facts, EnclaveFact, facts_after, is_living_enclave, has_parent, lives_at}
 use Rattle.global_model.specs.Channels.{is_child_of, is_neighbour, waiting_bytes as waiting_in}
 use Rattle.global_model.specs.Flow.{IsFlowing}
 use Rattle.global_model.specs.Refusals.{link_conditions, first_cause}
 use Rattle.enclave_node.specs.Nodes.{NodeView, unborn_node}
-use Rattle.enclave_rules.specs.View.{host}
+use Rattle.enclave_rules.specs.Core.{host}
 use Rattle.node_machine.specs.declared.pair.Hop.{Hop}
 use Rattle.node_machine.specs.declared.pair.Hop.TheVariants as hops
 use Rattle.node_world.specs.Appended.{words_by}
 use Rattle.node_world.specs.Laws.{Laws}
-use Rattle.node_machine.specs.Machine.{MachineView, node_at, pair_at, hop_in, link_by, link_between}
+use Rattle.node_machine.specs.Machine.{MachineView, has_node, node_at, node_of, pair_at, hop_in, link_by, link_between}
 use Rattle.node_world.specs.Shown.{IsNodeOf, Feeds, IsFedBy, IsShown}
 use Rattle.node_world.specs.World.{IsHistoryOf}
 use Rattle.node_world.proofs.Flows.{feed_is}
-use Rattle.node_world.proofs.Neighbours.{cause_of, refused_is, over_up, over_down}
+use Rattle.node_world.proofs.Neighbours.{cause_of, refused_is, over_up, over_down, over_waits}
 use Rattle.global_model.specs.Journals.{do_commands, onto}
 
 -- ---- what is lent
@@ -69,7 +69,7 @@ near_born G flowing x y is = by (is_child_of G x y) refl is
 near_fine : (G : Facts) → IsFlowing G → (x y : Enclave) → is_neighbour G x.0 y.0 ≡ true → first_cause (link_conditions G x y) ≡ None
 near_fine G flowing x y near =
     let born = near_born G flowing x.0 y.0 near in
-    let living = (flowing.tree.enclaves y.0).living ∙ lt-ltb y.0 G.born born.1 in
+    let living = flowing.tree.all_live y.0 born.1 in
     let known = (flowing.tree.enclaves x.0).known ∙ lt-ltb x.0 G.born born.0 in
     rw (living, known, near) refl
 
@@ -89,8 +89,8 @@ link_waits laws G m flowing h x y link is = by (hop_in m x y) refl is
     by : (hop : Hop) → hop_in m x y ≡ hop → link_by m.pairs hop ≡ Some link → waiting_bytes link ≡ waiting_in G x.0 y.0
     by hops.NoEnclave is none = cc
     by hops.NoLink is none = cc
-    by (hops.Up i) is some = let same : (pair_at m.pairs i).up ≡ link = cc in ap waiting_bytes (sym same) ∙ (over_up G m flowing h laws x y i is).link.waiting
-    by (hops.Down i) is some = let same : (pair_at m.pairs i).down ≡ link = cc in ap waiting_bytes (sym same) ∙ (over_down G m flowing h laws x y i is).link.waiting
+    by (hops.Up i) is some = let same : (pair_at m.pairs i).up ≡ link = cc in ap waiting_bytes (sym same) ∙ sym (over_waits G m x y (hops.Up i) (over_up G m flowing h laws x y i is))
+    by (hops.Down i) is some = let same : (pair_at m.pairs i).down ≡ link = cc in ap waiting_bytes (sym same) ∙ sym (over_waits G m x y (hops.Down i) (over_down G m flowing h laws x y i is))
 
 pub link_none : (G : Facts) (m : MachineView) → IsFlowing G → IsShown G m → (x y : Enclave) → link_between m x y ≡ None → is_neighbour G x.0 y.0 ≡ false
 link_none G m flowing h x y none = by (is_neighbour G x.0 y.0) refl (hop_in m x y) refl none
@@ -113,20 +113,20 @@ none_link G m flowing h x y far = by (hop_in m x y) refl
 
 -- ---- nodes
 
--- the node at that place is the enclave's, where it was born
-node_found : (nodes : List NodeView) (e : ℕ) (node : NodeView) → slice_get nodes e ≡ Some node → (e < length nodes) × (node_at nodes e ≡ node)
-node_found nodes e node is = (slice_get_within nodes e node is, get_or_from_slice_get nodes e node (unborn_node 0 host []) is)
+-- the node of that number is the enclave's, which lives
+node_found : (nodes : List NodeView) (e : ℕ) (node : NodeView) → node_of nodes e ≡ Some node → (has_node nodes e ≡ true) × (node_at nodes e ≡ node)
+node_found nodes e node is = (ap is_some is, get_or_from_slice_get nodes e node (unborn_node 0 host []) is)
 
-pub lent_node : (G : Facts) (m : MachineView) → IsShown G m → (e : ℕ) (node : NodeView) → slice_get m.nodes e ≡ Some node → IsNodeOf G e node
+pub lent_node : (G : Facts) (m : MachineView) → IsShown G m → (e : ℕ) (node : NodeView) → node_of m.nodes e ≡ Some node → IsNodeOf G e node
 lent_node G m h e node is =
     let found = node_found m.nodes e node is in
-    subst (IsNodeOf G e) found.1 (h.nodes e (let born = h.born in let lt = found.0 in omega (arith, born, lt)))
+    subst (IsNodeOf G e) found.1 (h.nodes e (sym (h.living e) ∙ found.0))
 
 -- and its count is the one of its enclave
-pub lent_appended : (m : MachineView) (journal : List Line) → IsHistoryOf m journal → (e : ℕ) (node : NodeView) → slice_get m.nodes e ≡ Some node → node.appended ≡ words_by e (onto journal [])
+pub lent_appended : (m : MachineView) (journal : List Line) → IsHistoryOf m journal → (e : ℕ) (node : NodeView) → node_of m.nodes e ≡ Some node → node.appended ≡ words_by e (onto journal [])
 lent_appended m journal h e node is = ap (λ n. n.appended) (sym (node_found m.nodes e node is).1) ∙ h.appended e
 
-pub lent_feeds : Laws → (G : Facts) (m : MachineView) → IsFlowing G → IsShown G m → (e : ℕ) (node : NodeView) → slice_get m.nodes e ≡ Some node → IsFedBy G e node
+pub lent_feeds : Laws → (G : Facts) (m : MachineView) → IsFlowing G → IsShown G m → (e : ℕ) (node : NodeView) → node_of m.nodes e ≡ Some node → IsFedBy G e node
 lent_feeds laws G m flowing h e node is x near = subst (Feeds G x e) (node_found m.nodes e node is).1 (by (hop_in m from to) refl)
   where
     from : Enclave
@@ -142,19 +142,9 @@ lent_feeds laws G m flowing h e node is x near = subst (Feeds G x e) (node_found
     by (hops.Down i) is = (over_down G m flowing h laws from to i is).feed ∙ ap Some (sym (feed_is (G.channel x e) (flowing.flows x e) (flowing.arrived x e)))
 
 -- no node is lent exactly where the enclave doesn't live
-pub no_node : (G : Facts) (m : MachineView) → IsFlowing G → IsShown G m → (e : ℕ) → (slice_get m.nodes e ≡ None) ↔ (is_living_enclave (G.enclave e) ≡ false)
-no_node G m flowing h e = (λ none. (flowing.tree.enclaves e).living ∙ gone none, λ dead. past (sym (flowing.tree.enclaves e).living ∙ dead))
+pub no_node : (G : Facts) (m : MachineView) → IsShown G m → (e : ℕ) → (node_of m.nodes e ≡ None) ↔ (lives_at G e ≡ false)
+no_node G m h e = (λ none. sym (h.living e) ∙ ap is_some none, λ dead. by (node_of m.nodes e) refl (h.living e ∙ dead))
   where
-    gone : slice_get m.nodes e ≡ None → ltb e G.born ≡ false
-    gone none = by (ltb e G.born) refl
-      where
-        by : (b : Bool) → ltb e G.born ≡ b → b ≡ false
-        by false is = refl
-        by true is =
-            let lt = ltb-true e G.born is in
-            let born = h.born in
-            let found : slice_get m.nodes e ≡ Some (node_at m.nodes e) = slice_get-get_or m.nodes e (unborn_node 0 host []) (omega (arith, lt, born)) in
-            cc
-
-    past : ltb e G.born ≡ false → slice_get m.nodes e ≡ None
-    past is = let le = ltb-false e G.born is in let born = h.born in slice_get_past m.nodes e (omega (arith, le, born))
+    by : (o : Option NodeView) → node_of m.nodes e ≡ o → is_some o ≡ false → node_of m.nodes e ≡ None
+    by None is gone = is
+    by (Some node) is gone = cc

@@ -1,10 +1,14 @@
 -- Choices, and elements of lists after a change.
 use Rattle.std.proofs.Common.{◌≡◌, ◌<◌, ℕ, zero, suc, List, [], ◌∷◌, ◌++◌, length, Bool, true, false, cond, eqb, ltb, refl, sym, ap, ◌∙◌, subst, arith, length-append}
-use Rattle.std.specs.Prelude.{slice_set, slice_index_or}
+use Rattle.std.specs.Prelude.{Option, None, Some, is_some, slice_get, slice_set, slice_index_or}
 use Rattle.std.proofs.lemmas.Bool.{eqb-true, eqb-false, ltb-true, ltb-false}
 use Rattle.std.proofs.lemmas.List.{get_or-set_same, get_or-set_other}
+use Rattle.std.proofs.lemmas.Option.{slice_get_within}
 use Rattle.std.proofs.Math.ListN.{get_or-append}
 use Rattle.std.proofs.Math.Seq.{get_or-append_seam}
+use Rattle.enclave_rules.specs.Core.{host}
+use Rattle.enclave_node.specs.Nodes.{NodeView, unborn_node}
+use Rattle.node_machine.specs.Machine.{has_node, node_at}
 
 -- what holds of both holds of the one that is chosen
 pub cond_case : {X : Type 0} (b : Bool) (x y : X) (P : X → Type 0) → P x → P y → P (cond b x y)
@@ -42,3 +46,36 @@ push_case xs i a d P within old new = by (ltb i (length xs)) refl
         let size = length-append xs (a ∷ []) in
         let last : i ≡ length xs = omega (arith, within, le, size) in
         subst P (sym (ap (λ k. slice_index_or (xs ++ a ∷ []) k d) last ∙ get_or-append_seam xs a [] d)) (new last)
+
+-- ---- nodes by number
+
+-- who has a node was born
+pub node_within : (nodes : List NodeView) (e : ℕ) → has_node nodes e ≡ true → e < length nodes
+node_within nodes e has = by (slice_get nodes e) refl has
+  where
+    by : (o : Option NodeView) → slice_get nodes e ≡ o → is_some o ≡ true → e < length nodes
+    by None is has = cc
+    by (Some node) is has = slice_get_within nodes e node is
+
+-- and what is read of an enclave without one is nothing
+pub node_gone : (nodes : List NodeView) (e : ℕ) → has_node nodes e ≡ false → node_at nodes e ≡ unborn_node 0 host []
+node_gone [] e gone = refl
+node_gone (node ∷ nodes) zero gone = cc
+node_gone (node ∷ nodes) (suc e) gone = node_gone nodes e gone
+
+pub has-set : (nodes : List NodeView) (i e : ℕ) (node : NodeView) → has_node (slice_set nodes i node) e ≡ has_node nodes e
+has-set [] i e node = refl
+has-set (n ∷ nodes) zero zero node = refl
+has-set (n ∷ nodes) zero (suc e) node = refl
+has-set (n ∷ nodes) (suc i) zero node = refl
+has-set (n ∷ nodes) (suc i) (suc e) node = has-set nodes i e node
+
+pub has-last : (nodes : List NodeView) (node : NodeView) → has_node (nodes ++ node ∷ []) (length nodes) ≡ true
+has-last [] node = refl
+has-last (n ∷ nodes) node = has-last nodes node
+
+pub has-before : (nodes : List NodeView) (node : NodeView) (e : ℕ) → (e ≡ length nodes → ⊥) → has_node (nodes ++ node ∷ []) e ≡ has_node nodes e
+has-before [] node zero other = absurd (other refl)
+has-before [] node (suc e) other = refl
+has-before (n ∷ nodes) node zero other = refl
+has-before (n ∷ nodes) node (suc e) other = has-before nodes node e (λ is. other (ap suc is))

@@ -1,5 +1,5 @@
 -- The machine's channels go between the neighbours that the facts have, and a link is shown as by the facts.
-use Rattle.std.proofs.Common.{◌≡◌, ◌+◌, ◌-◌, ◌<◌, ℕ, List, [], ◌∷◌, length, Bool, true, false, eqb, ltb, leb, not, ◌&&◌, ◌||◌, Option, None, Some, refl, sym, ap, ◌∙◌, subst, arith}
+use Rattle.std.proofs.Common.{◌≡◌, ◌+◌, ◌-◌, ◌<◌, ℕ, List, [], ◌∷◌, length, Bool, true, false, cond, eqb, ltb, leb, not, ◌&&◌, ◌||◌, Option, None, Some, refl, sym, ap, ◌∙◌, subst, arith}
 use Rattle.std.specs.Prelude.{if◌then◌else◌, slice_get, is_some}
 use Rattle.std.proofs.lemmas.Bool.{leb-true, leb-false, ltb-true, lt-ltb, ne_eqb, and_parts}
 use Rattle.std.proofs.lemmas.Option.{slice_get-get_or}
@@ -8,8 +8,8 @@ use Rattle.xm_num.specs.declared.Cause.{Cause}
 use Rattle.xm_num.specs.declared.Cause.TheVariants as causes
 use Rattle.xemem_language.specs.declared.command.Command.TheVariants as commands
 use Rattle.xemem_language.specs.declared.line.Line.{Line}
-use Rattle.global_model.specs.Facts.{Facts, EnclaveFact, has_parent, fact_of}
-use Rattle.global_model.specs.Channels.{is_child_of, is_neighbour}
+use Rattle.global_model.specs.Facts.{Facts, EnclaveFact, has_parent, fact_of, lives_at}
+use Rattle.global_model.specs.Channels.{is_child_of, is_neighbour, waiting_bytes as waiting_in, waiting_of}
 use Rattle.global_model.specs.Flow.{IsFlowing}
 use Rattle.global_model.specs.Refusals.{when, link_conditions, first_cause}
 use Rattle.enclave_rules.specs.Steps.{refusal, bytes_lines}
@@ -17,9 +17,10 @@ use Rattle.global_model.specs.Due.{command_lines, link_lines}
 use Rattle.byte_link.specs.Channel.{waiting_bytes}
 use Rattle.node_machine.specs.declared.pair.Hop.{Hop}
 use Rattle.node_machine.specs.declared.pair.Hop.TheVariants as hops
-use Rattle.node_machine.specs.Machine.{MachineView, no_pair, pair_at, is_parent, hop_in, link_of, lines_by, shown_by}
+use Rattle.node_machine.specs.Machine.{MachineView, are_known, has_node, no_pair, pair_at, is_parent, hop_in, hop_of, link_of, lines_by, shown_by}
 use Rattle.node_world.specs.Shown.{IsShown}
-use Rattle.node_world.proofs.Flows.{IsLinkOf}
+use Rattle.node_world.proofs.Lists.{node_within}
+use Rattle.node_world.specs.Links.{IsLinkOf}
 use Rattle.node_world.proofs.Acted.{HasFeed, linked_of, fed_of}
 use Rattle.node_world.proofs.Stills.{IsStep, IsTied, AreStill, tied_still, still_bytes}
 use Rattle.node_world.specs.Laws.{Laws}
@@ -41,9 +42,13 @@ tests_are true false false m n = refl
 pub record IsOver (G : Facts) (m : MachineView) (x y : Enclave) (hop : Hop) : Type 0 where
   pub hop_is : hop_in m x y ≡ hop
   pub mine : x.0 < G.born
-  pub yours : y.0 < G.born
-  pub link : IsLinkOf (G.channel x.0 y.0) (link_of m.pairs hop)
+  pub yours : lives_at G y.0 ≡ true
+  pub link : IsLinkOf (not (lives_at G x.0)) (G.channel x.0 y.0) (link_of m.pairs hop)
   pub feed : HasFeed G.channel m.nodes x.0 y.0
+
+-- what waits in its link waits by the facts
+pub over_waits : (G : Facts) (m : MachineView) (x y : Enclave) (hop : Hop) → IsOver G m x y hop → waiting_in G x.0 y.0 ≡ waiting_bytes (link_of m.pairs hop)
+over_waits G m x y hop k = ap (λ b. cond b (waiting_of (G.channel x.0 y.0)) []) k.yours ∙ sym k.link.waiting
 
 module _ (G : Facts) (m : MachineView) (flowing : IsFlowing G) (h : IsShown G m) where
   pub child_same : (c p : ℕ) → c < G.born → is_parent m.pairs c p ≡ is_child_of G c p
@@ -67,9 +72,9 @@ module _ (G : Facts) (m : MachineView) (flowing : IsFlowing G) (h : IsShown G m)
   pub refused_is : (x y : Enclave) → first_cause (link_conditions G x y) ≡ cause_of (hop_in m x y)
   refused_is x y =
       let count = h.born in
-      let living = (flowing.tree.enclaves y.0).living in
       let known = (flowing.tree.enclaves x.0).known in
-      rw (living, known, count) (by (ltb y.0 G.born && ltb x.0 G.born) refl)
+      let ends : are_known m.nodes x y ≡ (lives_at G y.0 && ltb x.0 G.born) = ap (λ b. b && ltb x.0 (length m.nodes)) (h.living y.0) ∙ ap (λ n. lives_at G y.0 && ltb x.0 n) count in
+      rw (ends, known) (by (lives_at G y.0 && ltb x.0 G.born) refl)
     where
       conditions : Bool → Option Cause
       conditions a = first_cause (when causes.NoEnclave (not a) ∷ when causes.NoLink (not (is_neighbour G x.0 y.0)) ∷ [])
@@ -77,17 +82,27 @@ module _ (G : Facts) (m : MachineView) (flowing : IsFlowing G) (h : IsShown G m)
       hop : Bool → Hop
       hop a = if not a then hops.NoEnclave else (if is_parent m.pairs x.0 y.0 then hops.Up (x.0 - 1) else (if is_parent m.pairs y.0 x.0 then hops.Down (y.0 - 1) else hops.NoLink))
 
-      by : (a : Bool) → (ltb y.0 G.born && ltb x.0 G.born) ≡ a → conditions a ≡ cause_of (hop a)
+      by : (a : Bool) → (lives_at G y.0 && ltb x.0 G.born) ≡ a → conditions a ≡ cause_of (hop a)
       by false is = refl
       by true is =
-          let both = and_parts (ltb y.0 G.born) (ltb x.0 G.born) is in
+          let both = and_parts (lives_at G y.0) (ltb x.0 G.born) is in
+          let count = h.born in let within = node_within m.nodes y.0 (h.living y.0 ∙ both.0) in
           let up = child_same x.0 y.0 (ltb-true x.0 G.born both.1) in
-          let down = child_same y.0 x.0 (ltb-true y.0 G.born both.0) in
+          let down = child_same y.0 x.0 (omega (arith, count, within)) in
           rw (← up, ← down) (tests_are true (is_parent m.pairs x.0 y.0) (is_parent m.pairs y.0 x.0) (x.0 - 1) (y.0 - 1))
+
+  -- the receiver of a channel lives
+  to_living : (x y : Enclave) → (hop_in m x y ≡ hops.NoEnclave → ⊥) → lives_at G y.0 ≡ true
+  to_living x y some = sym (h.living y.0) ∙ (and_parts (has_node m.nodes y.0) _ (by (are_known m.nodes x y) some)).0
+    where
+      by : (known : Bool) → (hop_of m.pairs known x y ≡ hops.NoEnclave → ⊥) → known ≡ true
+      by true some = refl
+      by false some = absurd (some refl)
 
   pub over_up : Laws → (x y : Enclave) (i : ℕ) → hop_in m x y ≡ hops.Up i → IsOver G m x y (hops.Up i)
   over_up laws x y i is =
-      let k = laws.hops.up m.pairs (length m.nodes) x y i is in
+      let k = laws.hops.up m.pairs (are_known m.nodes x y) x y i is in
+      let lives = to_living x y (λ none. let no : hops.Up i ≡ hops.NoEnclave = sym is ∙ none in cc) in
       let child = k.child_is in let parent = k.parent_is in
       let linked = linked_of G m flowing h i k.within in
       let fed = fed_of G m flowing h i k.within in
@@ -95,14 +110,15 @@ module _ (G : Facts) (m : MachineView) (flowing : IsFlowing G) (h : IsShown G m)
       record {
         hop_is = is;
         mine = omega (arith, child, pairs, lt);
-        yours = omega (arith, parent, pairs, lt, low);
-        link = subst (λ a. IsLinkOf (G.channel a y.0) (pair_at m.pairs i).up) (sym child) (subst (λ b. IsLinkOf (G.channel (i + 1) b) (pair_at m.pairs i).up) parent linked.up);
-        feed = subst (λ a. HasFeed G.channel m.nodes a y.0) (sym child) (subst (HasFeed G.channel m.nodes (i + 1)) parent fed.up);
+        yours = lives;
+        link = subst (λ a. IsLinkOf (not (lives_at G a)) (G.channel a y.0) (pair_at m.pairs i).up) (sym child) (subst (λ b. IsLinkOf (not (lives_at G (i + 1))) (G.channel (i + 1) b) (pair_at m.pairs i).up) parent (linked.up (ap (lives_at G) parent ∙ lives)));
+        feed = subst (λ a. HasFeed G.channel m.nodes a y.0) (sym child) (subst (HasFeed G.channel m.nodes (i + 1)) parent (fed.up (ap (lives_at G) parent ∙ lives)));
       }
 
   pub over_down : Laws → (x y : Enclave) (i : ℕ) → hop_in m x y ≡ hops.Down i → IsOver G m x y (hops.Down i)
   over_down laws x y i is =
-      let k = laws.hops.down m.pairs (length m.nodes) x y i is in
+      let k = laws.hops.down m.pairs (are_known m.nodes x y) x y i is in
+      let lives = to_living x y (λ none. let no : hops.Down i ≡ hops.NoEnclave = sym is ∙ none in cc) in
       let child = k.child_is in let parent = k.parent_is in
       let linked = linked_of G m flowing h i k.within in
       let fed = fed_of G m flowing h i k.within in
@@ -110,15 +126,15 @@ module _ (G : Facts) (m : MachineView) (flowing : IsFlowing G) (h : IsShown G m)
       record {
         hop_is = is;
         mine = omega (arith, parent, pairs, lt, low);
-        yours = omega (arith, child, pairs, lt);
-        link = subst (λ a. IsLinkOf (G.channel x.0 a) (pair_at m.pairs i).down) (sym child) (subst (λ b. IsLinkOf (G.channel b (i + 1)) (pair_at m.pairs i).down) parent linked.down);
-        feed = subst (λ a. HasFeed G.channel m.nodes x.0 a) (sym child) (subst (λ b. HasFeed G.channel m.nodes b (i + 1)) parent fed.down);
+        yours = lives;
+        link = subst (λ a. IsLinkOf (not (lives_at G x.0)) (G.channel x.0 a) (pair_at m.pairs i).down) (sym child) (subst (λ b. IsLinkOf (not (lives_at G b)) (G.channel b (i + 1)) (pair_at m.pairs i).down) parent (linked.down (ap (lives_at G) (sym child) ∙ lives)));
+        feed = subst (λ a. HasFeed G.channel m.nodes x.0 a) (sym child) (subst (λ b. HasFeed G.channel m.nodes b (i + 1)) parent (fed.down (ap (lives_at G) (sym child) ∙ lives)));
       }
 
 -- ---- a link is shown
 
 show_over : (G : Facts) (m : MachineView) (x y : Enclave) (hop : Hop) → IsOver G m x y hop → link_lines G x y ≡ bytes_lines x y (length (waiting_bytes (link_of m.pairs hop))) 0 (waiting_bytes (link_of m.pairs hop))
-show_over G m x y hop k = ap (λ bytes. bytes_lines x y (length bytes) 0 bytes) (sym k.link.waiting)
+show_over G m x y hop k = ap (λ bytes. bytes_lines x y (length bytes) 0 bytes) (over_waits G m x y hop k)
 
 pub tied_show_link : (G H : Facts) (m : MachineView) (x y : Enclave) → IsStep G H (commands.ShowLink x y) → IsShown G m → IsTied G H (commands.ShowLink x y) m
 tied_show_link G H m x y step h = by (hop_in m x y) refl
@@ -127,7 +143,7 @@ tied_show_link G H m x y step h = by (hop_in m x y) refl
     refused hop is = refused_is G m step.before h x y ∙ ap cause_of is
 
     still : (ls : List Line) → command_lines G (commands.ShowLink x y) ≡ ls → AreStill ls → lines_by m (commands.ShowLink x y) ≡ ls → IsTied G H (commands.ShowLink x y) m
-    still ls is fixed made = tied_still G H (commands.ShowLink x y) m step h refl refl (made ∙ sym is) (subst AreStill (sym is) fixed)
+    still ls is fixed made = tied_still G H (commands.ShowLink x y) m step h tt refl (made ∙ sym is) (subst AreStill (sym is) fixed)
 
     bytes : (hop : Hop) → List Line
     bytes hop = bytes_lines x y (length (waiting_bytes (link_of m.pairs hop))) 0 (waiting_bytes (link_of m.pairs hop))

@@ -1,7 +1,8 @@
 -- The next delivery of a settle, by the machine and by the facts.
-use Rattle.std.proofs.Common.{◌≡◌, ◌+◌, ◌-◌, ◌<◌, ◌≤◌, ℕ, zero, suc, List, [], ◌∷◌, ◌++◌, length, map, Bool, true, false, cond, eqb, ltb, leb, not, ◌&&◌, Option, None, Some, refl, sym, ap, ◌∙◌, arith, length-drop}
+use Rattle.std.proofs.Common.{◌≡◌, ◌+◌, ◌-◌, ◌<◌, ◌≤◌, ℕ, zero, suc, List, [], ◌∷◌, ◌++◌, length, map, Bool, true, false, cond, eqb, ltb, leb, not, ◌&&◌, ◌||◌, Option, None, Some, refl, sym, ap, ◌∙◌, arith, length-append, length-drop}
 use Rattle.std.specs.Prelude.{filter, drop, slice_get}
-use Rattle.std.specs.List.{flat_map, range_with_len}
+use Rattle.std.specs.List.{concat, flat_map, range_with_len}
+use Rattle.std.proofs.Math.Bool.{or-false}
 use Rattle.std.specs.Option.{option_map}
 use Rattle.std.proofs.lemmas.Bool.{lt-ltb, ne_eqb, leb-true, leb-false}
 use Rattle.std.proofs.lemmas.List.{drop_all, map-append}
@@ -13,8 +14,8 @@ use Rattle.xemem_language.specs.declared.record.Record.{Record}
 use Rattle.xemem_wire.specs.Spelling.{spelling_of}
 use Rattle.xemem_language.specs.declared.command.Command.{Command}
 use Rattle.xemem_language.specs.declared.command.Command.TheVariants as commands
-use Rattle.global_model.specs.Facts.{Facts, ChannelFact, is_living_enclave}
-use Rattle.global_model.specs.Channels.{size_of, waiting_bytes as waiting_in}
+use Rattle.global_model.specs.Facts.{Facts, ChannelFact, lives_at}
+use Rattle.global_model.specs.Channels.{is_child_of, size_of, waiting_bytes as waiting_in, waiting_of}
 use Rattle.global_model.specs.Flow.{IsFlowing}
 use Rattle.global_model.specs.Due.{rest_of_record, next_rest, channels_of, waits, waiting_channels, first_waiting}
 use Rattle.node_machine.specs.declared.pair.Pair.{Pair}
@@ -22,7 +23,8 @@ use Rattle.node_machine.specs.declared.pair.Hop.TheVariants as hops
 use Rattle.node_machine.specs.Machine.{MachineView, pair_at, is_idle, waiting_hops_of, waiting_hops, delivery_over, next_delivery}
 use Rattle.node_machine.specs.Machine.{enclave}
 use Rattle.node_world.specs.Shown.{IsShown}
-use Rattle.node_world.proofs.Flows.{IsLinkOf}
+use Rattle.node_world.specs.Links.{IsLinkOf}
+use Rattle.node_world.proofs.Flows.{uncut_rows}
 use Rattle.node_world.proofs.Acted.{linked_of}
 
 -- the command is the delivery that is due next in a settle
@@ -54,8 +56,13 @@ first_is taken (r ∷ rs) = by (leb (size_of r) taken) refl (first_is (taken - s
         let left = leb-false (size_of r) taken part in
         filled_first (drop taken (spelling_of r)) pieces (omega (arith, size, left)) ∙ size
 
-boundary_is : (f : ChannelFact) (link : Channel) → IsLinkOf f link → rest_of_record f.taken f.sent ≡ boundary_of link
-boundary_is f link h = sym (ap first_length h.pieces ∙ first_is f.taken f.sent)
+boundary_is : (dead : Bool) (f : ChannelFact) (link : Channel) → IsLinkOf dead f link → rest_of_record f.taken f.sent ≡ boundary_of link
+boundary_is dead f link h = sym (ap first_length (h.pieces ∙ ap (λ rows. left_of rows f.taken) (uncut_rows f h.uncut)) ∙ first_is f.taken f.sent)
+
+-- the first piece is among the bytes that wait
+boundary_fits : (pieces : List (List ℕ)) → first_length pieces ≤ length (concat pieces)
+boundary_fits [] = omega arith
+boundary_fits (piece ∷ pieces) = let size = length-append piece (concat pieces) in omega (arith, size)
 
 some_is : (n : ℕ) → ltb 0 n ≡ not (eqb n 0)
 some_is zero = refl
@@ -71,20 +78,38 @@ module _ (G : Facts) (m : MachineView) (flowing : IsFlowing G) (h : IsShown G m)
   abbrev pairs : List Pair
   pairs = m.pairs
 
-  waits_is : (x y : Enclave) (link : Channel) → IsLinkOf (G.channel x.0 y.0) link → y.0 < G.born → waits G (x, y) ≡ not (is_idle link)
-  waits_is x y link k born =
-      let lives : is_living_enclave (G.enclave y.0) ≡ true = (flowing.tree.enclaves y.0).living ∙ lt-ltb y.0 G.born born in
-      ap (λ b. b && ltb 0 (length (waiting_in G x.0 y.0))) lives ∙ ap (λ bytes. ltb 0 (length bytes)) (sym k.waiting) ∙ some_is (length (waiting_bytes link))
+  -- by the facts as many bytes wait, and no end mark, as both ends live
+  waits_bytes : (x y : Enclave) (dead : Bool) (link : Channel) → IsLinkOf dead (G.channel x.0 y.0) link → lives_at G y.0 ≡ true → waiting_in G x.0 y.0 ≡ waiting_bytes link
+  waits_bytes x y dead link k lives = ap (λ b. cond b (waiting_of (G.channel x.0 y.0)) []) lives ∙ sym k.waiting
+
+  no_mark : (a b c d : Bool) → c ≡ true → (a && (b && (not c && d))) ≡ false
+  no_mark false b c d is = refl
+  no_mark true false c d is = refl
+  no_mark true true true d is = refl
+  no_mark true true false d is = cc
+
+  waits_is : (x y : Enclave) (dead : Bool) (link : Channel) → IsLinkOf dead (G.channel x.0 y.0) link → lives_at G x.0 ≡ true → lives_at G y.0 ≡ true → waits G (x, y) ≡ not (is_idle link)
+  waits_is x y dead link k mine lives =
+      ap (λ b. ltb 0 (length (waiting_in G x.0 y.0)) || b) (no_mark (lives_at G y.0) (is_child_of G x.0 y.0) (lives_at G x.0) (not (G.channel x.0 y.0).end_taken) mine) ∙ or-false (ltb 0 (length (waiting_in G x.0 y.0)))
+      ∙ ap (λ bytes. ltb 0 (length bytes)) (waits_bytes x y dead link k lives) ∙ some_is (length (waiting_bytes link))
+
+  rest_is : (x y : Enclave) (dead : Bool) (link : Channel) → IsLinkOf dead (G.channel x.0 y.0) link → lives_at G y.0 ≡ true → next_rest G x y ≡ boundary_of link
+  rest_is x y dead link k lives =
+      let size = ap length (waits_bytes x y dead link k lives) in
+      omega (arith, size, boundary_is dead (G.channel x.0 y.0) link k, boundary_fits link.pieces)
 
   one_pair : (i : ℕ) → i < length pairs → map due (filter (waits G) (channels_of G (i + 1))) ≡ map (delivery_over pairs) (waiting_hops_of i (pair_at pairs i))
   one_pair i within =
       let count = h.pairs in
       let k = linked_of G m flowing h i within in
       let above = k.above in
-      let up : waits G x ≡ not (is_idle pair.up) = waits_is c pair.parent pair.up k.up (omega (arith, count, within, above)) in
-      let down : waits G y ≡ not (is_idle pair.down) = waits_is pair.parent c pair.down k.down (omega (arith, count, within)) in
-      let one : due x ≡ delivery_over pairs (hops.Up i) = ap (commands.Deliver c pair.parent) (boundary_is (G.channel (i + 1) pair.parent.0) pair.up k.up) in
-      let two : due y ≡ delivery_over pairs (hops.Down i) = ap (commands.Deliver pair.parent c) (boundary_is (G.channel pair.parent.0 (i + 1)) pair.down k.down) in
+      -- both live so far
+      let lives_above = flowing.tree.all_live pair.parent.0 (omega (arith, count, within, above)) in
+      let lives_below = flowing.tree.all_live (i + 1) (omega (arith, count, within)) in
+      let up : waits G x ≡ not (is_idle pair.up) = waits_is c pair.parent _ pair.up (k.up lives_above) lives_below lives_above in
+      let down : waits G y ≡ not (is_idle pair.down) = waits_is pair.parent c _ pair.down (k.down lives_below) lives_above lives_below in
+      let one : due x ≡ delivery_over pairs (hops.Up i) = ap (commands.Deliver c pair.parent) (rest_is c pair.parent _ pair.up (k.up lives_above) lives_above) in
+      let two : due y ≡ delivery_over pairs (hops.Down i) = ap (commands.Deliver pair.parent c) (rest_is pair.parent c _ pair.down (k.down lives_below) lives_below) in
       ap (λ (p : Enclave). map due (filter (waits G) ((c, p) ∷ (p, c) ∷ []))) (sym k.parent)
       ∙ ap (λ a. map due (cond a (x ∷ cond (waits G y) (y ∷ []) []) (cond (waits G y) (y ∷ []) []))) up
       ∙ ap (λ b. map due (cond (not (is_idle pair.up)) (x ∷ cond b (y ∷ []) []) (cond b (y ∷ []) []))) down

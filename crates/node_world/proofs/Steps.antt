@@ -19,6 +19,7 @@ use Rattle.global_model.specs.Journals.{Follows}
 use Rattle.global_model.specs.Carriage.{CarriedAt}
 use Rattle.xemem_language.specs.Ranges.{IsWithin, IsInRange}
 use Rattle.enclave_rules.specs.Built.{is_cokernel}
+use Rattle.enclave_rules.specs.Core.{is_guest}
 use Rattle.global_model.specs.Place.{may_stand, IsPlaced, IsPlacedAfter}
 use Rattle.node_machine.specs.Links.{sent_in}
 use Rattle.node_machine.specs.Machine.{MachineView, no_machine, lines_by, after_command}
@@ -42,7 +43,8 @@ start = record {
   starts = refl;
   born = refl;
   pairs = refl;
-  nodes = λ e within. absurd (omega (arith, within));
+  living = λ e. refl;
+  nodes = λ e lives. cc;
   links = λ i within. absurd (omega (arith, within));
   strangers = λ e c far. at_nil c;
 }
@@ -75,6 +77,11 @@ pooled (_ ∷ []) one placed = let no : false ≡ true = placed.0 in cc
 
 -- ---- a step
 
+cokernel_plain : (kind : Kind) → is_cokernel kind ≡ true → is_guest kind ≡ false
+cokernel_plain kinds.Host is = refl
+cokernel_plain kinds.Cokernel is = refl
+cokernel_plain kinds.Vm is = cc
+
 pub no_settle : (c : Command) → ((most : ℕ) → c ≡ commands.Settle most → ⊥) → IsNoSettle c
 no_settle (commands.Settle most) other = other most refl
 no_settle _ other = tt
@@ -90,10 +97,10 @@ stepped_other laws before (commands.Host blocks ns) no_call no_show m step place
     let p = pooled before (omega (arith, count)) (placed_before 0 before (commands.Host blocks ns ∷ []) placed) in
     tied_host _ _ m blocks ns (step_of laws before (commands.Host blocks ns) placed) h (ap (λ cs. (facts_after (journal_of cs)).born) p.is) (ap (λ cs. (facts_after (journal_of cs)).server) p.is)
     (subst (λ cs. command_lines (facts_after (journal_of cs)) (commands.Host blocks ns) ≡ cond (ltb (facts_after (journal_of cs)).pool blocks) (refusal causes.NoBlocks) (host_lines (first_blocks blocks) ns)) (sym p.is) (laws.views.host p.pool blocks ns))
-stepped_other laws before (commands.Boot kind parent blocks ns) no_call no_show m step placed h = tied_boot _ _ m kind parent blocks ns (step_of laws before (commands.Boot kind parent blocks ns) placed) h
+stepped_other laws before (commands.Boot kind parent blocks ns) no_call no_show m step placed h = tied_boot _ _ m kind parent blocks ns (cokernel_plain kind (and_parts _ _ (last_stands 0 before (commands.Boot kind parent blocks ns) placed).0).1) (step_of laws before (commands.Boot kind parent blocks ns) placed) h
 stepped_other laws before (commands.Proc e uid gid) no_call no_show m step placed h = tied_proc _ _ m e uid gid (step_of laws before (commands.Proc e uid gid) placed) h
 stepped_other laws before (commands.Touch e p addr want) no_call no_show m step placed h = tied_touch _ _ m e p addr want (step_of laws before (commands.Touch e p addr want) placed) h
-stepped_other laws before (commands.Deliver x y count) no_call no_show m step placed h = tied_deliver laws.wire laws.views _ _ m x y count (step_of laws before (commands.Deliver x y count) placed) h
+stepped_other laws before (commands.Deliver x y count) no_call no_show m step placed h = tied_deliver laws.wire laws.views _ _ m x y count (last_stands 0 before (commands.Deliver x y count) placed).1.2.0 (step_of laws before (commands.Deliver x y count) placed) h
 stepped_other laws before (commands.Settle most) no_call no_show m step placed h = absurd step
 stepped_other laws before (commands.ShowLink x y) no_call no_show m step placed h = tied_show_link _ _ m x y (step_of laws before (commands.ShowLink x y) placed) h
 stepped_other laws before (commands.Alloc e p page count) no_call no_show m step placed h = cc

@@ -1,6 +1,5 @@
 -- A command by the facts is the one that the machine makes: those that change nothing.
-use Rattle.std.proofs.Common.{◌≡◌, ◌+◌, ◌<◌, ◌≤◌, ℕ, zero, suc, List, [], ◌∷◌, ◌++◌, length, drop, Bool, true, false, cond, ltb, None, Some, Result, Ok, Err, refl, sym, ap, ◌∙◌, subst}
-use Rattle.std.proofs.lemmas.Bool.{ltb-true, lt-ltb}
+use Rattle.std.proofs.Common.{◌≡◌, ◌+◌, ◌≤◌, ℕ, zero, suc, List, [], ◌∷◌, ◌++◌, drop, Bool, true, false, cond, None, Some, Result, Ok, Err, refl, sym, ap, ◌∙◌, subst}
 use Rattle.xm_num.specs.declared.Enclave.{Enclave}
 use Rattle.xm_num.specs.declared.Pid.{Pid}
 use Rattle.xm_num.specs.declared.Vpn.{Vpn}
@@ -15,15 +14,20 @@ use Rattle.xemem_language.specs.Calls.{call_of, show_of}
 use Rattle.enclave_rules.specs.Calls.{show_lines, AreShowLines}
 use Rattle.xemem_language.specs.declared.line.Line.{Line}
 use Rattle.xemem_language.specs.declared.line.Line.TheVariants as lines
-use Rattle.global_model.specs.Facts.{Facts, facts_after, after_line, after_lines}
+use Rattle.global_model.specs.Facts.{Facts, facts_after, after_line, after_lines, lives_at}
 use Rattle.global_model.specs.Flow.{IsFlowing}
-use Rattle.enclave_rules.specs.View.{View, seen_lines, unborn_view}
-use Rattle.global_model.specs.Views.{view_of}
+use Rattle.enclave_rules.specs.Core.{is_guest}
+use Rattle.enclave_rules.specs.Hand.{Hand}
+use Rattle.enclave_rules.specs.View.{View, unborn_view}
+use Rattle.global_model.specs.Apt.{IsTaking}
+use Rattle.global_model.specs.Handled.{AreHandled}
+use Rattle.global_model.specs.Views.{view_of, seen_lines}
 use Rattle.enclave_rules.specs.Steps.{refusal, answer_lines, touch_answer, bytes_lines}
-use Rattle.global_model.specs.Known.{IsAnswered, at_born}
+use Rattle.global_model.specs.Known.{IsAnswered, at_living}
 use Rattle.global_model.specs.Due.{command_lines, step_lines, journal_of}
 use Rattle.global_model.specs.Place.{IsPlaced, IsPlacedAfter}
 use Rattle.node_machine.specs.declared.pair.Pair.{Pair}
+use Rattle.enclave_node.specs.Nodes.{NodeView}
 use Rattle.node_machine.specs.Machine.{MachineView, node_at, at_node, lines_by, acted, carried, with_carried, after_command, node_shown}
 use Rattle.node_machine.specs.Machine.{enclave}
 use Rattle.node_world.specs.Shown.{IsShown}
@@ -39,8 +43,10 @@ pub record IsStep (G H : Facts) (c : Command) : Type 0 where
   pub before : IsFlowing G
   pub flowing : IsFlowing H
   pub answered : IsAnswered G
-  pub views : (e : ℕ) → e < H.born → view_of H (enclave e) ≡ seen_lines (view_of G (enclave e)) (step_lines G c)
+  pub views : (e : ℕ) → lives_at H e ≡ true → view_of H (enclave e) ≡ seen_lines (after_line G (lines.Do c)) (view_of G (enclave e)) (command_lines G c)
   pub unborn : (e : Enclave) → G.born ≤ e.0 → view_of G e ≡ unborn_view G.pool e
+  pub plain : (e : Enclave) → is_guest (view_of G e).core.kind ≡ false
+  pub handled : (x y : Enclave) (n : ℕ) → IsTaking G x y n → AreHandled (after_line G (lines.Took x y n)) x y
 
 pub placed_before : (before : ℕ) (commands more : List Command) → IsPlacedAfter before (commands ++ more) → IsPlacedAfter before commands
 placed_before before [] more placed = tt
@@ -58,8 +64,10 @@ step_of laws commands c placed =
       before = laws.flowing commands first;
       flowing = flowing;
       answered = laws.views.answered commands first;
-      views = λ e within. laws.views.seen commands c placed (enclave e) ((flowing.tree.enclaves e).living ∙ lt-ltb e H.born within);
+      views = λ e lives. laws.views.seen commands c placed (enclave e) lives;
       unborn = laws.views.unborn commands first;
+      plain = laws.views.plain commands first;
+      handled = laws.views.handled commands first;
     }
 
 -- the machine's lines are those of the rules, and it shows the facts after them
@@ -101,26 +109,55 @@ still_facts (lines.BlockLent b e ∷ ls) G still = still_facts ls G still.1
 still_facts (lines.BlockHeld b e ∷ ls) G still = still_facts ls G still.1
 still_facts (_ ∷ ls) G still = absurd still.0
 
-still_carried : (ls : List Line) (born : ℕ) (pairs : List Pair) → AreStill ls → carried born pairs ls ≡ pairs
-still_carried [] born pairs still = refl
-still_carried (lines.Sent x y r ∷ ls) born pairs still = absurd still.0
-still_carried (_ ∷ ls) born pairs still = still_carried ls born pairs still.1
+still_carried : (ls : List Line) (nodes : List NodeView) (pairs : List Pair) → AreStill ls → carried nodes pairs ls ≡ pairs
+still_carried [] nodes pairs still = refl
+still_carried (lines.Sent x y r ∷ ls) nodes pairs still = absurd still.0
+still_carried (_ ∷ ls) nodes pairs still = still_carried ls nodes pairs still.1
+
+-- a command that makes no pool
+abbrev pub IsNoPool : Command → Type 0
+IsNoPool (commands.Pool blocks) = ⊥
+IsNoPool command = Unit {0}
+
+-- leaves what the machine shows as it was by its `do` line
+pub shown_hand : (G : Facts) (hand : Hand) (m : MachineView) → IsShown G m → IsShown (record G { hand = hand }) m
+shown_hand G hand m h = record {
+  pool = h.pool;
+  server = h.server;
+  starts = h.starts;
+  born = h.born;
+  pairs = h.pairs;
+  living = h.living;
+  nodes = λ e lives. let node = h.nodes e lives in record { view = node.view; going = node.going };
+  links = λ i within. let pair = h.links i within in record {
+    parent = pair.parent;
+    above = pair.above;
+    up = λ lives. let link = pair.up lives in record { bytes = link.bytes; feed = link.feed };
+    down = λ lives. let link = pair.down lives in record { bytes = link.bytes; feed = link.feed };
+  };
+  strangers = h.strangers;
+}
+
+pub shown_begun : (G : Facts) (c : Command) (m : MachineView) → IsNoPool c → IsShown G m → IsShown (after_line G (lines.Do c)) m
+shown_begun G (commands.Pool blocks) m other h = absurd other
+shown_begun G _ m other h = shown_hand G _ m h
 
 -- a command that leaves the machine as it is
-pub tied_still : (G H : Facts) (c : Command) (m : MachineView) → IsStep G H c → IsShown G m → after_line G (lines.Do c) ≡ G → acted m c ≡ m → lines_by m c ≡ command_lines G c → AreStill (command_lines G c) → IsTied G H c m
-tied_still G H c m step h keeps same ls still =
-    let facts : H ≡ G = step.after ∙ ap (λ F. after_lines F (command_lines G c)) keeps ∙ still_facts (command_lines G c) G still in
-    let machine : after_command m c ≡ m = ap (λ n. with_carried n (lines_by m c)) same ∙ ap (with_carried m) ls ∙ ap (λ (pairs : List Pair). record m { pairs = pairs }) (still_carried (command_lines G c) (length m.nodes) m.pairs still) in
-    (ls, subst (λ F. IsShown F (after_command m c)) (sym facts) (subst (IsShown G) (sym machine) h))
+pub tied_still : (G H : Facts) (c : Command) (m : MachineView) → IsStep G H c → IsShown G m → IsNoPool c → acted m c ≡ m → lines_by m c ≡ command_lines G c → AreStill (command_lines G c) → IsTied G H c m
+tied_still G H c m step h other same ls still =
+    let B = after_line G (lines.Do c) in
+    let facts : H ≡ B = step.after ∙ still_facts (command_lines G c) B still in
+    let machine : after_command m c ≡ m = ap (λ n. with_carried n (lines_by m c)) same ∙ ap (with_carried m) ls ∙ ap (λ (pairs : List Pair). record m { pairs = pairs }) (still_carried (command_lines G c) m.nodes m.pairs still) in
+    (ls, subst (λ F. IsShown F (after_command m c)) (sym facts) (subst (IsShown B) (sym machine) (shown_begun G c m other h)))
 
 -- ---- lines at an enclave
 
 -- what is written at an enclave by its view is what the rules write there
-pub at_is : (G : Facts) (m : MachineView) → IsShown G m → (e : Enclave) (f : View → List Line) → at_node m e (f (node_at m.nodes e.0).view) ≡ at_born G.born e (f (view_of G e))
-at_is G m h e f = ap (λ n. cond (ltb e.0 n) (f (node_at m.nodes e.0).view) (refusal causes.NoEnclave)) h.born ∙ by (ltb e.0 G.born) refl
+pub at_is : (G : Facts) (m : MachineView) → IsShown G m → (e : Enclave) (f : View → List Line) → at_node m e (f (node_at m.nodes e.0).view) ≡ at_living G e (f (view_of G e))
+at_is G m h e f = ap (λ b. cond b (f (node_at m.nodes e.0).view) (refusal causes.NoEnclave)) (h.living e.0) ∙ by (lives_at G e.0) refl
   where
-    by : (b : Bool) → ltb e.0 G.born ≡ b → cond b (f (node_at m.nodes e.0).view) (refusal causes.NoEnclave) ≡ cond b (f (view_of G e)) (refusal causes.NoEnclave)
-    by true is = ap f (h.nodes e.0 (ltb-true e.0 G.born is)).view
+    by : (b : Bool) → lives_at G e.0 ≡ b → cond b (f (node_at m.nodes e.0).view) (refusal causes.NoEnclave) ≡ cond b (f (view_of G e)) (refusal causes.NoEnclave)
+    by true is = ap f (h.nodes e.0 is).view
     by false is = refl
 
 pub still_answer : (e : Enclave) (p : Pid) (answer : Result (Vpn × Frame) Cause) → AreStill (answer_lines e p answer)
@@ -130,8 +167,8 @@ still_answer e p (Err cause) = (tt, tt)
 pub tied_touch : (G H : Facts) (m : MachineView) (e : Enclave) (p : Pid) (addr : ℕ) (want : Want) → IsStep G H (commands.Touch e p addr want) → IsShown G m → IsTied G H (commands.Touch e p addr want) m
 tied_touch G H m e p addr want step h =
     let rule = step.answered.touch e p addr want in
-    tied_still G H (commands.Touch e p addr want) m step h refl refl (at_is G m h e (λ v. answer_lines e p (touch_answer v p addr want)) ∙ sym rule)
-    (subst AreStill (sym rule) (cond_case (ltb e.0 G.born) _ (refusal causes.NoEnclave) AreStill (still_answer e p (touch_answer (view_of G e) p addr want)) (tt, tt)))
+    tied_still G H (commands.Touch e p addr want) m step h tt refl (at_is G m h e (λ v. answer_lines e p (touch_answer v p addr want)) ∙ sym rule)
+    (subst AreStill (sym rule) (cond_case (lives_at G e.0) _ (refusal causes.NoEnclave) AreStill (still_answer e p (touch_answer (view_of G e) p addr want)) (tt, tt)))
 
 -- ---- what is shown of a node
 
@@ -152,9 +189,9 @@ pub show_no_call : (c : Command) (s : NodeShow) → show_of c ≡ Some s → cal
 show_no_call (commands.Alloc e p at pages) s is = cc
 show_no_call _ s is = refl
 
-show_keeps : (G : Facts) (c : Command) (s : NodeShow) → show_of c ≡ Some s → after_line G (lines.Do c) ≡ G
-show_keeps G (commands.Pool blocks) s is = cc
-show_keeps G _ s is = refl
+show_no_pool : (c : Command) (s : NodeShow) → show_of c ≡ Some s → IsNoPool c
+show_no_pool (commands.Pool blocks) s is = cc
+show_no_pool _ s is = tt
 
 pub show_stays : (m : MachineView) (c : Command) (s : NodeShow) → show_of c ≡ Some s → acted m c ≡ m
 show_stays m (commands.ShowRoutes e) s is = refl
@@ -168,9 +205,9 @@ pub tied_show : (G H : Facts) (m : MachineView) (c : Command) (s : NodeShow) →
 tied_show G H m c s is step h =
     let rule = step.answered.show c s is in
     let still = still_shown (show_lines (view_of G s.enclave) s.show) (step.laws.views.shows (view_of G s.enclave) s.show) in
-    tied_still G H c m step h (show_keeps G c s is) (show_stays m c s is)
+    tied_still G H c m step h (show_no_pool c s is) (show_stays m c s is)
     (shown_lines m c s is ∙ at_is G m h s.enclave (λ v. show_lines v s.show) ∙ sym rule)
-    (subst AreStill (sym rule) (cond_case (ltb s.enclave.0 G.born) _ (refusal causes.NoEnclave) AreStill still (tt, tt)))
+    (subst AreStill (sym rule) (cond_case (lives_at G s.enclave.0) _ (refusal causes.NoEnclave) AreStill still (tt, tt)))
 
 pub still_bytes : (x y : Enclave) (most at : ℕ) (bytes : List ℕ) → AreStill (bytes_lines x y most at bytes)
 still_bytes x y zero at bytes = tt

@@ -1,5 +1,5 @@
 -- The laws on which the world rests, as the functions of the crates below ensure them.
-use Rattle.std.specs.Prelude.{◌≡◌, ◌≢◌, ◌+◌, ◌<◌, ◌≤◌, ◌==◌, ◌++◌, ◌∷◌, [], ℕ, List, Bool, length, take, drop, None, Some, true, nat_lt, if◌then◌else◌}
+use Rattle.std.specs.Prelude.{◌≡◌, ◌≢◌, ◌+◌, ◌<◌, ◌≤◌, ◌==◌, ◌++◌, ◌∷◌, [], ℕ, List, Bool, length, take, drop, None, Some, true, false, nat_lt, if◌then◌else◌}
 use Rattle.std.specs.List.{concat}
 use Rattle.std.specs.Option.{option_map}
 use Rattle.xm_num.specs.declared.Enclave.{Enclave}
@@ -17,13 +17,17 @@ use Rattle.xemem_wire.specs.Stream.{reading_of, onto, after_records, nothing_rea
 use Rattle.xemem_language.specs.declared.command.Command.{Command}
 use Rattle.xemem_language.specs.declared.command.Command.TheVariants as commands
 use Rattle.xemem_language.specs.declared.line.Line.{Line}
-use Rattle.global_model.specs.Facts.{Facts, facts_after, after_lines, is_living_enclave}
-use Rattle.enclave_rules.specs.View.{View, own_lines, seen_lines, unborn_view, AreOf}
-use Rattle.global_model.specs.Views.{view_of}
+use Rattle.xemem_language.specs.declared.line.Line.TheVariants as lines
+use Rattle.global_model.specs.Facts.{Facts, facts_after, after_line, after_lines, is_living_enclave}
+use Rattle.enclave_rules.specs.Core.{is_guest}
+use Rattle.enclave_rules.specs.View.{View, own_lines, unborn_view, AreOf, AreAbout}
+use Rattle.global_model.specs.Apt.{IsTaking}
+use Rattle.global_model.specs.Handled.{AreHandled}
+use Rattle.global_model.specs.Views.{view_of, seen_lines}
 use Rattle.enclave_rules.specs.Calls.{call_lines, show_lines, AreCallLines, AreShowLines}
 use Rattle.enclave_rules.specs.Steps.{refusal, host_lines, first_blocks, lines_of_records}
 use Rattle.global_model.specs.Known.{IsAnswered}
-use Rattle.global_model.specs.Due.{got_lines, deliver_lines, next_rest, first_waiting, command_lines, journal_of, step_lines}
+use Rattle.global_model.specs.Due.{deliver_lines, next_rest, first_waiting, command_lines, journal_of, step_lines}
 use Rattle.global_model.specs.Flow.{IsFlowing}
 use Rattle.global_model.specs.Journals.{do_commands}
 use Rattle.global_model.specs.Carriage.{IsCarried}
@@ -44,15 +48,18 @@ pub record WireLaws : Type 0 where
 pub record ViewLaws : Type 0 where
   pub calls : (v : View) (p : Pid) (call : Call) → AreCallLines v.me (call_lines v p call)
   pub shows : (v : View) (show : Show) → AreShowLines (show_lines v show)
-  pub at : (v : View) (x : Enclave) (rs : List Record) → AreOf v.me (lines_of_records v x rs)
-  pub records : (G : Facts) (x y : Enclave) (rs : List Record) → is_living_enclave (G.enclave y.0) ≡ true → got_lines G x y rs ≡ lines_of_records (view_of G y) x rs
-  pub own : (v : View) (x : Enclave) (rs : List Record) → seen_lines v (lines_of_records v x rs) ≡ own_lines v (lines_of_records v x rs)
-  pub others : (v w : View) (x : Enclave) (rs : List Record) → w.me.0 ≢ v.me.0 → seen_lines w (lines_of_records v x rs) ≡ w
+  pub of : (v : View) (x : Enclave) (rs : List Record) → AreOf v.me (lines_of_records v x rs)
+  pub own : (G : Facts) (v : View) (lines : List Line) → is_guest v.core.kind ≡ false → AreAbout v.me lines → seen_lines G v lines ≡ own_lines G.hand v lines
+  pub others : (G : Facts) (y : Enclave) (w : View) (lines : List Line) → AreAbout y lines → w.me.0 ≢ y.0 → seen_lines G w lines ≡ w
   pub answered : (commands : List Command) → IsPlaced commands → IsAnswered (facts_after (journal_of commands))
   pub host : (pool blocks : ℕ) (ns : Bool) → command_lines (facts_after (journal_of (commands.Pool pool ∷ []))) (commands.Host blocks ns) ≡ (if nat_lt pool blocks then refusal causes.NoBlocks else host_lines (first_blocks blocks) ns)
   pub unborn : (commands : List Command) → IsPlaced commands → (e : Enclave) → (facts_after (journal_of commands)).born ≤ e.0 → view_of (facts_after (journal_of commands)) e ≡ unborn_view (facts_after (journal_of commands)).pool e
+  pub plain : (commands : List Command) → IsPlaced commands → (e : Enclave) → is_guest (view_of (facts_after (journal_of commands)) e).core.kind ≡ false
   pub seen : (commands : List Command) (one : Command) → IsPlaced (commands ++ one ∷ []) → (e : Enclave) → is_living_enclave ((facts_after (journal_of (commands ++ one ∷ []))).enclave e.0) ≡ true
-      → view_of (facts_after (journal_of (commands ++ one ∷ []))) e ≡ seen_lines (view_of (facts_after (journal_of commands)) e) (step_lines (facts_after (journal_of commands)) one)
+      → view_of (facts_after (journal_of (commands ++ one ∷ []))) e
+      ≡ seen_lines (after_line (facts_after (journal_of commands)) (lines.Do one)) (view_of (facts_after (journal_of commands)) e) (command_lines (facts_after (journal_of commands)) one)
+  pub handled : (commands : List Command) → IsPlaced commands → (x y : Enclave) (n : ℕ) → IsTaking (facts_after (journal_of commands)) x y n
+      → AreHandled (after_line (facts_after (journal_of commands)) (lines.Took x y n)) x y
 
 -- a settle is made of deliveries
 pub record SettleLaws : Type 0 where
@@ -73,10 +80,10 @@ pub record LinkLaws : Type 0 where
 
 -- which channel goes from one enclave to another
 pub record HopLaws : Type 0 where
-  pub up : (pairs : List Pair) (born : ℕ) (x y : Enclave) (i : ℕ) → hop_of pairs born x y ≡ hops.Up i → IsPairAt pairs i x.0 y.0
-  pub down : (pairs : List Pair) (born : ℕ) (x y : Enclave) (i : ℕ) → hop_of pairs born x y ≡ hops.Down i → IsPairAt pairs i y.0 x.0
-  pub to_up : (pairs : List Pair) (born : ℕ) (x y : Enclave) (i : ℕ) → IsPairAt pairs i x.0 y.0 → x.0 < born → y.0 < born → hop_of pairs born x y ≡ hops.Up i
-  pub to_down : (pairs : List Pair) (born : ℕ) (x y : Enclave) (i : ℕ) → AreAbove pairs → IsPairAt pairs i y.0 x.0 → x.0 < born → y.0 < born → hop_of pairs born x y ≡ hops.Down i
+  pub up : (pairs : List Pair) (known : Bool) (x y : Enclave) (i : ℕ) → hop_of pairs known x y ≡ hops.Up i → IsPairAt pairs i x.0 y.0
+  pub down : (pairs : List Pair) (known : Bool) (x y : Enclave) (i : ℕ) → hop_of pairs known x y ≡ hops.Down i → IsPairAt pairs i y.0 x.0
+  pub to_up : (pairs : List Pair) (x y : Enclave) (i : ℕ) → IsPairAt pairs i x.0 y.0 → hop_of pairs true x y ≡ hops.Up i
+  pub to_down : (pairs : List Pair) (x y : Enclave) (i : ℕ) → AreAbove pairs → IsPairAt pairs i y.0 x.0 → hop_of pairs true x y ≡ hops.Down i
 
 -- all of them, and what holds of the journal of commands and of a table after a change
 pub record Laws : Type 0 where

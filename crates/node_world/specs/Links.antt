@@ -1,11 +1,11 @@
 -- What went over a channel, as its link and the decoder at its end show it.
-use Rattle.std.specs.Prelude.{◌≡◌, ◌+◌, ℕ, List, [], ◌++◌, false, None, length, map, take, drop}
-use Rattle.byte_link.specs.Channel.{Channel, waiting_bytes}
+use Rattle.std.specs.Prelude.{◌≡◌, ◌+◌, ◌-◌, ◌≤◌, ℕ, List, [], Bool, None, length, map, take, drop}
+use Rattle.byte_link.specs.Channel.{Channel, first_bytes, waiting_bytes}
 use Rattle.byte_link.specs.Passage.{left_of}
-use Rattle.xemem_language.specs.declared.record.Record.{Record}
-use Rattle.xemem_wire.specs.Spelling.{spelling_of, spellings_of, AreValid}
+use Rattle.xemem_wire.specs.Spelling.{spelling_of, spellings_of}
 use Rattle.xemem_wire.specs.Decoding.{Decoding}
 use Rattle.global_model.specs.Facts.{ChannelFact}
+use Rattle.global_model.specs.Channels.{waiting_of}
 
 -- how many bytes the records that were got have
 abbrev pub got_bytes : ChannelFact → ℕ
@@ -15,18 +15,17 @@ got_bytes fact = length (spellings_of (take fact.got fact.sent))
 abbrev pub feed_of : ChannelFact → Decoding
 feed_of fact = record { records = []; rest = drop (got_bytes fact) (take fact.taken (spellings_of fact.sent)); before = got_bytes fact; bad = None }
 
--- What went over the channel are the records `done`, which were got, and `coming`, of which the decoder has the first bytes.
--- What waits in the link are its records less the bytes that were taken.
-pub record IsChannel (fact : ChannelFact) (link : Channel) (d : Decoding) : Type 0 where
-  pub done : List Record
-  pub coming : List Record
-  pub sent : fact.sent ≡ done ++ coming
-  pub got : fact.got ≡ length done
-  pub taken : fact.taken ≡ length (spellings_of done) + length d.rest
-  pub valid : AreValid coming
-  pub bytes : d.rest ++ waiting_bytes link ≡ spellings_of coming
-  pub before : d.before ≡ length (spellings_of done)
-  pub fine : d.bad ≡ None
-  pub given : d.records ≡ []
-  pub open_end : link.ended ≡ false
-  pub pieces : link.pieces ≡ left_of (map spelling_of fact.sent) fact.taken
+-- the spellings of the records that were sent, less what was cut off at the end
+abbrev pub rows_of : ChannelFact → List (List ℕ)
+rows_of fact = first_bytes (length (spellings_of fact.sent) - fact.cut) (map spelling_of fact.sent)
+
+-- The link shows what went over the channel, whose sender may be dead: the bytes that wait, by the pieces of their records, and
+-- the end mark, which is set where the sender is dead, and taken where the channel's was.
+pub record IsLinkOf (dead : Bool) (fact : ChannelFact) (link : Channel) : Type 0 where
+  pub within : fact.taken + fact.cut ≤ length (spellings_of fact.sent)
+  pub waiting : waiting_bytes link ≡ waiting_of fact
+  pub pieces : link.pieces ≡ left_of (rows_of fact) fact.taken
+  pub ended : link.ended ≡ dead
+  pub end_taken : link.end_taken ≡ fact.end_taken
+  -- Nothing is cut off so far. It holds until enclaves die.
+  pub uncut : fact.cut ≡ 0

@@ -1,13 +1,14 @@
 -- The machine shows the facts of the journal so far.
-use Rattle.std.specs.Prelude.{◌≡◌, ◌+◌, ◌-◌, ◌<◌, ◌≤◌, ℕ, length, true, false, None, Some}
+use Rattle.std.specs.Prelude.{◌≡◌, ◌+◌, ◌-◌, ◌<◌, ◌≤◌, ℕ, length, true, false, not, None, Some}
 use Rattle.xm_num.specs.Rows.{at}
-use Rattle.global_model.specs.Facts.{Facts, fact_of}
+use Rattle.global_model.specs.Facts.{Facts, fact_of, lives_at}
 use Rattle.global_model.specs.Channels.{is_neighbour}
 use Rattle.global_model.specs.Views.{view_of}
 use Rattle.enclave_node.specs.Nodes.{NodeView}
+use Rattle.byte_link.specs.Channel.{Channel}
 use Rattle.node_machine.specs.declared.pair.Pair.{Pair}
-use Rattle.node_world.specs.Links.{IsChannel, feed_of}
-use Rattle.node_machine.specs.Machine.{MachineView, node_at, pair_at, enclave}
+use Rattle.node_world.specs.Links.{IsLinkOf, feed_of}
+use Rattle.node_machine.specs.Machine.{MachineView, enclave, has_node, node_at, pair_at}
 
 -- the node is seen as the view of its enclave, and hasn't failed
 pub record IsNodeOf (G : Facts) (e : ℕ) (node : NodeView) : Type 0 where
@@ -18,14 +19,17 @@ pub record IsNodeOf (G : Facts) (e : ℕ) (node : NodeView) : Type 0 where
 abbrev pub Feeds : Facts → ℕ → ℕ → NodeView → Type 0
 Feeds G x e node = at node.feeds x ≡ Some (feed_of (G.channel x e))
 
--- the channels between child c and its parent
+-- the link and the decoder at its end show the channel from x to y
+pub record IsLinkFrom (G : Facts) (m : MachineView) (x y : ℕ) (link : Channel) : Type 0 where
+  pub bytes : IsLinkOf (not (lives_at G x)) (G.channel x y) link
+  pub feed : Feeds G x y (node_at m.nodes y)
+
+-- the channels between child c and its parent, each where its receiver lives
 pub record IsPairOf (G : Facts) (m : MachineView) (c : ℕ) (pair : Pair) : Type 0 where
   pub parent : pair.parent ≡ (fact_of (G.enclave c)).parent
   pub above : pair.parent.0 < c
-  pub up : IsChannel (G.channel c pair.parent.0) pair.up (feed_of (G.channel c pair.parent.0))
-  pub down : IsChannel (G.channel pair.parent.0 c) pair.down (feed_of (G.channel pair.parent.0 c))
-  pub up_feed : Feeds G c pair.parent.0 (node_at m.nodes pair.parent.0)
-  pub down_feed : Feeds G pair.parent.0 c (node_at m.nodes c)
+  pub up : lives_at G pair.parent.0 ≡ true → IsLinkFrom G m c pair.parent.0 pair.up
+  pub down : lives_at G c ≡ true → IsLinkFrom G m pair.parent.0 c pair.down
 
 -- the nodes, the channels and what is counted show the facts
 pub record IsShown (G : Facts) (m : MachineView) : Type 0 where
@@ -34,7 +38,8 @@ pub record IsShown (G : Facts) (m : MachineView) : Type 0 where
   pub starts : m.starts ≡ G.starts
   pub born : length m.nodes ≡ G.born
   pub pairs : length m.pairs ≡ G.born - 1
-  pub nodes : (e : ℕ) → e < G.born → IsNodeOf G e (node_at m.nodes e)
+  pub living : (e : ℕ) → has_node m.nodes e ≡ lives_at G e
+  pub nodes : (e : ℕ) → lives_at G e ≡ true → IsNodeOf G e (node_at m.nodes e)
   pub links : (i : ℕ) → i < length m.pairs → IsPairOf G m (i + 1) (pair_at m.pairs i)
   pub strangers : (e c : ℕ) → G.born ≤ c → at (node_at m.nodes e).feeds c ≡ None
 

@@ -3,7 +3,8 @@ use Rattle.std.specs.Prelude.{◌≡◌, ◌+◌, ◌<◌, ◌≤◌, ℕ, List,
 use Rattle.xemem_language.specs.declared.command.Command.{Command}
 use Rattle.xemem_language.specs.declared.line.Line.{Line}
 use Rattle.xemem_language.specs.Spelling.{line_words, words_in}
-use Rattle.global_model.specs.Facts.{facts_after}
+use Rattle.enclave_rules.specs.Hand.{Hand}
+use Rattle.global_model.specs.Facts.{Facts, facts_after}
 use Rattle.global_model.specs.Due.{journal_of}
 use Rattle.global_model.specs.Journals.{do_commands, onto, is_delivery, deliveries_in}
 use Rattle.global_model.specs.Place.{IsPlaced}
@@ -93,12 +94,17 @@ pub record IsHistoryOf (m : MachineView) (journal : List Line) : Type 0 where
   pub shown : IsShown (facts_after journal) m
   pub appended : (e : ℕ) → (node_at m.nodes e).appended ≡ words_by e (onto journal [])
 
--- The machine shows the facts of the journal, which are those of commands that are placed: each delivery of a settle counts as
--- one more command. Each node appended the words that are its own by the journal.
+-- the same facts with this at hand
+abbrev pub holding : Hand → Facts → Facts
+holding hand G = record G { hand = hand }
+
+-- The machine shows the facts of the journal, which are, but for what is at hand, those of commands that are placed: each
+-- delivery of a settle counts as one more command. Each node appended the words that are its own by the journal.
 pub record IsAlong (m : MachineView) (journal : List Line) : Type 0 where
   pub played : List Command
   pub placed : IsPlaced played
-  pub facts : facts_after journal ≡ facts_after (journal_of played)
+  pub hand : Hand
+  pub facts : facts_after journal ≡ holding hand (facts_after (journal_of played))
   pub shown : IsShown (facts_after journal) m
   pub appended : (e : ℕ) → (node_at m.nodes e).appended ≡ words_by e (onto journal [])
 

@@ -4,7 +4,8 @@ ghost use Rattle.node_world.specs.Laws.{Laws};
 use byte_link::{bytes_follow_calls, pieces_follow_calls};
 use enclave_rules::calls_write_own_lines;
 use global_model::{
-    journals_are_carried, journals_grow, settles_deliver, view_step, views_answer, views_follow,
+    journals_are_carried, journals_grow, lines_are_seen, settles_deliver, views_answer,
+    views_follow,
 };
 use node_machine::hops_are_pairs;
 use xemem_wire::Decoder;
@@ -18,7 +19,7 @@ pub fn laws()
     journals_grow();
     journals_are_carried();
     calls_write_own_lines();
-    view_step();
+    lines_are_seen();
     views_answer();
     views_follow();
     settles_deliver();

@@ -5,7 +5,7 @@ use Rattle.xm_num.specs.declared.Kind.TheVariants as kinds
 use Rattle.xemem_language.specs.declared.command.Command.{Command}
 use Rattle.xemem_language.specs.declared.command.Command.TheVariants as commands
 use Rattle.enclave_rules.specs.Built.{is_built}
-use Rattle.enclave_rules.specs.View.{host}
+use Rattle.enclave_rules.specs.Core.{host}
 use Rattle.scenario_text.specs.Scenario.{Ending, Stop, scenario_by}
 use Rattle.xemem_language.specs.Spelling.{text_of}
 use Rattle.global_model.specs.Due.{journal_of}

@@ -2,6 +2,8 @@
 ghost use Rattle.std.specs.Prelude.{◌≡◌, ◌<◌, ◌≤◌, ◌≢◌, ◌↔◌, [], ◌++◌, IfOk, OnOk, OnErr, IsErrOf};
 ghost use Rattle.xemem_wire.specs.Decoding.{nothing_taken};
 ghost use Rattle.xm_num.specs.Rows.{put};
+ghost use Rattle.enclave_rules.specs.Pages.{AreBlocks};
+ghost use Rattle.enclave_rules.specs.Core.{AreDeaths};
 ghost use Rattle.enclave_rules.specs.Steps as steps;
 ghost use Rattle.enclave_node.specs.Births.{host_told, child_told};
 ghost use Rattle.enclave_node.specs.Nodes as spec;
@@ -52,6 +54,8 @@ impl<A: AddressSpace> Node<A> {
         fresh: Lines,
         out: &mut Lines,
     ) -> Result<Node<A>, AllocError>
+        requires blocks { AreBlocks birth.blocks }
+        requires heard { AreDeaths birth.heard }
         ensures node { IfOk result (λ node. node ≡ spec.born_node birth feeds fresh) }
         ensures lines { OnOk result (out.new ≡ out.old ++ fresh) }
         ensures err { OnErr result (out.new ≡ out.old) }
@@ -116,6 +120,8 @@ impl<A: AddressSpace> Node<A> {
         requires me { (1 ≤ me.0) × (me.0 ≤ 255) }
         requires parent { parent.0 ≤ 255 }
         requires other { parent.0 ≢ me.0 }
+        requires blocks { AreBlocks blocks.now }
+        requires heard { AreDeaths heard.now }
         ensures made { IfOk result (λ node. node ≡ spec.new_node me kind parent blocks.now holder heard.now) }
         ensures lines { OnOk result (out.new ≡ out.old ++ steps.birth_lines me kind parent blocks.now holder heard.now) }
         ensures err { OnErr result (out.new ≡ out.old) }

@@ -2,7 +2,9 @@
 ghost use Rattle.std.specs.Prelude.{◌≡◌, [], ◌∷◌, ◌++◌, Some, OnOk};
 ghost use Rattle.xm_num.specs.Rows.{at};
 ghost use Rattle.xemem_language.specs.declared.line.Line.TheVariants as lines;
+ghost use Rattle.enclave_rules.specs.Hand.{Hand, Reads};
 ghost use Rattle.enclave_rules.specs.View.{own_lines};
+ghost use Rattle.enclave_rules.specs.Sending as sending;
 ghost use Rattle.enclave_rules.specs.Steps as steps;
 ghost use Rattle.enclave_node.specs.Sides as spec;
 
@@ -17,8 +19,8 @@ use xm_num::laws::rows;
 impl<A: AddressSpace> State<A> {
     /// Gets a record that came whole from a neighbour, and handles it.
     pub fn take(&mut self, from: Enclave, rec: Record, out: &mut Lines) -> Result<(), AllocError>
-        ensures lines { OnOk result (out.new ≡ out.old ++ lines.Got from self.old.me ∷ steps.record_lines self.old from rec) }
-        ensures after { OnOk result (self.new ≡ own_lines self.old (steps.record_lines self.old from rec)) }
+        ensures lines { OnOk result (out.new ≡ out.old ++ steps.handled_lines self.old from rec) }
+        ensures after { OnOk result (self.new ≡ steps.after_record self.old from rec) }
     {
         out.push(Line::Got { from, to: self.me })?;
         self.handle(from, rec, out)
@@ -32,7 +34,7 @@ impl<A: AddressSpace> State<A> {
         out: &mut Lines,
     ) -> Result<(), AllocError>
         ensures lines { OnOk result (out.new ≡ out.old ++ steps.lines_of_records self.old from feed.old.records) }
-        ensures after { OnOk result (self.new ≡ own_lines self.old (steps.lines_of_records self.old from feed.old.records)) }
+        ensures after { OnOk result (self.new ≡ steps.after_records self.old from feed.old.records) }
         ensures given { OnOk result (feed.new ≡ record feed.old { records = [] }) }
     {
         while let Some(rec) = feed.next()? {
@@ -43,7 +45,7 @@ impl<A: AddressSpace> State<A> {
 
     fn handle(&mut self, from: Enclave, rec: Record, out: &mut Lines) -> Result<(), AllocError>
         ensures lines { OnOk result (out.new ≡ out.old ++ steps.record_lines self.old from rec) }
-        ensures after { OnOk result (self.new ≡ own_lines self.old (steps.record_lines self.old from rec)) }
+        ensures after { OnOk result (self.new ≡ own_lines (Reads rec) self.old (steps.record_lines self.old from rec)) }
     {
         if self.is_stray(&rec) {
             return self.drop_record(out);
@@ -76,24 +78,43 @@ impl<A: AddressSpace> State<A> {
         }
     }
 
-    fn drop_record(&mut self, out: &mut Lines) -> Result<(), AllocError>
-        ensures lines { OnOk result (out.new ≡ out.old ++ steps.drop_lines self.old) }
-        ensures same { self.new ≡ self.old }
+    fn drop_record(&self, out: &mut Lines) -> Result<(), AllocError>
+        ensures { OnOk result (out.new ≡ out.old ++ sending.drop_lines self.now) }
     {
         out.push(Line::Dropped { enclave: self.me })
+    }
+
+    /// Sends a record that came from there over a neighbour. It is dropped where it would go back, and where there is no
+    /// neighbour for it.
+    pub fn send(
+        &self,
+        came: Option<Enclave>,
+        over: Option<Enclave>,
+        rec: Record,
+        out: &mut Lines,
+    ) -> Result<(), AllocError>
+        ensures { OnOk result (out.new ≡ out.old ++ sending.over_lines self.now came over rec) }
+    {
+        let Some(to) = over else {
+            return self.drop_record(out);
+        };
+        match came {
+            Some(from) if to.0 == from.0 => self.drop_record(out),
+            _ => out.push(Line::Sent {
+                from: self.me,
+                to,
+                rec,
+            }),
+        }
     }
 
     // Answers a query where the way is known, and else remembers who asked.
     fn on_query(&mut self, from: Enclave, out: &mut Lines) -> Result<(), AllocError>
         ensures lines { OnOk result (out.new ≡ out.old ++ steps.query_lines self.old from) }
-        ensures after { OnOk result (self.new ≡ own_lines self.old (steps.query_lines self.old from)) }
+        ensures after { OnOk result ((hand : Hand) → self.new ≡ own_lines hand self.old (steps.query_lines self.old from)) }
     {
         if self.asked(from)? {
-            return out.push(Line::Sent {
-                from: self.me,
-                to: from,
-                rec: plain(self.me, Body::Here),
-            });
+            return self.send(None, Some(from), plain(self.me, Body::Here), out);
         }
         out.push(Line::Asked {
             enclave: self.me,
@@ -104,7 +125,7 @@ impl<A: AddressSpace> State<A> {
     // Learns the way, tells it to those that asked, and registers over it.
     fn on_here(&mut self, from: Enclave, out: &mut Lines) -> Result<(), AllocError>
         ensures lines { OnOk result (out.new ≡ out.old ++ steps.here_lines self.old from) }
-        ensures after { OnOk result (self.new ≡ own_lines self.old (steps.here_lines self.old from)) }
+        ensures after { OnOk result ((hand : Hand) → self.new ≡ own_lines hand self.old (steps.here_lines self.old from)) }
     {
         if !self.told(from) {
             return self.drop_record(out);
@@ -114,17 +135,13 @@ impl<A: AddressSpace> State<A> {
             over: from,
         })?;
         self.tell_askers(out)?;
-        out.push(Line::Sent {
-            from: self.me,
-            to: from,
-            rec: plain(self.me, Body::Register),
-        })
+        self.send(None, Some(from), plain(self.me, Body::Register), out)
     }
 
     // Remembers the way back. The holder of the name server admits, and another enclave passes the record on.
     fn on_register(&mut self, from: Enclave, rec: Record, out: &mut Lines) -> Result<(), AllocError>
         ensures lines { OnOk result (out.new ≡ out.old ++ steps.register_lines self.old from rec) }
-        ensures after { OnOk result (self.new ≡ own_lines self.old (steps.register_lines self.old from rec)) }
+        ensures after { OnOk result (self.new ≡ own_lines (Reads rec) self.old (steps.register_lines self.old from rec)) }
     {
         rows::<Enclave>();
         self.back(rec.origin, from)?;
@@ -134,61 +151,38 @@ impl<A: AddressSpace> State<A> {
             over: from,
         })?;
         if self.is_holder() {
-            return self.admit(rec.origin, from, out);
+            return self.admit(from, &rec, out);
         }
         let over = self.way();
-        self.pass_on(from, over, rec, out)
+        self.send(Some(from), over, rec, out)
     }
 
     // Makes the way back that was just remembered the route, and admits over it.
-    fn admit(&mut self, origin: Enclave, from: Enclave, out: &mut Lines) -> Result<(), AllocError>
-        requires { at self.old.backs origin.0 ≡ Some from }
-        ensures lines { OnOk result (out.new ≡ out.old ++ spec.admitting_lines self.old from origin) }
-        ensures after { OnOk result (self.new ≡ own_lines self.old (spec.admitting_lines self.old from origin)) }
+    fn admit(&mut self, from: Enclave, asked: &Record, out: &mut Lines) -> Result<(), AllocError>
+        requires { at self.old.ways.backs asked.now.origin.0 ≡ Some from }
+        ensures lines { OnOk result (out.new ≡ out.old ++ spec.admitting_lines self.old from asked.now.origin) }
+        ensures after { OnOk result (self.new ≡ own_lines (Reads asked.now) self.old (spec.admitting_lines self.old from asked.now.origin)) }
     {
+        let origin = asked.origin;
         self.learn(origin)?;
         out.push(Line::Route {
             enclave: self.me,
             of: origin,
             over: from,
         })?;
-        out.push(Line::Sent {
-            from: self.me,
-            to: from,
-            rec: Record {
-                origin: self.me,
-                dest: Some(origin),
-                call: 0,
-                body: Body::Admit,
-            },
-        })
-    }
-
-    // Passes a record on over a neighbour, where there is one and it isn't the one over which it came.
-    fn pass_on(
-        &mut self,
-        from: Enclave,
-        over: Option<Enclave>,
-        rec: Record,
-        out: &mut Lines,
-    ) -> Result<(), AllocError>
-        ensures lines { OnOk result (out.new ≡ out.old ++ steps.passed_lines self.old from over rec) }
-        ensures same { self.new ≡ self.old }
-    {
-        match over {
-            Some(to) if to.0 != from.0 => out.push(Line::Sent {
-                from: self.me,
-                to,
-                rec,
-            }),
-            _ => self.drop_record(out),
-        }
+        let rec = Record {
+            origin: self.me,
+            dest: Some(origin),
+            call: 0,
+            body: Body::Admit,
+        };
+        self.send(None, Some(from), rec, out)
     }
 
     // Takes its own admit, and passes another on over the way back, which becomes the route.
     fn on_admit(&mut self, from: Enclave, rec: Record, out: &mut Lines) -> Result<(), AllocError>
         ensures lines { OnOk result (out.new ≡ out.old ++ steps.admit_to self.old from rec rec.dest) }
-        ensures after { OnOk result (self.new ≡ own_lines self.old (steps.admit_to self.old from rec rec.dest)) }
+        ensures after { OnOk result (self.new ≡ own_lines (Reads rec) self.old (steps.admit_to self.old from rec rec.dest)) }
     {
         let Some(dest) = rec.dest else {
             return self.drop_record(out);
@@ -204,13 +198,13 @@ impl<A: AddressSpace> State<A> {
             of: dest,
             over,
         })?;
-        self.pass_on(from, Some(over), rec, out)
+        self.send(Some(from), Some(over), rec, out)
     }
 
     // The first admit for the enclave itself makes it ready.
     fn become_ready(&mut self, out: &mut Lines) -> Result<(), AllocError>
         ensures lines { OnOk result (out.new ≡ out.old ++ spec.ready_lines self.old) }
-        ensures after { OnOk result (self.new ≡ own_lines self.old (spec.ready_lines self.old)) }
+        ensures after { OnOk result ((hand : Hand) → self.new ≡ own_lines hand self.old (spec.ready_lines self.old)) }
     {
         if self.admitted {
             return self.drop_record(out);

@@ -3,7 +3,9 @@ ghost use Rattle.std.specs.Prelude.{◌≡◌, [], ◌∷◌, ◌++◌, false, n
 ghost use Rattle.xm_num.specs.Rows.{at, next_from, IsAscending};
 ghost use Rattle.route_learn.specs.Routes.{AreNumbers};
 ghost use Rattle.xemem_language.specs.declared.line.Line.TheVariants as lines;
-ghost use Rattle.enclave_rules.specs.View.{own_line, own_lines};
+ghost use Rattle.enclave_rules.specs.Hand.{Nothing};
+ghost use Rattle.enclave_rules.specs.View.{own_line};
+ghost use Rattle.enclave_rules.specs.Sending.{knows_way};
 ghost use Rattle.enclave_rules.specs.Steps as steps;
 ghost use Rattle.enclave_node.specs.Sides as spec;
 
@@ -19,24 +21,24 @@ use xm_num::laws::runs;
 impl<A: AddressSpace> State<A> {
     // Whether the way to the name server is known. Where it isn't, the neighbour that asks for it is remembered.
     pub fn asked(&mut self, by: Enclave) -> Result<bool, AllocError>
-        ensures known { IfOk result (λ known. known ≡ steps.knows_way self.old) }
-        ensures after { OnOk result (self.new ≡ (if steps.knows_way self.old then self.old else own_line self.old (lines.Asked self.old.me by))) }
+        ensures known { IfOk result (λ known. known ≡ knows_way self.old) }
+        ensures after { OnOk result (self.new ≡ (if knows_way self.old then self.old else own_line Nothing self.old (lines.Asked self.old.me by))) }
     {
         self.routes.asked(side_of(self.parent, by))
     }
 
     // The neighbour tells the way. Answers whether it wasn't known.
     pub fn told(&mut self, from: Enclave) -> bool
-        ensures first { result ≡ not (steps.knows_way self.old) }
-        ensures after { self.new ≡ (if steps.knows_way self.old then self.old else spec.with_way self.old from) }
+        ensures first { result ≡ not (knows_way self.old) }
+        ensures after { self.new ≡ (if knows_way self.old then self.old else spec.with_way self.old from) }
     {
         self.routes.here(side_of(self.parent, from))
     }
 
     // Takes the first of those that asked.
     pub fn next_asker(&mut self) -> Option<Enclave>
-        ensures first { result ≡ option_map (λ row. row.1) (slice_get self.old.askers 0) }
-        ensures left { self.new ≡ record self.old { askers = drop 1 self.old.askers } }
+        ensures first { result ≡ option_map (λ row. row.1) (slice_get self.old.ways.askers 0) }
+        ensures left { self.new ≡ record self.old { ways = record self.old.ways { askers = drop 1 self.old.ways.askers } } }
     {
         let asker = self.routes.next_asker()?;
         Some(enclave_of(self.parent, asker))
@@ -44,22 +46,18 @@ impl<A: AddressSpace> State<A> {
 
     // Tells the way to those that asked for it, and forgets them.
     pub fn tell_askers(&mut self, out: &mut Lines) -> Result<(), AllocError>
-        ensures lines { OnOk result (out.new ≡ out.old ++ steps.told_askers self.old self.old.askers) }
-        ensures after { OnOk result (self.new ≡ record self.old { askers = [] }) }
+        ensures lines { OnOk result (out.new ≡ out.old ++ steps.told_askers self.old self.old.ways.askers) }
+        ensures after { OnOk result (self.new ≡ record self.old { ways = record self.old.ways { askers = [] } }) }
     {
         while let Some(asker) = self.next_asker() {
-            out.push(Line::Sent {
-                from: self.me,
-                to: asker,
-                rec: plain(self.me, Body::Here),
-            })?;
+            self.send(None, Some(asker), plain(self.me, Body::Here), out)?;
         }
         Ok(())
     }
 
     // Whether the enclave holds the name server.
     pub fn is_holder(&self) -> bool
-        ensures { result ≡ self.now.holder }
+        ensures { result ≡ self.now.core.holder }
     {
         match self.routes.server() {
             Way::Own => true,
@@ -69,7 +67,7 @@ impl<A: AddressSpace> State<A> {
 
     // The neighbour over which the way to the name server goes, at an enclave that doesn't hold it.
     pub fn way(&self) -> Option<Enclave>
-        ensures { self.now.holder ≡ false → result ≡ self.now.way }
+        ensures { self.now.core.holder ≡ false → result ≡ self.now.ways.way }
     {
         match self.routes.server() {
             Way::Over(over) => Some(enclave_of(self.parent, over)),
@@ -79,15 +77,15 @@ impl<A: AddressSpace> State<A> {
 
     // Remembers over which neighbour an enclave can be answered.
     pub fn back(&mut self, of: Enclave, over: Enclave) -> Result<(), AllocError>
-        ensures { OnOk result (self.new ≡ own_line self.old (lines.Back self.old.me of over)) }
+        ensures { OnOk result (self.new ≡ own_line Nothing self.old (lines.Back self.old.me of over)) }
     {
         self.routes.back(of, side_of(self.parent, over))
     }
 
     // Makes the way back to an enclave its route, and gives it, where there is one.
     pub fn learn(&mut self, of: Enclave) -> Result<Option<Enclave>, AllocError>
-        ensures over { IfOk result (λ over. over ≡ at self.old.backs of.0) }
-        ensures after { OnOk result (self.new ≡ spec.with_route self.old of (at self.old.backs of.0)) }
+        ensures over { IfOk result (λ over. over ≡ at self.old.ways.backs of.0) }
+        ensures after { OnOk result (self.new ≡ spec.with_route self.old of (at self.old.ways.backs of.0)) }
     {
         let Some(over) = self.routes.learn(of)? else {
             return Ok(None);
@@ -112,10 +110,10 @@ impl<A: AddressSpace> State<A> {
 
     // The least enclave from that number on that has a learned route, and the neighbour over which it lies.
     fn next_route(&self, from: u16) -> Option<(Enclave, Enclave)>
-        ensures next { option_map (λ route. route.0.0) result ≡ next_from self.now.routes from }
-        ensures over { IfSome result (λ route. at self.now.routes route.0.0 ≡ Some route.1) }
-        ensures ascending { IsAscending self.now.routes }
-        ensures numbers { AreNumbers self.now.routes }
+        ensures next { option_map (λ route. route.0.0) result ≡ next_from self.now.ways.routes from }
+        ensures over { IfSome result (λ route. at self.now.ways.routes route.0.0 ≡ Some route.1) }
+        ensures ascending { IsAscending self.now.ways.routes }
+        ensures numbers { AreNumbers self.now.ways.routes }
     {
         let (of, over) = self.routes.next_route(from)?;
         Some((of, enclave_of(self.parent, over)))
@@ -123,7 +121,7 @@ impl<A: AddressSpace> State<A> {
 
     // Tells the learned routes, ascending.
     fn show_learned(&self, out: &mut Lines) -> Result<(), AllocError>
-        ensures { OnOk result (out.new ≡ out.old ++ spec.learned_lines self.now.me self.now.routes) }
+        ensures { OnOk result (out.new ≡ out.old ++ spec.learned_lines self.now.me self.now.ways.routes) }
     {
         runs::<Enclave>();
         let mut number = 0;

@@ -1,7 +1,6 @@
 use Rattle.std.proofs.Common.{◌≡◌, ◌++◌, drop}
 use Rattle.enclave_rules.specs.Steps as steps
-use Rattle.enclave_node.specs.Blocks.{facts_of}
 use Rattle.enclave_node.proofs.host.show_pool.Given as goal
 
 abbrev pub invariant-loop-number : goal.invariant-loop-number
-invariant-loop-number l = l.out ++ steps.state_lines l.number (drop l.number (facts_of l.pool)) ≡ l.initial.out ++ steps.state_lines 0 (facts_of l.pool)
+invariant-loop-number l = l.out ++ steps.state_lines l.number (drop l.number l.pool) ≡ l.initial.out ++ steps.state_lines 0 l.pool

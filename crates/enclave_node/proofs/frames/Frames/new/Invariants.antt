@@ -1,5 +1,5 @@
 use Rattle.std.proofs.Common.{◌≡◌, ◌++◌, drop}
-use Rattle.enclave_rules.specs.View.{frames_of}
+use Rattle.enclave_rules.specs.Pages.{frames_of}
 use Rattle.enclave_node.proofs.frames.Frames.new.Given as goal
 
 abbrev pub invariant-loop-block : goal.invariant-loop-block

@@ -6,5 +6,5 @@ use Rattle.enclave_node.proofs.state.State.on_register.Goals as goal
 pub admit-requires : goal.admit-requires
 admit-requires g c =
     let k = c.args.rec.origin.0 in
-    let backs = c.args.self.now.backs in
-    ap (λ v. at v.backs k) c.in_ok-back.ensures ∙ c.rows.ensures.put backs k k c.args.from ∙ ap (λ b. if b then Some c.args.from else at backs k) (eq-eqb k k refl)
+    let backs = c.args.self.now.ways.backs in
+    ap (λ v. at v.ways.backs k) c.in_ok-back.ensures ∙ c.rows.ensures.put backs k k c.args.from ∙ ap (λ b. if b then Some c.args.from else at backs k) (eq-eqb k k refl)

@@ -21,11 +21,11 @@ returns c =
     let before = node_read m.nodes at c.index.result.now c.requires.born (c.index.ensures ∙ ap (λ xs. slice_index_or xs at c.index.result.now) items) in
     let node = c.index_mut.result.now in
     let parent = node_before m.nodes born at node c.requires.born (c.index_mut.ensures.value ∙ ap (λ xs. slice_index_or xs at node) pushed) in
-    let heard : c.heard.result.now ≡ node.view.heard = c.heard.ensures ∙ ap (λ n. n.view.heard) (before ∙ sym parent) in
-    let told : c.boot.new.out ≡ args.out.now ++ birth_lines args.child args.kind args.parent args.blocks.now args.ns node.view.heard =
+    let heard : c.heard.result.now ≡ node.view.core.heard = c.heard.ensures.heard ∙ ap (λ n. n.view.core.heard) (before ∙ sym parent) in
+    let told : c.boot.new.out ≡ args.out.now ++ birth_lines args.child args.kind args.parent args.blocks.now args.ns node.view.core.heard =
     c.in_ok-node.ensures.lines ∙ ap (λ bs. args.out.now ++ birth_lines args.child args.kind args.parent bs args.ns c.heard.result.now) c.as_slice.ensures
     ∙ ap (λ es. args.out.now ++ birth_lines args.child args.kind args.parent args.blocks.now args.ns es) heard in
-    let made : born ≡ new_node args.child args.kind args.parent args.blocks.now args.ns node.view.heard =
+    let made : born ≡ new_node args.child args.kind args.parent args.blocks.now args.ns node.view.core.heard =
     c.in_ok-node.ensures.made ∙ ap (λ bs. new_node args.child args.kind args.parent bs args.ns c.heard.result.now) c.as_slice.ensures
     ∙ ap (new_node args.child args.kind args.parent args.blocks.now args.ns) heard in
     let pair = c.in_ok-pair.pair in

@@ -34,7 +34,6 @@ returns-clause-appended c =
 pub returns-clause-none : goal.returns-clause-none
 returns-clause-none c =
     let h = c.self.invariant.history (ap (λ w. w.progress) c.self.view_is ∙ c.requires) in
-    let flowing = flowing_in c.laws.ensures c.self.inside.machine c.self.inside.journal h in
-    let both = no_node _ c.self.inside.machine flowing h.shown c.args.e.0 in
+    let both = no_node _ c.self.inside.machine h.shown c.args.e.0 in
     let living : _ ≡ _ = ap (λ w. is_living_enclave ((facts_after w.journal).enclave c.args.e.0)) c.self.view_is in
     (λ none. sym living ∙ both.0 (sym c.node.ensures ∙ lent_none c.node.result none), λ dead. none_lent c.node.result (c.node.ensures ∙ both.1 (living ∙ dead)))

@@ -1,0 +1,196 @@
+-- Along every journal the way is asked for and known, registrations are at their stages, and no record is got twice.
+use Rattle.std.proofs.Common.{◌≡◌, ℕ, List, [], ◌∷◌, ◌++◌, Bool, true, false, cond, eqb, Some, refl, sym, ap, ◌∙◌, subst, arith}
+use Rattle.std.specs.List.{AllByRecursion}
+use Rattle.std.proofs.lemmas.Bool.{eqb-true, false_from_ne_true}
+use Rattle.xm_num.specs.declared.Enclave.{Enclave}
+use Rattle.xm_num.specs.declared.Block.{Block}
+use Rattle.xm_num.specs.declared.Kind.{Kind}
+use Rattle.xm_num.specs.declared.Kind.TheVariants as kinds
+use Rattle.xemem_language.specs.declared.record.Record.{Record}
+use Rattle.xemem_language.specs.declared.line.Line.{Line}
+use Rattle.xemem_language.specs.declared.line.Line.TheVariants as lines
+use Rattle.enclave_rules.specs.View.{View}
+use Rattle.enclave_rules.specs.Steps.{adopt_lines, child_lines, query_of, record_lines, told_lines}
+use Rattle.enclave_rules.specs.Core.{host}
+use Rattle.enclave_rules.specs.Sending.{knows_way}
+use Rattle.global_model.specs.Facts.{Facts, after_line, after_lines, facts_at, is_admitted}
+use Rattle.global_model.specs.Flow.{IsTree}
+use Rattle.global_model.specs.Journals.{Follows, onto}
+use Rattle.global_model.specs.Pauses.{IsPause, MayCome, MayHandle, Step, Written, Hosts, Bears, Takes, Handles, written_by}
+use Rattle.global_model.specs.Views.{view_of}
+use Rattle.discovery_laws.specs.Known.{in_flight, is_admitted_at}
+use Rattle.discovery_laws.specs.Laws.{Laws}
+use Rattle.discovery_laws.specs.Once.{IsFirstNew, OnceAt, first_onto, is_alike, records_got}
+use Rattle.xemem_language.specs.Destinations.{destination_number}
+use Rattle.xemem_wire.specs.Table.{kind_of}
+use Rattle.discovery_laws.proofs.Underway.{bounded_got, next_flight}
+use Rattle.discovery_laws.proofs.Joined.{IsJoined}
+use Rattle.discovery_laws.proofs.Marks.{IsKept, kept-trans, kept_got, kept_lines, mark, mark_kept}
+use Rattle.discovery_laws.proofs.Onces.{alike_mark, new_record}
+use Rattle.discovery_laws.proofs.Pausing.{aside_alone, none_admitted, unborn_enclave}
+use Rattle.discovery_laws.proofs.Received.{inner_record}
+use Rattle.discovery_laws.proofs.Registrations.{pause_bounded}
+use Rattle.discovery_laws.proofs.Unmoved.{AreInner, IsInner, inner_aside}
+
+-- ---- what a step leaves of what is kept
+
+inner-append : (ls ms : List Line) → AreInner ls → AreInner ms → AreInner (ls ++ ms)
+inner-append [] ms first more = more
+inner-append (l ∷ ls) ms first more = (first.0, inner-append ls ms first.1 more)
+
+inner_told : (child : Enclave) (heard : List Enclave) → AreInner (told_lines child heard)
+inner_told child [] = tt
+inner_told child (d ∷ heard) = (tt, inner_told child heard)
+
+pub inner_either : (t : Bool) (ls ms : List Line) → AreInner ls → AreInner ms → AreInner (cond t ls ms)
+inner_either true ls ms one other = one
+inner_either false ls ms one other = other
+
+pub inner_birth : (child parent : Enclave) (ns : Bool) (heard : List Enclave) (v : View)
+    → AreInner ((told_lines child heard ++ child_lines child parent ns) ++ adopt_lines v child)
+inner_birth child parent ns heard v =
+    inner-append (told_lines child heard ++ child_lines child parent ns) (adopt_lines v child)
+    (inner-append (told_lines child heard) (child_lines child parent ns) (inner_told child heard)
+    (inner_either ns (lines.Admitted child ∷ []) (lines.Sent child parent (query_of child) ∷ []) (tt, tt) (tt, tt)))
+    (inner_either (knows_way v) [] (lines.Sent v.me child (query_of v.me) ∷ []) tt (tt, tt))
+
+-- what was kept is kept by a newborn enclave too, which had nothing
+kept_born : (G : Facts) (child : Enclave) (kind : Kind) (parent : Enclave) (ns : Bool) (blocks : List Block) → IsTree G → child.0 ≡ G.born
+    → IsKept G (after_line G (lines.Born child kind parent ns blocks))
+kept_born G child kind parent ns blocks tree next = record {
+  backs = λ a d is. is;
+  routes = λ a d is. is;
+  ready = λ e is. by e (eqb e child.0) refl is;
+  got = λ test a b. omega arith;
+}
+  where
+    by : (e : ℕ) (t : Bool) → eqb e child.0 ≡ t → is_admitted_at G e ≡ true
+        → is_admitted (cond t (Some (record { kind = kind; parent = parent; blocks = blocks; ns = ns; living = true; admitted = false })) (G.enclave e)) ≡ true
+    by e true here is = absurd (
+        let none : is_admitted_at G e ≡ false
+        = none_admitted (G.enclave e) (unborn_enclave G e tree (let same = eqb-true e child.0 here in omega (arith, same, next))) in
+        let clash : true ≡ false = sym is ∙ none in
+        cc)
+    by e false there is = is
+
+pub kept_step : Laws → (G : Facts) (step : Step) → IsPause G → MayCome G step → IsKept G (after_lines G (written_by G step))
+kept_step laws G (Written line) pause may = kept_lines laws.row G (line ∷ []) (inner_aside line 0 (aside_alone G line 0 may.1), tt) (pause_bounded G pause)
+kept_step laws G (Takes x y count) pause may = kept_lines laws.row G (lines.Took x y count ∷ []) (tt, tt) (pause_bounded G pause)
+kept_step laws G (Handles x y r) pause may =
+    let G1 = after_line G (lines.Got x y) in
+    let next = next_flight G x.0 y.0 r may.others may.next in
+    kept-trans G G1 (after_lines G1 (record_lines (view_of G y) x r)) (kept_got G x y)
+    (kept_lines laws.row G1 (record_lines (view_of G y) x r) (inner_record (view_of G y) x r)
+    (bounded_got G x y r next.others next.is (pause_bounded G pause)))
+kept_step laws G (Hosts ns blocks) pause may =
+    let G1 = after_line G (lines.Born host kinds.Host host ns blocks) in
+    let more = cond ns (lines.Admitted host ∷ []) [] in
+    kept-trans G G1 (after_lines G1 more) (kept_born G host kinds.Host host ns blocks pause.tree may.1.next)
+    (kept_lines laws.row G1 more (inner_either ns (lines.Admitted host ∷ []) [] (tt, tt) tt) (pause_bounded G pause))
+kept_step laws G (Bears child kind parent ns blocks) pause may =
+    let G1 = after_line G (lines.Born child kind parent ns blocks) in
+    let v = view_of G parent in
+    let more = (told_lines child (G.heard parent.0) ++ child_lines child parent ns) ++ adopt_lines v child in
+    kept-trans G G1 (after_lines G1 more) (kept_born G child kind parent ns blocks pause.tree may.1.next)
+    (kept_lines laws.row G1 more (inner_birth child parent ns (G.heard parent.0) v) (pause_bounded G pause))
+
+-- ---- the records that were got
+
+-- a line that gets no record
+abbrev pub IsGotless : Line → Type 0
+IsGotless (lines.Got x y) = ⊥
+IsGotless line = Unit {0}
+
+abbrev pub AreGotless : List Line → Type 0
+AreGotless journal = AllByRecursion IsGotless journal
+
+gotless_inner : (line : Line) → IsInner line → IsGotless line
+gotless_inner (lines.Born e kind parent ns blocks) inner = tt
+gotless_inner (lines.Got x y) inner = inner
+gotless_inner _ inner = tt
+
+pub all_gotless : (ls : List Line) → AreInner ls → AreGotless ls
+all_gotless [] inner = tt
+all_gotless (l ∷ ls) inner = (gotless_inner l inner.0, all_gotless ls inner.1)
+
+same_got_line : (y : ℕ) (line : Line) (past : List Line) → IsGotless line → records_got y (line ∷ past) ≡ records_got y past
+same_got_line y (lines.Got x z) past none = absurd none
+same_got_line y _ past none = refl
+
+same_got : (y : ℕ) (ls past : List Line) → AreGotless ls → records_got y (onto ls past) ≡ records_got y past
+same_got y [] past none = refl
+same_got y (l ∷ ls) past none = same_got y ls (l ∷ past) none.1 ∙ same_got_line y l past none.0
+
+once_line : (line : Line) (past : List Line) → IsGotless line → OnceAt past line
+once_line (lines.Got x z) past none = absurd none
+once_line _ past none = tt
+
+once_lines : (ls past : List Line) → AreGotless ls → Follows OnceAt past ls
+once_lines [] past none = tt
+once_lines (l ∷ ls) past none = (once_line l past none.0, once_lines ls (l ∷ past) none.1)
+
+-- all of them are kept
+abbrev pub AreMarked : Facts → ℕ → List Record → Type 0
+AreMarked G y rs = AllByRecursion (λ q. mark G y q ≡ true) rs
+
+marked_kept : (G H : Facts) (y : ℕ) (rs : List Record) → IsKept G H → AreMarked G y rs → AreMarked H y rs
+marked_kept G H y [] kept all = tt
+marked_kept G H y (r ∷ rs) kept all = (mark_kept G H y (kind_of r.body) r.origin.0 (destination_number r.dest) kept all.0, marked_kept G H y rs kept all.1)
+
+-- a record of which nothing is kept is like none of them
+unlike : (G : Facts) (y : ℕ) (r : Record) (rs : List Record) → mark G y r ≡ false → AreMarked G y rs → AllByRecursion (λ q. is_alike r q ≡ false) rs
+unlike G y r [] none all = tt
+unlike G y r (q ∷ rs) none all = (
+  false_from_ne_true (is_alike r q) (λ is.
+      let clash : false ≡ true = sym none ∙ alike_mark G y r q is ∙ all.0 in
+      cc),
+  unlike G y r rs none all.1,
+)
+
+-- ---- steps
+
+-- discovery has gone as it is to, up to a pause
+pub record IsDiscovered (past : List Line) : Type 0 where
+  pub joined : IsJoined (facts_at past)
+  pub got : (y : ℕ) → AreMarked (facts_at past) y (records_got y past)
+
+pub record GoesOn (past ls : List Line) : Type 0 where
+  pub once : Follows OnceAt past ls
+  pub got : (y : ℕ) → AreMarked (after_lines (facts_at past) ls) y (records_got y (onto ls past))
+
+pub goes_gotless : (past ls : List Line) → AreGotless ls → IsKept (facts_at past) (after_lines (facts_at past) ls) → IsDiscovered past → GoesOn past ls
+goes_gotless past ls none kept old = record {
+  once = once_lines ls past none;
+  got = λ y. subst (AreMarked (after_lines (facts_at past) ls) y) (sym (same_got y ls past none))
+      (marked_kept (facts_at past) (after_lines (facts_at past) ls) y (records_got y past) kept (old.got y));
+}
+
+pub goes_handled : Laws → (past : List Line) (x y : Enclave) (r : Record) → IsPause (facts_at past) → MayHandle (facts_at past) x y r → IsDiscovered past
+    → IsKept (facts_at past) (after_lines (facts_at past) (lines.Got x y ∷ record_lines (view_of (facts_at past) y) x r))
+    → GoesOn past (lines.Got x y ∷ record_lines (view_of (facts_at past) y) x r)
+goes_handled laws past x y r pause may old kept =
+    let G = facts_at past in
+    let own = record_lines (view_of G y) x r in
+    let inner = all_gotless own (inner_record (view_of G y) x r) in
+    let new = new_record laws G x y r pause may old.joined.asked old.joined.registered in
+    let next = next_flight G x.0 y.0 r may.others may.next in
+    record {
+      once = (
+        subst (λ rs. IsFirstNew rs (records_got y.0 past)) (sym next.is) (unlike G y.0 r (records_got y.0 past) new.before (old.got y.0)),
+        once_lines own (lines.Got x y ∷ past) inner,
+      );
+      got = λ e. subst (AreMarked (after_lines G (lines.Got x y ∷ own)) e) (sym (same_got e own (lines.Got x y ∷ past) inner))
+          (by e (eqb y.0 e) refl new.after next.is (marked_kept G (after_lines G (lines.Got x y ∷ own)) e (records_got e past) kept (old.got e)));
+    }
+  where
+    by : (e : ℕ) (t : Bool) → eqb y.0 e ≡ t
+        → mark (after_lines (facts_at past) (lines.Got x y ∷ record_lines (view_of (facts_at past) y) x r)) y.0 r ≡ true
+        → in_flight (facts_at past) x.0 y.0 ≡ r ∷ (next_flight (facts_at past) x.0 y.0 r may.others may.next).others
+        → AreMarked (after_lines (facts_at past) (lines.Got x y ∷ record_lines (view_of (facts_at past) y) x r)) e (records_got e past)
+        → AreMarked (after_lines (facts_at past) (lines.Got x y ∷ record_lines (view_of (facts_at past) y) x r)) e
+        (cond t (first_onto (in_flight (facts_at past) x.0 y.0) (records_got e past)) (records_got e past))
+    by e true here new flight all = rw flight (
+      ap (λ n. mark (after_lines (facts_at past) (lines.Got x y ∷ record_lines (view_of (facts_at past) y) x r)) n r) (sym (eqb-true y.0 e here)) ∙ new,
+      all,
+    )
+    by e false other new flight all = all

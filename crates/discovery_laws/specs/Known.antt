@@ -1,0 +1,41 @@
+-- What enclaves know of ways, read off the facts.
+use Rattle.std.specs.Prelude.{ℕ, List, drop, Bool, ◌||◌, Option, is_some}
+use Rattle.xm_num.specs.declared.Enclave.{Enclave}
+use Rattle.xm_num.specs.Rows.{at}
+use Rattle.xemem_language.specs.declared.record.Record.{Record}
+use Rattle.global_model.specs.Facts.{Facts, is_admitted, is_holder}
+
+-- the neighbour over which the enclave's way to the name server goes
+abbrev pub way_of : Facts → ℕ → Option Enclave
+way_of G e = (G.ways e).way
+
+-- those that asked it for the way and weren't answered, by their places
+abbrev pub askers_of : Facts → ℕ → List (ℕ × Enclave)
+askers_of G e = (G.ways e).askers
+
+-- the neighbours over which the enclave answers other ones, and over which these lie, by their numbers
+abbrev pub backs_of : Facts → ℕ → List (ℕ × Enclave)
+backs_of G e = (G.ways e).backs
+
+abbrev pub routes_of : Facts → ℕ → List (ℕ × Enclave)
+routes_of G e = (G.ways e).routes
+
+abbrev pub back_of : Facts → ℕ → ℕ → Option Enclave
+back_of G e d = at (backs_of G e) d
+
+abbrev pub route_of : Facts → ℕ → ℕ → Option Enclave
+route_of G e d = at (routes_of G e) d
+
+abbrev pub holds : Facts → ℕ → Bool
+holds G e = is_holder (G.enclave e)
+
+-- it holds the name server, or knows the way to it
+abbrev pub knows : Facts → ℕ → Bool
+knows G e = holds G e || is_some (way_of G e)
+
+abbrev pub is_admitted_at : Facts → ℕ → Bool
+is_admitted_at G e = is_admitted (G.enclave e)
+
+-- the records that were sent from one to another and weren't got
+abbrev pub in_flight : Facts → ℕ → ℕ → List Record
+in_flight G x y = drop (G.channel x y).got (G.channel x y).sent

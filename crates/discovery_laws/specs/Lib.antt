@@ -1,0 +1,4 @@
+pub mod Known
+pub mod Once
+pub mod Laws
+pub mod Ways
