@@ -1,9 +1,9 @@
 -- What enclaves know of ways, read off the facts.
-use Rattle.std.specs.Prelude.{ℕ, List, drop, Bool, ◌||◌, Option, is_some}
+use Rattle.std.specs.Prelude.{◌≡◌, ℕ, List, drop, Bool, true, ◌||◌, Option, is_some}
 use Rattle.xm_num.specs.declared.Enclave.{Enclave}
 use Rattle.xm_num.specs.Rows.{at}
 use Rattle.xemem_language.specs.declared.record.Record.{Record}
-use Rattle.global_model.specs.Facts.{Facts, is_admitted, is_holder}
+use Rattle.global_model.specs.Facts.{Facts, is_admitted, is_holder, lives_at}
 
 -- the neighbour over which the enclave's way to the name server goes
 abbrev pub way_of : Facts → ℕ → Option Enclave
@@ -35,6 +35,10 @@ knows G e = holds G e || is_some (way_of G e)
 
 abbrev pub is_admitted_at : Facts → ℕ → Bool
 is_admitted_at G e = is_admitted (G.enclave e)
+
+-- each enclave that lives knows the way to the name server, and is admitted
+abbrev pub AreAdmitted : Facts → Type 0
+AreAdmitted G = (e : ℕ) → lives_at G e ≡ true → (knows G e ≡ true) × (is_admitted_at G e ≡ true)
 
 -- the records that were sent from one to another and weren't got
 abbrev pub in_flight : Facts → ℕ → ℕ → List Record

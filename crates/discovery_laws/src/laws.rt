@@ -2,11 +2,11 @@
 ghost use Rattle.std.specs.Prelude.{◌≡◌, ◌≤◌, ℕ, List, true};
 ghost use Rattle.xemem_language.specs.declared.command.Command.{Command as Commands};
 ghost use Rattle.global_model.specs.Due.{journal_of};
-ghost use Rattle.global_model.specs.Facts.{after_lines, facts_after, is_living_enclave, no_facts};
+ghost use Rattle.global_model.specs.Facts.{after_lines, facts_after, no_facts};
 ghost use Rattle.global_model.specs.Pauses.{AreSteps, Step, written_in};
 ghost use Rattle.global_model.specs.Place.{IsPlaced};
 ghost use Rattle.global_model.specs.Rest.{IsAtRest};
-ghost use Rattle.discovery_laws.specs.Known.{is_admitted_at, knows};
+ghost use Rattle.discovery_laws.specs.Known.{AreAdmitted};
 ghost use Rattle.discovery_laws.specs.Laws.{Laws};
 ghost use Rattle.discovery_laws.specs.Ways.{IsLeading, ways_in};
 ghost use Rattle.discovery_laws.specs.Once.{IsOnce};
@@ -57,12 +57,8 @@ pub fn records_come_once()
 /// Where nothing waits in any channel, and an enclave was born with the name server, each living enclave knows the way to it and is
 /// admitted.
 pub fn rest_is_admitted()
-    ensures knows { (commands : List Commands) → IsPlaced commands → IsAtRest (facts_after (journal_of commands))
-        → (facts_after (journal_of commands)).server ≡ true → (e : ℕ)
-        → is_living_enclave ((facts_after (journal_of commands)).enclave e) ≡ true → knows (facts_after (journal_of commands)) e ≡ true }
-    ensures admitted { (commands : List Commands) → IsPlaced commands → IsAtRest (facts_after (journal_of commands))
-        → (facts_after (journal_of commands)).server ≡ true → (e : ℕ)
-        → is_living_enclave ((facts_after (journal_of commands)).enclave e) ≡ true → is_admitted_at (facts_after (journal_of commands)) e ≡ true }
+    ensures { (commands : List Commands) → IsPlaced commands → IsAtRest (facts_after (journal_of commands))
+        → (facts_after (journal_of commands)).server ≡ true → AreAdmitted (facts_after (journal_of commands)) }
 {
     laws();
 }

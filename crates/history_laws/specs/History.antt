@@ -1,11 +1,13 @@
--- Journals as histories: legal, carried, told, rested and whole.
-use Rattle.std.specs.Prelude.{◌≡◌, List, [], None, Some}
+-- Journals as histories: legal, carried, told, rested, found and whole.
+use Rattle.std.specs.Prelude.{◌≡◌, ◌++◌, List, [], None, Some, true}
 use Rattle.xemem_language.specs.declared.line.Line.{Line}
 use Rattle.xemem_language.specs.declared.line.Line.TheVariants as lines
 use Rattle.global_model.specs.Carriage.{IsCarried}
 use Rattle.global_model.specs.Due.{due_line}
 use Rattle.global_model.specs.Journals.{Follows, onto}
-use Rattle.global_model.specs.Rest.{IsRested}
+use Rattle.global_model.specs.Facts.{facts_after}
+use Rattle.global_model.specs.Rest.{IsAtRest, IsRested}
+use Rattle.discovery_laws.specs.Known.{AreAdmitted}
 use Rattle.history_laws.specs.Lawful.{IsLegalAt}
 
 -- told: a `do` line stands where nothing is due, and every other line is the one that is due
@@ -23,9 +25,16 @@ IsTold journal = Follows IsDueAt [] journal
 abbrev pub IsWhole : List Line → Type 0
 IsWhole journal = due_line (onto journal []) ≡ None
 
+-- found: wherever nothing is due and nothing waits, and an enclave was born with the name server, each that lives is admitted and
+-- knows the way to it
+abbrev pub IsFound : List Line → Type 0
+IsFound journal = (front rest : List Line) → journal ≡ front ++ rest → IsWhole front → IsAtRest (facts_after front)
+    → (facts_after front).server ≡ true → AreAdmitted (facts_after front)
+
 -- a lawful history
 pub record IsHistory (journal : List Line) : Type 0 where
   pub legal : IsLegal journal
   pub carried : IsCarried journal
   pub told : IsTold journal
   pub rested : IsRested journal
+  pub found : IsFound journal

@@ -15,6 +15,7 @@ ghost use Rattle.history_laws.specs.Ways.{way_heard, back_heard, route_heard};
 ghost use Rattle.history_laws.specs.Counts.{IsLimited, births_in, starts_in, starts_by, has_server};
 ghost use Rattle.history_laws.specs.Laws.{Laws};
 
+use discovery_laws::rest_is_admitted;
 use global_model::{
     acts_are_plain, journals_are_apt, journals_are_carried, journals_are_rested, journals_grow,
     pasts_grow, refusals_come_first,
@@ -64,6 +65,8 @@ pub fn journals_are_histories()
     journals_are_legal();
     journals_are_carried();
     journals_are_rested();
+    rest_is_admitted();
+    laws();
 }
 
 /// A front of a lawful history is one, wherever it ends.

@@ -12,7 +12,7 @@ use Rattle.global_model.specs.Due.{journal_of}
 use Rattle.xemem_language.specs.Spelling.{text_of}
 use Rattle.global_model.specs.Journals.{do_commands}
 use Rattle.history_laws.specs.Fitting.{IsCountable}
-use Rattle.history_laws.specs.History.{IsHistory}
+use Rattle.history_laws.specs.History.{IsFound, IsHistory}
 use Rattle.scenario_text.specs.Reading.{IsReadAs}
 use Rattle.scenario_text.specs.Typed.{IsTyped}
 use Rattle.scenario_text.specs.Words.{lines_of}
@@ -271,12 +271,17 @@ too_long which bytes written run short =
 
 -- ---- nothing done
 
+-- there is no holder yet
+none_found : IsFound []
+none_found [] behind is whole still server = cc
+none_found (l ∷ ls) behind is whole still server = cc
+
 pub no_run : (bytes : List ℕ) → IsRunSoFar bytes []
 no_run bytes = record {
   journal = [];
   text = refl;
   read = refl;
   commands = record { rest = (scenario_of bytes).commands; is = refl };
-  history = record { legal = tt; carried = tt; told = tt; rested = tt };
+  history = record { legal = tt; carried = tt; told = tt; rested = tt; found = none_found };
   whole = refl;
 }

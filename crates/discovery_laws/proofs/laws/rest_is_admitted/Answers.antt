@@ -5,11 +5,10 @@ use Rattle.discovery_laws.proofs.Joined.{admitted_at_rest}
 use Rattle.discovery_laws.proofs.Journals.{journal_of-joined}
 use Rattle.discovery_laws.proofs.laws.rest_is_admitted.Goals as goal
 
-pub returns-clause-knows : goal.returns-clause-knows
-returns-clause-knows c = λ commands placed rest. knows_at_rest (facts_after (journal_of commands))
-    (c.laws.ensures.journal.flowing commands placed) (journal_of-joined c.laws.ensures commands placed).asked rest
-
-pub returns-clause-admitted : goal.returns-clause-admitted
-returns-clause-admitted c = λ commands placed rest. admitted_at_rest (facts_after (journal_of commands))
-    (c.laws.ensures.journal.flowing commands placed) (journal_of-joined c.laws.ensures commands placed).asked.known.uncut rest
-    (journal_of-joined c.laws.ensures commands placed)
+pub returns : goal.returns
+returns c = λ commands placed rest server e lives.
+    let flowing = c.laws.ensures.journal.flowing commands placed in
+    let joined = journal_of-joined c.laws.ensures commands placed in (
+      knows_at_rest (facts_after (journal_of commands)) flowing joined.asked rest server e lives,
+      admitted_at_rest (facts_after (journal_of commands)) flowing joined.asked.known.uncut rest joined server e lives,
+    )

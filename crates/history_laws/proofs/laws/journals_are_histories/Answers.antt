@@ -1,3 +1,4 @@
+use Rattle.history_laws.proofs.Fronts.{found_journal}
 use Rattle.history_laws.proofs.laws.journals_are_histories.Goals as goal
 
 pub returns : goal.returns
@@ -6,4 +7,5 @@ returns c = λ commands placed. record {
   carried = c.journals_are_carried.ensures.carried commands placed;
   told = c.one_journal.ensures.told commands;
   rested = c.journals_are_rested.ensures commands placed;
+  found = found_journal c.laws.ensures c.rest_is_admitted.ensures commands placed (c.one_journal.ensures.told commands);
 }
