@@ -85,6 +85,7 @@ alike_took G x y n = record {
 abbrev pub IsCalm : Line → Type 0
 IsCalm (lines.Born e kind parent ns blocks) = ⊥
 IsCalm (lines.Told e of) = ⊥
+IsCalm (lines.Heard e of) = ⊥
 IsCalm (lines.Got x y) = ⊥
 IsCalm (lines.Asked e by) = ⊥
 IsCalm (lines.Way e over) = ⊥
@@ -144,6 +145,7 @@ still_same G H leaves born server enclaves channels heard = record {
 pub calm_line : (laws : TreeLaws) (owed : ℕ → ℕ → ℕ) (G : Facts) (line : Line) → IsCalm line → IsAsking owed G → IsAsking owed (after_line G line)
 calm_line laws owed G (lines.Born e kind parent ns blocks) calm old = absurd calm
 calm_line laws owed G (lines.Told e of) calm old = absurd calm
+calm_line laws owed G (lines.Heard e of) calm old = absurd calm
 calm_line laws owed G (lines.Got x y) calm old = absurd calm
 calm_line laws owed G (lines.Asked e by) calm old = absurd calm
 calm_line laws owed G (lines.Way e over) calm old = absurd calm
@@ -169,6 +171,7 @@ calm_lines laws owed (l ∷ ls) G calm old = calm_lines laws owed ls (after_line
 pub calm_alone : (G : Facts) (line : Line) → MayStandAlone G line → IsCalm line
 calm_alone G (lines.Born e kind parent ns blocks) may = may
 calm_alone G (lines.Told e of) may = may
+calm_alone G (lines.Heard e of) may = may
 calm_alone G (lines.Got x y) may = may
 calm_alone G (lines.Asked e by) may = may
 calm_alone G (lines.Way e over) may = may

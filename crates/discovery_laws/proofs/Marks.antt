@@ -169,6 +169,7 @@ kept_line rows G (lines.Sent x y r) inner bounded = record {
   got = λ test a b. at_pair_kept (λ c c'. count test (got_of c) ≤ count test (got_of c')) x.0 y.0 (with_sent r) G.channel a b
       (rw (take-behind (G.channel a b).got (G.channel a b).sent r (bounded a b)) (omega arith)) (omega arith);
 }
+kept_line rows G (lines.Heard e of) inner bounded = absurd inner
 kept_line rows G (lines.Got x y) inner bounded = absurd inner
 kept_line rows G (lines.Took x y n) inner bounded = record {
   backs = λ a d is. is;

@@ -29,6 +29,7 @@ use Rattle.discovery_laws.proofs.Registrations.{handled, pause_bounded, register
 
 pub aside_alone : (G : Facts) (line : Line) (d : ℕ) → MayStandAlone G line → IsAside d line
 aside_alone G (lines.Born e kind parent ns blocks) d may = may
+aside_alone G (lines.Heard e of) d may = may
 aside_alone G (lines.Got x y) d may = may
 aside_alone G (lines.Sent x y r) d may = absurd may
 aside_alone G (lines.Way e over) d may = absurd may

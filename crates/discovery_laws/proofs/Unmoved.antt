@@ -103,6 +103,7 @@ staged_stays parent born G H d stage same staged = record {
 -- the line says nothing of d
 abbrev pub IsAside : ℕ → Line → Type 0
 IsAside d (lines.Born e kind parent ns blocks) = ⊥
+IsAside d (lines.Heard e of) = ⊥
 IsAside d (lines.Got x y) = ⊥
 IsAside d (lines.Sent x y r) = is_about d r ≡ false
 IsAside d (lines.Way e over) = e.0 ≢ d
@@ -222,6 +223,7 @@ unmoved_took G x y count d = record {
 
 pub unmoved_line : RowLaws → (G : Facts) (line : Line) (d : ℕ) → IsBounded G → IsAside d line → IsUnmoved G (after_line G line) d
 unmoved_line rows G (lines.Born e kind parent ns blocks) d bounded aside = absurd aside
+unmoved_line rows G (lines.Heard e of) d bounded aside = absurd aside
 unmoved_line rows G (lines.Got x y) d bounded aside = absurd aside
 unmoved_line rows G (lines.Sent x y r) d bounded aside = unmoved_sent G x y r d bounded aside
 unmoved_line rows G (lines.Way e over) d bounded aside = unmoved_way G e over d aside
@@ -245,9 +247,10 @@ unmoved_line rows G (lines.Do (commands.Pool blocks)) d bounded aside =
     unmoved_by G (after_line G (lines.Do (commands.Pool blocks))) d (λ a b. refl) (λ e. refl) (λ e. refl) (λ e. refl) (λ e. refl)
 unmoved_line rows G line d bounded aside = unmoved_by G (after_line G line) d (λ a b. refl) (λ e. refl) (λ e. refl) (λ e. refl) (λ e. refl)
 
--- a line within a step: it bears no enclave and gets no record
+-- a line within a step: it bears no enclave, hears of no death and gets no record
 abbrev pub IsInner : Line → Type 0
 IsInner (lines.Born e kind parent ns blocks) = ⊥
+IsInner (lines.Heard e of) = ⊥
 IsInner (lines.Got x y) = ⊥
 IsInner line = Unit {0}
 
@@ -256,6 +259,7 @@ AreInner journal = AllByRecursion IsInner journal
 
 pub inner_aside : (line : Line) (d : ℕ) → IsAside d line → IsInner line
 inner_aside (lines.Born e kind parent ns blocks) d aside = aside
+inner_aside (lines.Heard e of) d aside = aside
 inner_aside (lines.Got x y) d aside = aside
 inner_aside _ d aside = tt
 
@@ -265,6 +269,7 @@ inner_all (l ∷ ls) d aside = (inner_aside l d aside.0, inner_all ls d aside.1)
 
 pub bounded_line : (G : Facts) (line : Line) → IsBounded G → IsInner line → IsBounded (after_line G line)
 bounded_line G (lines.Born e kind parent ns blocks) bounded inner = absurd inner
+bounded_line G (lines.Heard e of) bounded inner = absurd inner
 bounded_line G (lines.Got x y) bounded inner = absurd inner
 bounded_line G (lines.Sent x y r) bounded inner = bounded_sent G x y r bounded
 bounded_line G (lines.Took x y count) bounded inner = λ a b. by a b (eqb a x.0 && eqb b y.0)

@@ -34,10 +34,11 @@ use Rattle.discovery_laws.proofs.Asking.{is_query_body, is_here_body}
 use Rattle.discovery_laws.proofs.Calm.{IsCalm, AreCalm, calm_alone}
 use Rattle.discovery_laws.proofs.Answered.{calm_body}
 
--- ---- lines by which no way is learned
+-- ---- lines by which no way is learned and no death heard
 
 abbrev IsWayless : Line → Type 0
 IsWayless (lines.Way e over) = ⊥
+IsWayless (lines.Heard e of) = ⊥
 IsWayless line = Unit {0}
 
 abbrev AreWayless : List Line → Type 0
@@ -53,6 +54,7 @@ wayless_either false ls ms left right = right
 
 calm_wayless : (line : Line) → IsCalm line → IsWayless line
 calm_wayless (lines.Way e over) calm = calm
+calm_wayless (lines.Heard e of) calm = calm
 calm_wayless line calm = tt
 
 all_wayless : (ls : List Line) → AreCalm ls → AreWayless ls
@@ -66,6 +68,7 @@ record IsTold (G : Facts) (e : ℕ) (ls : List Line) : Type 0 where
 
 wayless_line : (G : Facts) (e : ℕ) (line : Line) → IsWayless line → (is_way_line e line ≡ false) × (way_of (after_line G line) e ≡ way_of G e)
 wayless_line G e (lines.Way of over) none = absurd none
+wayless_line G e (lines.Heard of dead) none = absurd none
 wayless_line G e (lines.Do (commands.Pool blocks)) none = (refl, refl)
 wayless_line G e (lines.Asked of by) none = (refl, asked_leaves G of by e)
 wayless_line G e (lines.Back of d over) none = (refl, (back_leaves G of d over).way e)

@@ -53,6 +53,7 @@ abbrev pub core_line : ℕ → CoreView → Line → CoreView
 core_line e c (lines.Born child kind parent ns blocks) =
     if child.0 == e then as_born kind parent ns blocks c else (if parent.0 == e then with_child child kind c else c)
 core_line e c (lines.Told of dead) = record c { heard = with_death dead c.heard }
+core_line e c (lines.Heard of dead) = record c { heard = with_death dead c.heard }
 core_line e c (lines.Admitted of) = record c { admitted = true }
 core_line e c line = c
 

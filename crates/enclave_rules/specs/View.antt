@@ -38,10 +38,12 @@ abbrev pub born_line : View → Line → View
 born_line v line =
     record v { core = core_line v.me.0 v.core line; host = if v.me.0 == 0 then host_line v.host line else v.host }
 
--- what a line at the enclave changes in its view, by what is at hand: each line is of one layer
+-- what a line at the enclave changes in its view, by what is at hand: each line but of a death that is heard is of one layer
 abbrev pub own_line : Hand → View → Line → View
 own_line hand v (lines.Born child kind parent ns blocks) = born_line v (lines.Born child kind parent ns blocks)
 own_line hand v (lines.Told e of) = record v { core = core_line v.me.0 v.core (lines.Told e of) }
+own_line hand v (lines.Heard e of) =
+    record v { core = core_line v.me.0 v.core (lines.Heard e of); ways = ways_line v.core.parent v.ways (lines.Heard e of) }
 own_line hand v (lines.Admitted e) = record v { core = core_line v.me.0 v.core (lines.Admitted e) }
 own_line hand v (lines.Asked e by) = record v { ways = ways_line v.core.parent v.ways (lines.Asked e by) }
 own_line hand v (lines.Way e over) = record v { ways = ways_line v.core.parent v.ways (lines.Way e over) }
@@ -60,6 +62,7 @@ own_lines hand v (line ∷ journal) = own_lines hand (own_line hand v line) jour
 abbrev pub writer_of : Line → Option Enclave
 writer_of (lines.Born child kind parent ns blocks) = Some child
 writer_of (lines.Told of dead) = Some of
+writer_of (lines.Heard of dead) = Some of
 writer_of (lines.Admitted of) = Some of
 writer_of (lines.Proc of p uid gid) = Some of
 writer_of (lines.Alloc of p page frames) = Some of
@@ -106,6 +109,7 @@ IsAbout y (lines.Took a b count) = ⊥
 IsAbout y (lines.Got a b) = ⊥
 IsAbout y (lines.End a b torn) = ⊥
 IsAbout y (lines.Told e dead) = e ≡ y
+IsAbout y (lines.Heard e dead) = e ≡ y
 IsAbout y (lines.Admitted e) = e ≡ y
 IsAbout y (lines.Proc e p uid gid) = e ≡ y
 IsAbout y (lines.Alloc e p page frames) = e ≡ y

@@ -1,7 +1,7 @@
 -- What an enclave knows of ways.
 use Rattle.std.specs.Prelude.{◌+◌, ℕ, List, [], ◌==◌, if◌then◌else◌, Option, None, Some}
 use Rattle.xm_num.specs.declared.Enclave.{Enclave}
-use Rattle.xm_num.specs.Rows.{put}
+use Rattle.xm_num.specs.Rows.{less, put}
 use Rattle.xemem_language.specs.declared.line.Line.{Line}
 use Rattle.xemem_language.specs.declared.line.Line.TheVariants as lines
 
@@ -26,4 +26,5 @@ ways_line parent w (lines.Asked e by) = record w { askers = put w.askers (place_
 ways_line parent w (lines.Way e over) = record w { way = Some over; askers = [] }
 ways_line parent w (lines.Back e of over) = record w { backs = put w.backs of.0 over }
 ways_line parent w (lines.Route e of over) = record w { routes = put w.routes of.0 over }
+ways_line parent w (lines.Heard e dead) = record w { backs = less w.backs dead.0; routes = less w.routes dead.0 }
 ways_line parent w line = w

@@ -49,6 +49,7 @@ pub shown_line : (G : Facts) (line : Line) (k : Enclave) → IsLater line → Is
 shown_line G (lines.Do (commands.Pool blocks)) k later sound apt = absurd later
 shown_line G (lines.Born e kind parent ns blocks) k later sound apt = shown_born G e kind parent ns blocks sound apt k
 shown_line G (lines.Told e of) k later sound apt = absurd apt
+shown_line G (lines.Heard e of) k later sound apt = absurd apt
 shown_line G (lines.Admitted e) k later sound apt = shown_admitted G e k apt
 shown_line G (lines.Proc e p uid gid) k later sound apt = memory_shown G e k (lines.Proc e p uid gid)
 shown_line G (lines.Alloc e p page frames) k later sound apt = memory_shown G e k (lines.Alloc e p page frames)

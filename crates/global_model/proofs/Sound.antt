@@ -245,6 +245,7 @@ sound_line G (lines.Do (commands.Pool blocks)) sound apt = sound_pool G blocks s
 sound_line G (lines.Do _) sound apt = sound_hand G _ sound
 sound_line G (lines.Born e kind parent ns blocks) sound apt = sound_born G e kind parent ns blocks sound apt
 sound_line G (lines.Told e dead) sound apt = absurd apt
+sound_line G (lines.Heard e dead) sound apt = absurd apt
 sound_line G (lines.Admitted e) sound apt = sound_admitted G e sound
 sound_line G (lines.Proc e p uid gid) sound apt =
     sound_memory G e _ (G.starts + 1) sound (living_born G e.0 sound.tree apt.0) (owns_start G.block e.0 p.0 uid gid ((G.memory e.0).started + 1) (G.memory e.0) (sound.owned e.0))

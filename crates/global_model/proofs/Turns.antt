@@ -72,6 +72,7 @@ abbrev pub IsProper : (ℕ → ℕ → Bool) → (ℕ → Bool) → Line → Typ
 IsProper near lives (lines.Do command) = ⊥
 IsProper near lives (lines.Born e kind parent ns blocks) = ⊥
 IsProper near lives (lines.Told e dead) = ⊥
+IsProper near lives (lines.Heard e dead) = ⊥
 IsProper near lives (lines.Proc e p uid gid) = ⊥
 IsProper near lives (lines.Alloc e p page frames) = ⊥
 IsProper near lives (lines.Took x y count) = ⊥
@@ -127,6 +128,7 @@ module _ (near : ℕ → ℕ → Bool) (lives : ℕ → Bool) (x y : ℕ) (rs : 
   proper_line (lines.Do command) G proper turn = absurd proper
   proper_line (lines.Born e kind parent ns blocks) G proper turn = absurd proper
   proper_line (lines.Told e dead) G proper turn = absurd proper
+  proper_line (lines.Heard e dead) G proper turn = absurd proper
   proper_line (lines.Proc e p uid gid) G proper turn = absurd proper
   proper_line (lines.Alloc e p page frames) G proper turn = absurd proper
   proper_line (lines.Took a b count) G proper turn = absurd proper

@@ -74,6 +74,7 @@ abbrev pub IsApt : Facts → Line → Type 0
 IsApt G (lines.Do command) = IsAptCommand G command
 IsApt G (lines.Born e kind parent ns blocks) = IsBirth G e kind parent ns blocks
 IsApt G (lines.Told e dead) = ⊥
+IsApt G (lines.Heard e dead) = ⊥
 IsApt G (lines.Admitted e) = is_living_enclave (G.enclave e.0) ≡ true
 IsApt G (lines.Proc e p uid gid) = (is_living_enclave (G.enclave e.0) ≡ true) × (p.0 ≡ (G.memory e.0).started + 1)
 IsApt G (lines.Alloc e p page frames) = IsOwning G e p frames

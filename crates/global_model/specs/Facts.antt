@@ -138,6 +138,7 @@ after_line G (lines.Born e kind parent ns blocks) = record G {
   enclave = at_number e.0 (Some (record { kind = kind; parent = parent; blocks = blocks; ns = ns; living = true; admitted = false })) G.enclave;
 }
 after_line G (lines.Told e dead) = record G { heard = at_number e.0 (with_death dead (G.heard e.0)) G.heard }
+after_line G (lines.Heard e dead) = record (with_ways e (lines.Heard e dead) G) { heard = at_number e.0 (with_death dead (G.heard e.0)) G.heard }
 after_line G (lines.Admitted e) = record G { enclave = at_number e.0 (as_admitted (G.enclave e.0)) G.enclave }
 after_line G (lines.Asked e by) = with_ways e (lines.Asked e by) G
 after_line G (lines.Way e over) = with_ways e (lines.Way e over) G

@@ -69,6 +69,7 @@ abbrev pub MayStandAlone : Facts → Line → Type 0
 MayStandAlone G (lines.Do (commands.Pool blocks)) = G.born ≡ 0
 MayStandAlone G (lines.Born e kind parent ns blocks) = ⊥
 MayStandAlone G (lines.Told e of) = ⊥
+MayStandAlone G (lines.Heard e of) = ⊥
 MayStandAlone G (lines.Admitted e) = ⊥
 MayStandAlone G (lines.Proc e p uid gid) = (refusal_of G (commands.Proc e uid gid) ≡ None) × (p.0 ≡ (G.memory e.0).started + 1)
 MayStandAlone G (lines.Alloc e p page frames) = MayAllocate G e p page frames

@@ -208,6 +208,7 @@ module _ (G : Facts) (fit : IsFit G) where
       (record { over = old.over; asked = old.asked; back = old.back; route = put_numbers rows of.0 over old.route steady.2; lies = put_keys rows of.0 over old.lies steady.1 })
   fit_line (lines.Do command) steady = absurd steady
   fit_line (lines.Born e kind parent ns blocks) steady = absurd steady
+  fit_line (lines.Heard e of) steady = absurd steady
   fit_line (lines.Proc e p uid gid) steady = absurd steady
   fit_line (lines.Alloc e p at frames) steady = absurd steady
   fit_line _ steady = fit

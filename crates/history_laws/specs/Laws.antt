@@ -5,6 +5,7 @@ use Rattle.xm_num.specs.declared.Enclave.{Enclave}
 use Rattle.xm_num.specs.declared.Page.{Page}
 use Rattle.xm_num.specs.declared.Cause.{Cause}
 use Rattle.xm_num.specs.Rows.{at, put}
+use Rattle.xm_num.specs.RowLaws.{RowLaws as TableLaws}
 use Rattle.xemem_language.specs.declared.command.Command.{Command}
 use Rattle.xemem_language.specs.declared.line.Line.{Line}
 use Rattle.xemem_language.specs.declared.record.Record.{Record}
@@ -39,9 +40,8 @@ pub record ActLaws : Type 0 where
   pub behind : (G : Facts) (command : Command) → IsBirth command → ArePlain (drop 1 (acts_of G command))
   pub unmet : (cause : Cause) (holds : Bool) (others : List Condition) → first_cause (when cause holds ∷ others) ≡ None → (holds ≡ false) × (first_cause others ≡ None)
 
--- what a table has at a number after a change
+-- what a table of pages has at a number after a change
 pub record RowLaws : Type 0 where
-  pub ways : (table : List (ℕ × Enclave)) (k q : ℕ) (v : Enclave) → at (put table k v) q ≡ (if k == q then Some v else at table q)
   pub pages : (table : List (ℕ × Page)) (k q : ℕ) (v : Page) → at (put table k v) q ≡ (if k == q then Some v else at table q)
 
 -- the spelling of a record
@@ -54,4 +54,5 @@ pub record Laws : Type 0 where
   pub journal : JournalLaws
   pub act : ActLaws
   pub row : RowLaws
+  pub table : TableLaws Enclave
   pub wire : WireLaws

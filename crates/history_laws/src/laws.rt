@@ -11,7 +11,7 @@ ghost use Rattle.global_model.specs.Due.{journal_of};
 ghost use Rattle.global_model.specs.Journals.{do_commands};
 ghost use Rattle.history_laws.specs.History.{IsHistory, IsLegal, IsTold, IsWhole};
 ghost use Rattle.history_laws.specs.Fitting.{IsCountable};
-ghost use Rattle.history_laws.specs.Ways.{way_heard, back_heard, route_heard};
+ghost use Rattle.history_laws.specs.Ways.{way_heard, back_heard, route_heard, asker_heard};
 ghost use Rattle.history_laws.specs.Counts.{IsLimited, births_in, starts_in, starts_by, has_server};
 ghost use Rattle.history_laws.specs.Laws.{Laws};
 
@@ -21,7 +21,7 @@ use global_model::{
     pasts_grow, refusals_come_first,
 };
 use xemem_wire::laws::spelling_length;
-use xm_num::laws::rows;
+use xm_num::laws::{row_laws, rows};
 use xm_num::{Enclave, Page};
 
 // The laws of the crates below, all at once.
@@ -34,8 +34,8 @@ fn laws()
     journals_are_apt();
     acts_are_plain();
     refusals_come_first();
-    rows::<Enclave>();
     rows::<Page>();
+    row_laws::<Enclave>();
     spelling_length();
 }
 
@@ -98,11 +98,13 @@ pub fn journals_fit()
     laws();
 }
 
-/// The neighbours over which an enclave's ways go are those of which it heard last.
+/// The neighbours over which an enclave's ways go are those of which it heard last, none for an enclave of whose death it heard; its
+/// askers are those that asked since it learned its way.
 pub fn ways_are_heard()
     ensures way { (e : ℕ) (past : List JournalLine) → ((facts_at past).ways e).way ≡ way_heard e past }
     ensures backs { (e d : ℕ) (past : List JournalLine) → at ((facts_at past).ways e).backs d ≡ back_heard e d past }
     ensures routes { (e d : ℕ) (past : List JournalLine) → at ((facts_at past).ways e).routes d ≡ route_heard e d past }
+    ensures askers { (e k : ℕ) (past : List JournalLine) → at ((facts_at past).ways e).askers k ≡ asker_heard e k past }
 {
     laws();
 }
