@@ -41,8 +41,8 @@ use Rattle.enclave_rules.specs.Sending.{knows_way}
 use Rattle.enclave_rules.specs.Steps.{child_lines, told_lines, adopt_lines, query_of, route_lines, bytes_lines, state_line, state_lines}
 use Rattle.global_model.specs.Apt.{AreOwned}
 use Rattle.global_model.specs.Facts.{EnclaveFact, Facts, after_line, facts_at, fact_of, with_sent, with_taken, with_got, is_living_enclave, lives_at, runs}
-use Rattle.global_model.specs.Space.{Mapping, frame_of, mapping_of, space_of, is_lent_to, is_unused, unused_frames, free_blocks}
-use Rattle.global_model.specs.Channels.{is_neighbour, was_born, waiting_of, waiting_bytes}
+use Rattle.global_model.specs.Space.{Mapping, frame_of, mapping_of, space_of, is_lent_to, is_unused, unused_frames, blocks_left}
+use Rattle.global_model.specs.Channels.{is_neighbour, was_born, waiting_of, waiting_in}
 use Rattle.global_model.specs.Views.{view_of}
 use Rattle.global_model.specs.Refusals.{when, is_taken, refusal_of}
 use Rattle.global_model.specs.Due.{next_enclave, next_pid, touched_lines, acts_of, step_lines}
@@ -146,11 +146,11 @@ channel_numbers laws G x y fit none =
 
 -- ---- births
 
-blocks_fit : (G : Facts) (n : ℕ) → IsFit G → All (λ b. Is16 b.0) (take n (free_blocks G))
+blocks_fit : (G : Facts) (n : ℕ) → IsFit G → All (λ b. Is16 b.0) (take n (blocks_left G))
 blocks_fit G n fit =
     let most = fit.pool.most in
     let low = All-weaker (λ b. (0 ≤ b) × (b < 0 + G.pool)) Is16 (λ b h. omega (arith, h.1, most)) (range_with_len 0 G.pool) (All-range 0 G.pool) in
-    All-take (λ b. Is16 b.0) n (free_blocks G) (All-map (λ (b : Block). Is16 b.0) (λ b. record { 0 = b }) _ (All-filter _ Is16 (range_with_len 0 G.pool) low))
+    All-take (λ b. Is16 b.0) n (blocks_left G) (All-map (λ (b : Block). Is16 b.0) (λ b. record { 0 = b }) _ (All-filter _ Is16 (range_with_len 0 G.pool) low))
 
 listed_fits : (blocks : List Block) (k : ℕ) → All (λ b. Is16 b.0) blocks → is_listed blocks k ≡ true → Is16 k
 listed_fits [] k all is = cc
@@ -184,9 +184,9 @@ fit_born G e kind parent ns blocks fit room number above lent =
 
 fitted_born : (few : Type 0) (G : Facts) (past : List Line) (e : Enclave) (kind : Kind) (parent : Enclave) (ns : Bool) (blocks : ℕ) (more : List Line)
     → G ≡ facts_at past → IsFit G → G.born ≤ 255 → IsNumber e → IsNumber parent → AreSteady more
-    → IsFittedUpTo few past (lines.Born e kind parent ns (take blocks (free_blocks G)) ∷ more)
+    → IsFittedUpTo few past (lines.Born e kind parent ns (take blocks (blocks_left G)) ∷ more)
 fitted_born few G past e kind parent ns blocks more is fit room number above steady =
-    let line = lines.Born e kind parent ns (take blocks (free_blocks G)) in
+    let line = lines.Born e kind parent ns (take blocks (blocks_left G)) in
     let lent = blocks_fit G blocks fit in
     let after : IsFit (facts_at (line ∷ past)) = subst (λ H. IsFit (after_line H line)) is (fit_born G e kind parent ns _ fit room number above lent) in
     fitted_cons few line more past (wide e number, wide parent above, lent) (fitted_steady few more (line ∷ past) after steady)
@@ -214,7 +214,7 @@ fitted_boot laws kind parent blocks ns past fit range = with_refusal c past fit 
         → IsFittedUpTo (IsCountable past) (lines.Do (commands.Boot kind parent blocks ns) ∷ past) (acts_of (facts_at (lines.Do (commands.Boot kind parent blocks ns) ∷ past)) (commands.Boot kind parent blocks ns))
     acts none after =
         let H = facts_at (lines.Do (commands.Boot kind parent blocks ns) ∷ past) in
-        let fourth = when causes.NoBlocks (ltb (length (free_blocks H)) blocks) ∷ [] in
+        let fourth = when causes.NoBlocks (ltb (length (blocks_left H)) blocks) ∷ [] in
         let third = when causes.NameServerTaken (ns && H.server) ∷ fourth in
         let second = when causes.TooMany (leb 256 H.born) ∷ third in
         let one = laws.act.unmet causes.NoEnclave (not (is_living_enclave (H.enclave parent.0))) second none in
@@ -417,7 +417,7 @@ sent_bytes (lines.Got a b ∷ past) x y =
     cond_both (eqb x a.0 && eqb y b.0) (with_got (G.channel x y)) (G.channel x y) (λ c. length (spellings_of c.sent) ≤ 4 * words_in (lines.Got a b ∷ past)) (λ is. omega (arith, old)) (λ other. omega (arith, old))
 sent_bytes (line ∷ past) x y = let old = sent_bytes past x y in omega (arith, old)
 
-waiting_few : (past : List Line) (x y : ℕ) → IsCountable past → length (waiting_bytes (facts_at past) x y) ≤ 4294967295
+waiting_few : (past : List Line) (x y : ℕ) → IsCountable past → length (waiting_in (facts_at past) x y) ≤ 4294967295
 waiting_few past x y few =
     let G = facts_at past in
     let channel = G.channel x y in
@@ -442,7 +442,7 @@ fitted_bytes few all x y (suc most) at (byte ∷ bytes) past low fit from to wit
       fit = more.fit;
     }
 
-bytes_wait : Laws → (G : Facts) (x y : ℕ) → IsFit G → All Is8 (waiting_bytes G x y)
+bytes_wait : Laws → (G : Facts) (x y : ℕ) → IsFit G → All Is8 (waiting_in G x y)
 bytes_wait laws G x y fit =
     let channel = G.channel x y in
     let bytes = spellings_of channel.sent in
@@ -454,7 +454,7 @@ pub fitted_link : Laws → (x y : Enclave) (past : List Line) → IsFit (facts_a
 fitted_link laws x y past fit range = with_refusal (commands.ShowLink x y) past fit range (λ none after.
     let G = facts_at past in
     let ends = channel_numbers laws G x y fit none in
-    let waiting = waiting_bytes G x.0 y.0 in
+    let waiting = waiting_in G x.0 y.0 in
     fitted_bytes (IsCountable past) (length waiting) x y (length waiting) 0 waiting (lines.Do (commands.ShowLink x y) ∷ past) (waiting_few past x.0 y.0) after (wide x ends.0) (wide y ends.1)
     (omega arith)
     (bytes_wait laws G x.0 y.0 fit))

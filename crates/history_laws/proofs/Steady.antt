@@ -24,7 +24,7 @@ use Rattle.enclave_rules.specs.Ways.{place_among}
 use Rattle.enclave_rules.specs.Sending.{Server, knows_way, way_to, drop_lines, over_lines}
 use Rattle.enclave_rules.specs.Steps.{query_of, here_of, register_of, admit_of, is_stray, query_lines, told_askers, here_lines, register_lines, admit_over, admit_to, body_lines, record_lines, handled_lines}
 use Rattle.global_model.specs.Facts.{Facts, ChannelFact, after_line, after_lines, fact_of}
-use Rattle.global_model.specs.Channels.{size_of, waiting_bytes, whole_records, arriving}
+use Rattle.global_model.specs.Channels.{size_of, waiting_in, whole_records, arriving}
 use Rattle.global_model.specs.Views.{view_of}
 use Rattle.global_model.specs.Due.{got_lines, took_lines, deliver_lines, next_rest, rest_of_record, channels_of, waits, waiting_channels, first_waiting, settle_end, settle_from}
 use Rattle.history_laws.specs.Laws.{Laws}
@@ -223,7 +223,7 @@ steady_took G x y count fit from to few =
 
 pub steady_deliver : (G : Facts) (x y : Enclave) (count : ℕ) → IsFit G → IsNumber x → IsNumber y → Is32 count → AreSteady (deliver_lines G x y count)
 steady_deliver G x y count fit from to few =
-    let waiting = length (waiting_bytes G x.0 y.0) in
+    let waiting = length (waiting_in G x.0 y.0) in
     steady_either (waiting == 0) (lines.Idle x y ∷ []) (took_lines G x y (min count waiting)) ((from, to), tt) (steady_took G x y (min count waiting) fit from to (omega (arith, few)))
 
 -- ---- settles

@@ -13,7 +13,7 @@ use Rattle.global_model.specs.Facts.{Facts, facts_after, after_lines, facts_at}
 use Rattle.global_model.specs.Journals.{Follows, do_commands, onto}
 use Rattle.global_model.specs.Apt.{AptAt, OwnedAt}
 use Rattle.global_model.specs.Carriage.{IsCarried}
-use Rattle.global_model.specs.Plain.{ArePlain, AreActs, IsQuiet, IsBirth}
+use Rattle.global_model.specs.Plain.{ArePlain, AreActs, IsQuiet, BearsOne}
 use Rattle.global_model.specs.Place.{IsPlaced}
 use Rattle.global_model.specs.Refusals.{Condition, when, first_cause}
 use Rattle.global_model.specs.Due.{acts_of, command_lines, step_lines, journal_of}
@@ -36,7 +36,7 @@ pub record JournalLaws : Type 0 where
 pub record ActLaws : Type 0 where
   pub acts : (G : Facts) (command : Command) → AreActs (command_lines G command)
   pub quiet : (G : Facts) (command : Command) → IsQuiet command → ArePlain (acts_of G command)
-  pub behind : (G : Facts) (command : Command) → IsBirth command → ArePlain (drop 1 (acts_of G command))
+  pub behind : (G : Facts) (command : Command) → BearsOne command → ArePlain (drop 1 (acts_of G command))
   pub unmet : (cause : Cause) (holds : Bool) (others : List Condition) → first_cause (when cause holds ∷ others) ≡ None → (holds ≡ false) × (first_cause others ≡ None)
 
 -- what a table has at a number after a change

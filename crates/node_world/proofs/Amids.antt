@@ -9,7 +9,7 @@ use Rattle.xemem_language.specs.declared.line.Line.{Line}
 use Rattle.xemem_language.specs.declared.line.Line.TheVariants as lines
 use Rattle.global_model.specs.Facts.{Facts, facts_after, after_line, after_lines}
 use Rattle.enclave_rules.specs.Hand.{Hand, Nothing}
-use Rattle.global_model.specs.Channels.{waiting_bytes}
+use Rattle.global_model.specs.Channels.{waiting_in}
 use Rattle.global_model.specs.Flow.{IsFlowing}
 use Rattle.xemem_language.specs.Spelling.{words_in}
 use Rattle.global_model.specs.Due.{command_lines, deliver_lines, took_lines, next_rest, first_waiting, settle_from, step_lines, journal_of}
@@ -65,11 +65,11 @@ flowing_holding hand G h = record {
 -- a delivery asks nothing of the hand, and bytes that are taken leave nothing in it
 after_delivery : (G : Facts) (one other : Hand) (x y : Enclave) (n : ℕ)
     → IsSame (after_lines (holding one G) (deliver_lines G x y n)) (after_lines (holding other G) (deliver_lines G x y n))
-after_delivery G one other x y n = by (length (waiting_bytes G x.0 y.0) == 0) refl
+after_delivery G one other x y n = by (length (waiting_in G x.0 y.0) == 0) refl
   where
-    by : (b : Bool) → (length (waiting_bytes G x.0 y.0) == 0) ≡ b → IsSame (after_lines (holding one G) (deliver_lines G x y n)) (after_lines (holding other G) (deliver_lines G x y n))
+    by : (b : Bool) → (length (waiting_in G x.0 y.0) == 0) ≡ b → IsSame (after_lines (holding one G) (deliver_lines G x y n)) (after_lines (holding other G) (deliver_lines G x y n))
     by true none = rw none (record { hand = one; same = refl })
-    by false some = rw some (let F = after_lines (holding other G) (took_lines G x y (min n (length (waiting_bytes G x.0 y.0)))) in record { hand = F.hand; same = refl })
+    by false some = rw some (let F = after_lines (holding other G) (took_lines G x y (min n (length (waiting_in G x.0 y.0)))) in record { hand = F.hand; same = refl })
 
 -- ---- one delivery
 

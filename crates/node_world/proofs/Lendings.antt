@@ -7,7 +7,7 @@ use Rattle.xm_num.specs.declared.Enclave.{Enclave}
 use Rattle.byte_link.specs.Channel.{Channel, waiting_bytes}
 use Rattle.xemem_language.specs.declared.line.Line.{Line}
 use Rattle.global_model.specs.Facts.{Facts, EnclaveFact, facts_after, is_living_enclave, has_parent, lives_at}
-use Rattle.global_model.specs.Channels.{is_child_of, is_neighbour, waiting_bytes as waiting_in}
+use Rattle.global_model.specs.Channels.{is_child_of, is_neighbour, waiting_in}
 use Rattle.global_model.specs.Flow.{IsFlowing}
 use Rattle.global_model.specs.Refusals.{link_conditions, first_cause}
 use Rattle.enclave_node.specs.Nodes.{NodeView, unborn_node}

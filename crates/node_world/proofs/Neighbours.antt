@@ -9,7 +9,7 @@ use Rattle.xm_num.specs.declared.Cause.TheVariants as causes
 use Rattle.xemem_language.specs.declared.command.Command.TheVariants as commands
 use Rattle.xemem_language.specs.declared.line.Line.{Line}
 use Rattle.global_model.specs.Facts.{Facts, EnclaveFact, has_parent, fact_of, lives_at}
-use Rattle.global_model.specs.Channels.{is_child_of, is_neighbour, waiting_bytes as waiting_in, waiting_of}
+use Rattle.global_model.specs.Channels.{is_child_of, is_neighbour, waiting_in, waiting_of}
 use Rattle.global_model.specs.Flow.{IsFlowing}
 use Rattle.global_model.specs.Refusals.{when, link_conditions, first_cause}
 use Rattle.enclave_rules.specs.Steps.{refusal, bytes_lines}

@@ -15,7 +15,7 @@ use Rattle.xemem_wire.specs.Spelling.{spelling_of}
 use Rattle.xemem_language.specs.declared.command.Command.{Command}
 use Rattle.xemem_language.specs.declared.command.Command.TheVariants as commands
 use Rattle.global_model.specs.Facts.{Facts, ChannelFact, lives_at}
-use Rattle.global_model.specs.Channels.{is_child_of, size_of, waiting_bytes as waiting_in, waiting_of}
+use Rattle.global_model.specs.Channels.{is_child_of, size_of, waiting_in, waiting_of}
 use Rattle.global_model.specs.Flow.{IsFlowing}
 use Rattle.global_model.specs.Due.{rest_of_record, next_rest, channels_of, waits, waiting_channels, first_waiting}
 use Rattle.node_machine.specs.declared.pair.Pair.{Pair}

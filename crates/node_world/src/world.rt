@@ -6,7 +6,7 @@ ghost use Rattle.global_model.specs.Place.{may_stand};
 ghost use Rattle.xemem_language.specs.declared.command.Command.TheVariants as commands;
 ghost use Rattle.global_model.specs.Rest.{EndsSettle};
 ghost use Rattle.global_model.specs.Facts.{facts_after, is_living_enclave};
-ghost use Rattle.global_model.specs.Channels.{is_neighbour, waiting_bytes as waiting_in};
+ghost use Rattle.global_model.specs.Channels.{is_neighbour, waiting_in};
 ghost use Rattle.global_model.specs.Due.{command_lines, journal_of, settle_from};
 ghost use Rattle.global_model.specs.Journals.{deliveries_in, do_commands, is_delivery, onto, command_at};
 ghost use Rattle.xemem_wire.specs.Spelling.{AreValid};
