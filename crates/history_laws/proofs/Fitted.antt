@@ -48,7 +48,7 @@ use Rattle.global_model.specs.Refusals.{when, is_taken, refusal_of}
 use Rattle.global_model.specs.Due.{next_enclave, next_pid, touched_lines, acts_of, step_lines}
 use Rattle.global_model.specs.Journals.{onto}
 use Rattle.history_laws.specs.Fitting.{IsCountable}
-use Rattle.history_laws.specs.Laws.{Laws}
+use Rattle.history_laws.specs.Laws.{HistoryLaws}
 use Rattle.history_laws.proofs.Lending.{All-range}
 use Rattle.history_laws.proofs.Fit.{IsNumber, AllNumbers, IsLow, IsFitState, IsFitProcess, IsFitMemory, IsFit, IsSteady, AreSteady, fit_do, fit_line, at_number_fits}
 use Rattle.history_laws.proofs.Steady.{steady_append, steady_either, valid_query, valid_numbers, at_has}
@@ -138,7 +138,7 @@ pub living_number : (G : Facts) (e : Enclave) → IsFit G → not (is_living_enc
 living_number G e fit lives = fit.tree.number e.0 (living_some (G.enclave e.0) (not_false _ lives))
 
 -- both ends of a channel
-pub channel_numbers : Laws → (G : Facts) (x y : Enclave) → IsFit G
+pub channel_numbers : HistoryLaws → (G : Facts) (x y : Enclave) → IsFit G
     → refusal_of G (commands.ShowLink x y) ≡ None → IsNumber x × IsNumber y
 channel_numbers laws G x y fit none =
     let there = and_parts _ _ (not_false _ (laws.act.unmet causes.NoEnclave (not (is_living_enclave (G.enclave y.0) && was_born G x.0)) (when causes.NoLink (not (is_neighbour G x.0 y.0)) ∷ []) none).0) in
@@ -203,7 +203,7 @@ fitted_host blocks ns past fit range none =
     (λ met after. fitted_born (IsCountable past) (facts_at (lines.Do c ∷ past)) (lines.Do c ∷ past) host kinds.Host host ns blocks (if ns then lines.Admitted host ∷ [] else []) refl after (omega (arith, none)) (omega arith) (omega arith)
     (steady_either ns (lines.Admitted host ∷ []) [] (omega arith, tt) tt))
 
-pub fitted_boot : Laws → (kind : Kind) (parent : Enclave) (blocks : ℕ) (ns : Bool) (past : List Line) → IsFit (facts_at past) → IsInRange (commands.Boot kind parent blocks ns)
+pub fitted_boot : HistoryLaws → (kind : Kind) (parent : Enclave) (blocks : ℕ) (ns : Bool) (past : List Line) → IsFit (facts_at past) → IsInRange (commands.Boot kind parent blocks ns)
     → IsFittedUpTo (IsCountable past) past (step_lines (facts_at past) (commands.Boot kind parent blocks ns))
 fitted_boot laws kind parent blocks ns past fit range = with_refusal c past fit range acts
   where
@@ -244,7 +244,7 @@ new_fits : (uid gid : ℕ) → IsFitProcess (new_process uid gid)
 unfolding at
 new_fits uid gid v page is = cc
 
-pub fitted_proc : Laws → (e : Enclave) (uid gid : ℕ) (past : List Line) → IsFit (facts_at past) → IsInRange (commands.Proc e uid gid)
+pub fitted_proc : HistoryLaws → (e : Enclave) (uid gid : ℕ) (past : List Line) → IsFit (facts_at past) → IsInRange (commands.Proc e uid gid)
     → IsFittedUpTo (IsCountable past) past (step_lines (facts_at past) (commands.Proc e uid gid))
 fitted_proc laws e uid gid past fit range = with_refusal (commands.Proc e uid gid) past fit range (λ none after.
     let G = facts_at past in
@@ -273,7 +273,7 @@ frames_fit G e n fit =
     All-take (λ f. Is32 f.0) n (unused_frames G e) (All-map (λ (f : Frame). Is32 f.0) (λ f. record { 0 = f }) _ (All-filter (is_unused G e) Is32 (range_with_len 0 (64 * G.pool)) low))
 
 -- a page whose number fits, and several
-put_fits : Laws → (rows : List (ℕ × Page)) (k : ℕ) (page : Page) → Is32 k → ((v : ℕ) (x : Page) → at rows v ≡ Some x → Is32 v)
+put_fits : HistoryLaws → (rows : List (ℕ × Page)) (k : ℕ) (page : Page) → Is32 k → ((v : ℕ) (x : Page) → at rows v ≡ Some x → Is32 v)
     → (v : ℕ) (x : Page) → at (put rows k page) v ≡ Some x → Is32 v
 put_fits laws rows k page low fits v x is = by (eqb k v) refl (sym (laws.row.pages rows k v page) ∙ is)
   where
@@ -281,12 +281,12 @@ put_fits laws rows k page low fits v x is = by (eqb k v) refl (sym (laws.row.pag
     by true same found = subst Is32 (eqb-true k v same) low
     by false same found = fits v x found
 
-put_all_fits : Laws → (rows : List (ℕ × Page)) (k : ℕ) (pages : List Page) → k + length pages ≤ 16777216 → ((v : ℕ) (x : Page) → at rows v ≡ Some x → Is32 v)
+put_all_fits : HistoryLaws → (rows : List (ℕ × Page)) (k : ℕ) (pages : List Page) → k + length pages ≤ 16777216 → ((v : ℕ) (x : Page) → at rows v ≡ Some x → Is32 v)
     → (v : ℕ) (x : Page) → at (put_all rows k pages) v ≡ Some x → Is32 v
 put_all_fits laws rows k [] within fits = fits
 put_all_fits laws rows k (page ∷ pages) within fits = put_all_fits laws (put rows k page) (k + 1) pages (omega (arith, within)) (put_fits laws rows k page (omega (arith, within)) fits)
 
-pages_fit : Laws → (starts : ℕ) (m : MemoryView) (p page : ℕ) (frames : List Frame) → IsFitMemory starts m → page + length frames ≤ 16777216
+pages_fit : HistoryLaws → (starts : ℕ) (m : MemoryView) (p page : ℕ) (frames : List Frame) → IsFitMemory starts m → page + length frames ≤ 16777216
     → IsFitMemory starts (with_process p (with_pages page frames) m)
 pages_fit laws starts m p page frames fit within = by (at m.processes p) refl
   where
@@ -298,7 +298,7 @@ pages_fit laws starts m p page frames fit within = by (at m.processes p) refl
         let new : IsFitProcess (with_pages page frames process) = put_all_fits laws process.pages page (map own_page frames) (omega (arith, count, within)) old in
         record { started = fit.started; pages = put_processes m.processes p (with_pages page frames process) fit.pages new }
 
-pub fitted_alloc : Laws → (e : Enclave) (p : Pid) (at : Vpn) (pages : ℕ) (past : List Line) → IsFit (facts_at past) → IsInRange (commands.Alloc e p at pages)
+pub fitted_alloc : HistoryLaws → (e : Enclave) (p : Pid) (at : Vpn) (pages : ℕ) (past : List Line) → IsFit (facts_at past) → IsInRange (commands.Alloc e p at pages)
     → IsFittedUpTo (IsCountable past) past (step_lines (facts_at past) (commands.Alloc e p at pages))
 fitted_alloc laws e p at pages past fit range = with_refusal (commands.Alloc e p at pages) past fit range (λ none after.
     let G = facts_at past in
@@ -385,7 +385,7 @@ steady_states b (s ∷ ss) within all = (by s (All-head IsFitState s ss all), st
     by (states.Held e) fits = (omega (arith, within), fits)
 
 -- bytes are spelled of valid records
-bytes_fit : Laws → (rs : List Record) → AreValid rs → All Is8 (spellings_of rs)
+bytes_fit : HistoryLaws → (rs : List Record) → AreValid rs → All Is8 (spellings_of rs)
 bytes_fit laws [] valid = All-nil Is8
 bytes_fit laws (r ∷ rs) valid = All-append Is8 (spelling_of r) (spellings_of rs) (below (spelling_of r) (laws.wire.bytes r valid.0)) (bytes_fit laws rs valid.1)
   where
@@ -442,14 +442,14 @@ fitted_bytes few all x y (suc most) at (byte ∷ bytes) past low fit from to wit
       fit = more.fit;
     }
 
-bytes_wait : Laws → (G : Facts) (x y : ℕ) → IsFit G → All Is8 (waiting_in G x y)
+bytes_wait : HistoryLaws → (G : Facts) (x y : ℕ) → IsFit G → All Is8 (waiting_in G x y)
 bytes_wait laws G x y fit =
     let channel = G.channel x y in
     let bytes = spellings_of channel.sent in
     let whole = All-take Is8 (length bytes - channel.cut) bytes (bytes_fit laws channel.sent (fit.channels x y)) in
     cond_both (lives_at G y) (waiting_of channel) [] (All Is8) (λ is. All-drop Is8 channel.taken (take (length bytes - channel.cut) bytes) whole) (λ other. All-nil Is8)
 
-pub fitted_link : Laws → (x y : Enclave) (past : List Line) → IsFit (facts_at past) → IsInRange (commands.ShowLink x y)
+pub fitted_link : HistoryLaws → (x y : Enclave) (past : List Line) → IsFit (facts_at past) → IsInRange (commands.ShowLink x y)
     → IsFittedUpTo (IsCountable past) past (step_lines (facts_at past) (commands.ShowLink x y))
 fitted_link laws x y past fit range = with_refusal (commands.ShowLink x y) past fit range (λ none after.
     let G = facts_at past in

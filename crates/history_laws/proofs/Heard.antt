@@ -5,7 +5,7 @@ use Rattle.std.proofs.lemmas.Bool.Decides.{nat_tests}
 use Rattle.xm_num.specs.declared.Enclave.{Enclave}
 use Rattle.xm_num.specs.Rows.{at, put}
 use Rattle.enclave_rules.specs.Ways.{WaysView}
-use Rattle.history_laws.specs.Laws.{Laws}
+use Rattle.history_laws.specs.Laws.{HistoryLaws}
 use Rattle.xemem_language.specs.declared.line.Line.{Line}
 use Rattle.xemem_language.specs.declared.line.Line.TheVariants as lines
 use Rattle.global_model.specs.Facts.{facts_at, at_number}
@@ -55,7 +55,7 @@ way_is_heard e (lines.Back of to over ∷ past) = way_stays (facts_at past).ways
 way_is_heard e (lines.Route of to over ∷ past) = way_stays (facts_at past).ways of.0 _ e refl ∙ way_is_heard e past
 way_is_heard e (_ ∷ past) = way_is_heard e past
 
-pub back_is_heard : Laws → (e d : ℕ) (past : List Line) → at ((facts_at past).ways e).backs d ≡ back_heard e d past
+pub back_is_heard : HistoryLaws → (e d : ℕ) (past : List Line) → at ((facts_at past).ways e).backs d ≡ back_heard e d past
 unfolding at
 back_is_heard laws e d [] = refl
 back_is_heard laws e d (lines.Back of to over ∷ past) =
@@ -66,7 +66,7 @@ back_is_heard laws e d (lines.Way of over ∷ past) = stays_here (λ w. w.backs)
 back_is_heard laws e d (lines.Route of to over ∷ past) = stays_here (λ w. w.backs) (λ rows. at rows d) (facts_at past).ways of.0 _ e refl ∙ back_is_heard laws e d past
 back_is_heard laws e d (_ ∷ past) = back_is_heard laws e d past
 
-pub route_is_heard : Laws → (e d : ℕ) (past : List Line) → at ((facts_at past).ways e).routes d ≡ route_heard e d past
+pub route_is_heard : HistoryLaws → (e d : ℕ) (past : List Line) → at ((facts_at past).ways e).routes d ≡ route_heard e d past
 unfolding at
 route_is_heard laws e d [] = refl
 route_is_heard laws e d (lines.Route of to over ∷ past) =

@@ -40,18 +40,18 @@ pub record ActLaws : Type 0 where
   pub unmet : (cause : Cause) (holds : Bool) (others : List Condition) → first_cause (when cause holds ∷ others) ≡ None → (holds ≡ false) × (first_cause others ≡ None)
 
 -- what a table has at a number after a change
-pub record RowLaws : Type 0 where
+pub record PutLaws : Type 0 where
   pub ways : (table : List (ℕ × Enclave)) (k q : ℕ) (v : Enclave) → at (put table k v) q ≡ (if k == q then Some v else at table q)
   pub pages : (table : List (ℕ × Page)) (k q : ℕ) (v : Page) → at (put table k v) q ≡ (if k == q then Some v else at table q)
 
 -- the spelling of a record
-pub record WireLaws : Type 0 where
+pub record SpellingLaws : Type 0 where
   pub most : (r : Record) → is_valid r ≡ true → length (spelling_of r) ≤ 16404
   pub bytes : (r : Record) → is_valid r ≡ true → AllByRecursion (λ byte. byte < 256) (spelling_of r)
 
-pub record Laws : Type 0 where
+pub record HistoryLaws : Type 0 where
   pub past : PastLaws
   pub journal : JournalLaws
   pub act : ActLaws
-  pub row : RowLaws
-  pub wire : WireLaws
+  pub row : PutLaws
+  pub wire : SpellingLaws
