@@ -30,7 +30,7 @@ use Rattle.enclave_node.specs.Nodes.{NodeView, unborn_node, raised, wrote, new_h
 use Rattle.node_machine.specs.declared.pair.Hop.{Hop}
 use Rattle.node_machine.specs.declared.pair.Hop.TheVariants as hops
 use Rattle.node_world.specs.Appended.{refuses, is_by, words_by}
-use Rattle.node_machine.specs.Machine.{MachineView, has_node, node_at, with_node, hop_in, link_of, with_link, taken_by, is_idle, next_enclave, free_of, is_full, is_short, booted_lines, booted_nodes, touch_by, over_lines, over_machine, deliver_by, after_deliver, shown_by, lines_by, acted, after_command, call_by, node_shown}
+use Rattle.node_machine.specs.Machine.{MachineView, has_node, node_at, with_node, hop_in, link_of, with_link, taken_by, is_idle, next_born, free_of, is_full, is_short, booted_lines, booted_nodes, touch_by, lines_over, over_machine, deliver_by, after_deliver, shown_by, lines_by, acted, after_command, call_by, node_shown}
 use Rattle.node_machine.specs.Ready.{IsReady, Stands}
 use Rattle.node_world.specs.World.{most_words}
 use Rattle.node_world.proofs.Lists.{cond_case, node_within, set_field}
@@ -148,7 +148,7 @@ module _ (m : MachineView) (kind : Kind) (parent : Enclave) (blocks : ℕ) (ns :
   boot = commands.Boot kind parent blocks ns
 
   abbrev child : Enclave
-  child = next_enclave m
+  child = next_born m
 
   abbrev birth : List Line
   birth = birth_lines child kind parent (take blocks (free_of m)) ns (node_at m.nodes parent.0).view.core.heard
@@ -259,7 +259,7 @@ module _ (laws : Laws) (hand : Command) (quiet : (e : ℕ) (cause : Cause) → r
   gone_hop : has_node m.nodes y.0 ≡ false → hop_in m x y ≡ hops.NoEnclave
   gone_hop is = rw is refl
 
-  counts_over : has_node m.nodes y.0 ≡ true → (hop : Hop) → Counts hand (over_lines m x y count hop) m.nodes (over_machine m x y count hop).nodes
+  counts_over : has_node m.nodes y.0 ≡ true → (hop : Hop) → Counts hand (lines_over m x y count hop) m.nodes (over_machine m x y count hop).nodes
   counts_over has hop = by (is_idle (link_of m.pairs hop))
     where
       n : ℕ

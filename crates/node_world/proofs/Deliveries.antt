@@ -26,8 +26,8 @@ use Rattle.global_model.specs.Due.{command_lines, got_lines, took_lines, deliver
 use Rattle.enclave_node.specs.Nodes.{NodeView, unborn_node, feed_at, fed, fed_lines, after_feed}
 use Rattle.node_machine.specs.declared.pair.Hop.{Hop}
 use Rattle.node_machine.specs.declared.pair.Hop.TheVariants as hops
-use Rattle.node_machine.specs.Machine.{MachineView, node_at, pair_at, with_node, hop_in, link_of, with_link, taken_by, is_idle, over_lines, over_machine, deliver_by, after_deliver, lines_by, acted, with_carried, after_command}
-use Rattle.node_machine.specs.Machine.{enclave}
+use Rattle.node_machine.specs.Machine.{MachineView, node_at, pair_at, with_node, hop_in, link_of, with_link, taken_by, is_idle, lines_over, over_machine, deliver_by, after_deliver, lines_by, acted, with_carried, after_command}
+use Rattle.node_machine.specs.Machine.{enclave_numbered}
 use Rattle.node_world.specs.Shown.{IsNodeOf, IsShown}
 use Rattle.node_world.specs.Laws.{WireLaws, ViewLaws}
 use Rattle.node_world.proofs.Lists.{has-set, node_within, same_either, set_case}
@@ -117,7 +117,7 @@ module _ (wire : WireLaws) (views : ViewLaws) (G H : Facts) (m : MachineView) (x
   got_are : is_idle link ≡ false → got_lines T x y (arriving (T.channel x.0 y.0)) ≡ busy_lines m x y count hop
   got_are busy = (handled busy).lines ∙ ap (lines_of_records (view_of G y) x) came ∙ ap (λ v. lines_of_records v x d.records) is_view
 
-  lines_are : deliver_lines G x y count ≡ over_lines m x y count hop
+  lines_are : deliver_lines G x y count ≡ lines_over m x y count hop
   lines_are = ap (λ bytes. cond (eqb (length bytes) 0) (lines.Idle x y ∷ []) (took_lines G x y (min count (length bytes)))) (over_waits G m x y hop k) ∙ by (is_idle link) refl
     where
       by : (b : Bool) → is_idle link ≡ b → cond b (lines.Idle x y ∷ []) (took_lines G x y n) ≡ cond b (lines.Idle x y ∷ []) (lines.Took x y n ∷ busy_lines m x y count hop)
@@ -140,19 +140,19 @@ module _ (wire : WireLaws) (views : ViewLaws) (G H : Facts) (m : MachineView) (x
   node_after : is_idle link ≡ false → command_lines G (commands.Deliver x y count) ≡ lines.Took x y n ∷ ls → ((e : ℕ) → lives_at H e ≡ lives_at G e) → (e : ℕ) → lives_at G e ≡ true → IsNodeOf H e (node_at w.nodes e)
   node_after busy is living e lives =
       let B = after_line G (lines.Do (commands.Deliver x y count)) in
-      let v = view_of G (enclave e) in
+      let v = view_of G (enclave_numbered e) in
       let all = handled busy in
-      let view : view_of H (enclave e) ≡ seen_lines T v ls
+      let view : view_of H (enclave_numbered e) ≡ seen_lines T v ls
       = step.views e (living e ∙ lives) ∙ ap (seen_lines B v) is ∙ ap (λ u. seen_lines T u ls) (same_either (eqb y.0 e) v) in
       let old = h.nodes e lives in
       set_case m.nodes y.0 e after (unborn_node 0 host []) (IsNodeOf H e) inside
       (λ same.
-      let mine : v ≡ view_of G y = ap (λ k. view_of G (enclave k)) same in
-      let here : view_of H (enclave e) ≡ after_records node.view x d.records
+      let mine : v ≡ view_of G y = ap (λ k. view_of G (enclave_numbered k)) same in
+      let here : view_of H (enclave_numbered e) ≡ after_records node.view x d.records
       = view ∙ ap (λ u. seen_lines T u ls) mine ∙ ap (seen_lines T (view_of G y)) (sym (got_are busy)) ∙ all.own ∙ ap (after_records (view_of G y) x) came ∙ ap (λ u. after_records u x d.records) is_view in
       record { view = sym here; going = (h.nodes y.0 k.yours).going })
       (λ apart.
-      let there : view_of H (enclave e) ≡ v = view ∙ ap (seen_lines T v) (sym (got_are busy)) ∙ all.others v apart in
+      let there : view_of H (enclave_numbered e) ≡ v = view ∙ ap (seen_lines T v) (sym (got_are busy)) ∙ all.others v apart in
       record { view = old.view ∙ sym there; going = old.going })
 
   feed_after : (a b : ℕ) → HasFeed G.channel m.nodes a b → HasFeed T.channel w.nodes a b
@@ -211,11 +211,11 @@ module _ (wire : WireLaws) (views : ViewLaws) (G H : Facts) (m : MachineView) (x
           }
 
   -- so the delivery is tied, where the machine makes this of it
-  pub tied_over : command_lines G (commands.Deliver x y count) ≡ deliver_lines G x y count → lines_by m (commands.Deliver x y count) ≡ over_lines m x y count hop → acted m (commands.Deliver x y count) ≡ over_machine m x y count hop
+  pub tied_over : command_lines G (commands.Deliver x y count) ≡ deliver_lines G x y count → lines_by m (commands.Deliver x y count) ≡ lines_over m x y count hop → acted m (commands.Deliver x y count) ≡ over_machine m x y count hop
       → IsTied G H (commands.Deliver x y count) m
   tied_over fine made machine = by (is_idle link) refl
     where
-      all : command_lines G (commands.Deliver x y count) ≡ over_lines m x y count hop
+      all : command_lines G (commands.Deliver x y count) ≡ lines_over m x y count hop
       all = fine ∙ lines_are
 
       by : (b : Bool) → is_idle link ≡ b → IsTied G H (commands.Deliver x y count) m

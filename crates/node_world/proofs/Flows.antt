@@ -12,7 +12,7 @@ use Rattle.xemem_wire.specs.Decoding.{Decoding, after_piece}
 use Rattle.global_model.specs.Facts.{ChannelFact, no_channel, with_sent, with_taken}
 use Rattle.global_model.specs.Channels.{whole_records, arriving, waiting_of}
 use Rattle.global_model.specs.Flow.{IsFlow}
-use Rattle.node_machine.specs.Links.{IsFlowing}
+use Rattle.node_machine.specs.Links.{IsLinkFlowing}
 use Rattle.node_world.specs.Links.{IsLinkOf, got_bytes, feed_of, rows_of}
 use Rattle.node_world.specs.Laws.{LinkLaws, WireLaws}
 use Rattle.node_world.proofs.Fronts.{spelling_of-length, IsFront, front_of, spellings-append, spellings-length, whole-after, whole-take, whole-bytes, whole-more}
@@ -88,7 +88,7 @@ later-valid (suc n) [] valid = tt
 later-valid (suc n) (r ∷ rs) valid = later-valid n rs valid.1
 
 -- what isn't decoded yet are the records that weren't got
-pub flowing_of : (dead : Bool) (f : ChannelFact) (link : Channel) → IsFlow f → IsLinkOf dead f link → IsFlowing link (feed_of f)
+pub flowing_of : (dead : Bool) (f : ChannelFact) (link : Channel) → IsFlow f → IsLinkOf dead f link → IsLinkFlowing link (feed_of f)
 flowing_of dead f link flow h =
     let S = spellings_of f.sent in
     let D = spellings_of (take f.got f.sent) in

@@ -21,7 +21,7 @@ use Rattle.global_model.specs.Due.{rest_of_record, next_rest, channels_of, waits
 use Rattle.node_machine.specs.declared.pair.Pair.{Pair}
 use Rattle.node_machine.specs.declared.pair.Hop.TheVariants as hops
 use Rattle.node_machine.specs.Machine.{MachineView, pair_at, is_idle, waiting_hops_of, waiting_hops, delivery_over, next_delivery}
-use Rattle.node_machine.specs.Machine.{enclave}
+use Rattle.node_machine.specs.Machine.{enclave_numbered}
 use Rattle.node_world.specs.Shown.{IsShown}
 use Rattle.node_world.specs.Links.{IsLinkOf}
 use Rattle.node_world.proofs.Flows.{uncut_rows}
@@ -119,7 +119,7 @@ module _ (G : Facts) (m : MachineView) (flowing : IsFlowing G) (h : IsShown G m)
       pair = pair_at pairs i
 
       c : Enclave
-      c = enclave (i + 1)
+      c = enclave_numbered (i + 1)
 
       x : Enclave × Enclave
       x = (c, pair.parent)
