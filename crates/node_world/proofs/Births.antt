@@ -19,7 +19,7 @@ use Rattle.enclave_node.specs.Nodes.{new_host}
 use Rattle.node_machine.specs.Machine.{MachineView, has_node, node_at, lines_by, acted, with_carried, after_command}
 use Rattle.node_world.specs.Shown.{IsNodeOf, IsShown}
 use Rattle.node_world.proofs.Lists.{node_within}
-use Rattle.node_world.proofs.Carriage.{ArePlain, counted_lines}
+use Rattle.node_world.proofs.Carriage.{AreUncounted, counted_lines}
 use Rattle.node_world.proofs.Acted.{IsActed, shown_by, within_of}
 use Rattle.node_world.proofs.Stills.{IsStep, IsTied, AreStill, tied_still}
 
@@ -50,7 +50,7 @@ tied_pool G H m blocks step h none =
 abbrev host_rest : Bool → List Line
 host_rest ns = cond ns (lines.Admitted host ∷ []) []
 
-plain_rest : (ns : Bool) → ArePlain (host_rest ns)
+plain_rest : (ns : Bool) → AreUncounted (host_rest ns)
 plain_rest true = (tt, tt)
 plain_rest false = tt
 

@@ -37,7 +37,7 @@ use Rattle.node_world.specs.Shown.{IsNodeOf, IsShown}
 use Rattle.node_world.proofs.Lists.{cond_case, has-before, has-last, has-set, node_within, push_case, set_case, set_field}
 use Rattle.node_world.specs.Links.{IsLinkOf}
 use Rattle.node_world.proofs.Flows.{fresh_link}
-use Rattle.node_world.proofs.Carriage.{IsLinked, AreLinked, ArePlain, plain_append, feed_by, counted_lines}
+use Rattle.node_world.proofs.Carriage.{IsLinked, LinksFollow, AreUncounted, plain_append, feed_by, counted_lines}
 use Rattle.node_world.proofs.Acted.{IsActed, HasFeed, IsFedPair, shown_by, linked_of, within_of, fed_of}
 use Rattle.node_world.proofs.Stills.{IsStep, IsTied, AreStill, tied_still, at_is}
 use Rattle.node_world.proofs.Births.{at_nil}
@@ -56,11 +56,11 @@ about_child : (child parent : Enclave) (ns : Bool) → AreAbout child (child_lin
 about_child child parent true = (refl, tt)
 about_child child parent false = (tt, tt)
 
-plain_told : (child : Enclave) (heard : List Enclave) → ArePlain (told_lines child heard)
+plain_told : (child : Enclave) (heard : List Enclave) → AreUncounted (told_lines child heard)
 plain_told child [] = tt
 plain_told child (dead ∷ heard) = (tt, plain_told child heard)
 
-plain_child : (child parent : Enclave) (ns : Bool) → ArePlain (child_lines child parent ns)
+plain_child : (child parent : Enclave) (ns : Bool) → AreUncounted (child_lines child parent ns)
 plain_child child parent true = (tt, tt)
 plain_child child parent false = (tt, tt)
 
@@ -196,9 +196,9 @@ module _ (G H : Facts) (m : MachineView) (kind : Kind) (parent : Enclave) (block
   about = about_append child own (adopt_lines node.view child) (about_append child (told_lines child node.view.core.heard) (child_lines child parent ns) (about_told child node.view.core.heard) (about_child child parent ns))
       (cond_case (knows_way node.view) [] (lines.Sent node.view.me child (query_of node.view.me) ∷ []) (AreAbout child) tt (tt, tt))
 
-  plain : ArePlain ls
+  plain : AreUncounted ls
   plain = plain_append own (adopt_lines node.view child) (plain_append (told_lines child node.view.core.heard) (child_lines child parent ns) (plain_told child node.view.core.heard) (plain_child child parent ns))
-      (cond_case (knows_way node.view) [] (lines.Sent node.view.me child (query_of node.view.me) ∷ []) ArePlain tt (tt, tt))
+      (cond_case (knows_way node.view) [] (lines.Sent node.view.me child (query_of node.view.me) ∷ []) AreUncounted tt (tt, tt))
 
   -- the host, the parent and the child then
   abbrev host_node : NodeView
@@ -374,7 +374,7 @@ module _ (G H : Facts) (m : MachineView) (kind : Kind) (parent : Enclave) (block
         down = λ there. subst (λ dead. IsLinkOf dead (G.channel parent.0 (i + 1)) fresh) (sym (ap not (before parent.0 (λ same. omega (arith, same, count, lives)) ∙ alive))) (subst (λ f. IsLinkOf false f fresh) (sym quiet.1) fresh_link);
       }
 
-  linked_then : AreLinked K.enclave K.channel w.pairs
+  linked_then : LinksFollow K.enclave K.channel w.pairs
   linked_then i within = push_case m.pairs i new_pair no_pair (IsLinked K.enclave K.channel i) within (old_linked i) (new_linked i)
 
   -- ---- decoders

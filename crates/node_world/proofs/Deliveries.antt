@@ -31,15 +31,15 @@ use Rattle.node_machine.specs.Machine.{enclave_numbered}
 use Rattle.node_world.specs.Shown.{IsNodeOf, IsShown}
 use Rattle.node_world.specs.Laws.{WireLaws, ViewLaws}
 use Rattle.node_world.proofs.Lists.{has-set, node_within, same_either, set_case}
-use Rattle.node_world.proofs.Flows.{waiting-length, link_taken, uncut_waiting, got_is, IsFed, feed_from, feed_fed}
-use Rattle.node_world.proofs.Carriage.{AreWithin, ArePlain, feed_by, pair_here, pair_other, pair_case, over, with_link-parent, with_link-length, counted_lines}
+use Rattle.node_world.proofs.Flows.{waiting-length, link_taken, uncut_waiting, got_is, IsFedOn, feed_from, feed_fed}
+use Rattle.node_world.proofs.Carriage.{TakenWithin, AreUncounted, feed_by, pair_here, pair_other, pair_case, over, with_link-parent, with_link-length, counted_lines}
 use Rattle.node_world.proofs.Acted.{IsActed, HasFeed, IsFedPair, shown_by, linked_of, fed_of}
 use Rattle.node_world.proofs.Stills.{IsStep, IsTied, AreStill, tied_still}
 use Rattle.node_world.proofs.Neighbours.{IsOver, cause_of, refused_is, over_up, over_down, over_waits}
 
 -- ---- the lines of records are plain
 
-plain_of : (y : Enclave) (ls : List Line) → AreOf y ls → ArePlain ls
+plain_of : (y : Enclave) (ls : List Line) → AreOf y ls → AreUncounted ls
 plain_of y [] of = tt
 plain_of y (lines.Admitted e ∷ ls) of = (tt, plain_of y ls of.1)
 plain_of y (lines.Asked e by ∷ ls) of = (tt, plain_of y ls of.1)
@@ -83,13 +83,13 @@ module _ (wire : WireLaws) (views : ViewLaws) (G H : Facts) (m : MachineView) (x
   fits : n ≤ length (waiting_bytes link)
   fits = omega arith
 
-  is_fed : IsFed f.sent f.taken n d
+  is_fed : IsFedOn f.sent f.taken n d
   is_fed =
       let size = waiting-length _ f link k.link in
       let feed : feed_at node.feeds x ≡ feed_from f.sent f.taken = ap (λ (o : Option Decoding). option_map_or (λ d. d) o nothing_taken) k.feed in
       let piece : piece_of m count hop ≡ take n (drop f.taken (spellings_of f.sent)) = ap (take n) (k.link.waiting ∙ uncut_waiting f k.link.uncut) in
       let same : after_piece (feed_from f.sent f.taken) (take n (drop f.taken (spellings_of f.sent))) ≡ d = sym (ap (λ d. after_piece d (piece_of m count hop)) feed ∙ ap (after_piece (feed_from f.sent f.taken)) piece) in
-      subst (IsFed f.sent f.taken n) same (feed_fed wire f.sent f.taken n (step.before.flows x.0 y.0).valid (omega (arith, size, fits)))
+      subst (IsFedOn f.sent f.taken n) same (feed_fed wire f.sent f.taken n (step.before.flows x.0 y.0).valid (omega (arith, size, fits)))
 
   -- the facts once the bytes are taken
   abbrev T : Facts
@@ -177,7 +177,7 @@ module _ (wire : WireLaws) (views : ViewLaws) (G H : Facts) (m : MachineView) (x
       step.laws.put node.feeds x.0 c (record d { records = [] }) ∙ ap (λ b. cond b (Some (record d { records = [] })) (at node.feeds c)) apart ∙ h.strangers y.0 c far)
       (λ apart. h.strangers e c far)
 
-  within_after : AreWithin T.channel
+  within_after : TakenWithin T.channel
   within_after a b =
       let size = waiting-length _ f link k.link in
       let few = (step.before.flows a b).taken in
@@ -224,7 +224,7 @@ module _ (wire : WireLaws) (views : ViewLaws) (G H : Facts) (m : MachineView) (x
           tied_still G H (commands.Deliver x y count) m step h tt (machine ∙ ap (λ b. cond b m w) is) (made ∙ sym all) (subst AreStill (sym idle) (tt, tt))
       by false is =
           let busy : command_lines G (commands.Deliver x y count) ≡ lines.Took x y n ∷ ls = all ∙ ap (λ b. cond b (lines.Idle x y ∷ []) (lines.Took x y n ∷ ls)) is in
-          let plain : ArePlain ls = plain_of node.view.me ls (views.of node.view x d.records) in
+          let plain : AreUncounted ls = plain_of node.view.me ls (views.of node.view x d.records) in
           let facts : H ≡ after_lines T ls = step.after ∙ ap (after_lines (after_line G (lines.Do (commands.Deliver x y count)))) busy in
           let living : (e : ℕ) → lives_at H e ≡ lives_at G e = λ e. ap (λ F. lives_at F e) facts ∙ (counted_lines ls T plain).living e in
           let shown = shown_by step.laws T H ls w facts plain step.flowing (busy_acted is busy living) in

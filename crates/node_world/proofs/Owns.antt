@@ -27,7 +27,7 @@ use Rattle.node_machine.specs.Machine.{MachineView, has_node, node_at, pair_at, 
 use Rattle.node_machine.specs.Machine.{enclave_numbered}
 use Rattle.node_world.specs.Shown.{IsNodeOf, IsShown}
 use Rattle.node_world.proofs.Lists.{has-set, node_within, set_case}
-use Rattle.node_world.proofs.Carriage.{ArePlain, counted_lines}
+use Rattle.node_world.proofs.Carriage.{AreUncounted, counted_lines}
 use Rattle.node_world.proofs.Acted.{IsActed, shown_by, linked_of, within_of, fed_of}
 use Rattle.node_world.proofs.Stills.{IsStep, IsTied, IsNoPool, AreStill, tied_still, at_is}
 
@@ -134,7 +134,7 @@ about_call e (lines.Refused cause ∷ ls) own = (tt, about_call e ls own.1)
 about_call e (lines.Alloc of p page frames ∷ ls) own = (own.0, about_call e ls own.1)
 about_call e (_ ∷ ls) own = absurd own.0
 
-plain_call : (e : Enclave) (ls : List Line) → AreCallLines e ls → ArePlain ls
+plain_call : (e : Enclave) (ls : List Line) → AreCallLines e ls → AreUncounted ls
 plain_call e [] own = tt
 plain_call e (lines.Refused cause ∷ ls) own = (tt, plain_call e ls own.1)
 plain_call e (lines.Alloc of p page frames ∷ ls) own = (tt, plain_call e ls own.1)
@@ -189,7 +189,7 @@ tied_call G H m c k is step h = by (lives_at G e.0) refl
         let made_is : after_call m k ≡ w = rw (lives, node.view) refl in
         let lines_are = step.laws.views.calls (view_of G e) k.pid k.call in
         let about : AreAbout e own = about_call e own lines_are in
-        let plain : ArePlain own = plain_call e own lines_are in
+        let plain : AreUncounted own = plain_call e own lines_are in
         let B : Facts = record G { hand = Calls k } in
         let facts : H ≡ after_lines B own = step.after ∙ ap (λ F. after_lines F (command_lines G c)) (call_begun G c k is) ∙ ap (after_lines B) own_is in
         let living : (d : ℕ) → lives_at H d ≡ lives_at G d = λ d. ap (λ F. lives_at F d) facts ∙ (counted_lines own B plain).living d in

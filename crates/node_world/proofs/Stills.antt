@@ -31,14 +31,14 @@ use Rattle.enclave_node.specs.Nodes.{NodeView}
 use Rattle.node_machine.specs.Machine.{MachineView, node_at, at_node, lines_by, acted, carried, with_carried, after_command, node_shown}
 use Rattle.node_machine.specs.Machine.{enclave_numbered}
 use Rattle.node_world.specs.Shown.{IsShown}
-use Rattle.node_world.specs.Laws.{Laws}
+use Rattle.node_world.specs.Laws.{WorldLaws}
 use Rattle.node_world.proofs.Lists.{cond_case}
 
 -- ---- a step by the facts
 
 -- the laws, the facts before and after a command, and the views of the enclaves that then live
 pub record IsStep (G H : Facts) (c : Command) : Type 0 where
-  pub laws : Laws
+  pub laws : WorldLaws
   pub after : H ≡ after_lines G (step_lines G c)
   pub before : IsFlowing G
   pub flowing : IsFlowing H
@@ -52,7 +52,7 @@ pub placed_before : (before : ℕ) (commands more : List Command) → IsPlacedAf
 placed_before before [] more placed = tt
 placed_before before (c ∷ commands) more placed = (placed.0, placed.1, placed_before (before + 1) commands more placed.2)
 
-pub step_of : Laws → (commands : List Command) (c : Command) → IsPlaced (commands ++ c ∷ []) → IsStep (facts_after (journal_of commands)) (facts_after (journal_of (commands ++ c ∷ []))) c
+pub step_of : WorldLaws → (commands : List Command) (c : Command) → IsPlaced (commands ++ c ∷ []) → IsStep (facts_after (journal_of commands)) (facts_after (journal_of (commands ++ c ∷ []))) c
 step_of laws commands c placed =
     let G = facts_after (journal_of commands) in
     let H = facts_after (journal_of (commands ++ c ∷ [])) in

@@ -89,13 +89,13 @@ pub struct World {
 }
 
 impl Model for World {
-    ghost use Rattle.node_world.specs.World.{WorldView, IsKept};
+    ghost use Rattle.node_world.specs.World.{WorldView, IsWorldKept};
 
     ghost Value = { WorldView };
 
     ghost view = { λ w. record { machine = w.machine; journal = w.journal; progress = w.progress } };
 
-    ghost invariant = { λ w. IsKept w.machine w.journal w.progress w.words w.deliveries };
+    ghost invariant = { λ w. IsWorldKept w.machine w.journal w.progress w.words w.deliveries };
 }
 
 fn limit(which: Which) -> WorldFault
