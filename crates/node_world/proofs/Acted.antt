@@ -23,7 +23,7 @@ pub record IsFedPair (G : Facts) (nodes : List NodeView) (i : ℕ) (pair : Pair)
   pub up : lives_at G pair.parent.0 ≡ true → HasFeed G.channel nodes (i + 1) pair.parent.0
   pub down : lives_at G (i + 1) ≡ true → HasFeed G.channel nodes pair.parent.0 (i + 1)
 
--- The machine shows by its counts, links and decoders the facts G, behind which only plain lines come, and by its nodes the
+-- The machine shows by its counts, links and decoders the facts G, behind which only uncounted lines come, and by its nodes the
 -- facts H after these.
 pub record IsActed (G H : Facts) (m : MachineView) : Type 0 where
   pub pool : m.pool ≡ G.pool

@@ -37,7 +37,7 @@ use Rattle.node_world.specs.Shown.{IsNodeOf, IsShown}
 use Rattle.node_world.proofs.Lists.{cond_case, has-before, has-last, has-set, node_within, push_case, set_case, set_field}
 use Rattle.node_world.specs.Links.{IsLinkOf}
 use Rattle.node_world.proofs.Flows.{fresh_link}
-use Rattle.node_world.proofs.Carriage.{IsLinked, LinksFollow, AreUncounted, plain_append, feed_by, counted_lines}
+use Rattle.node_world.proofs.Carriage.{IsLinked, LinksFollow, AreUncounted, uncounted_append, feed_by, counted_lines}
 use Rattle.node_world.proofs.Acted.{IsActed, HasFeed, IsFedPair, shown_by, linked_of, within_of, fed_of}
 use Rattle.node_world.proofs.Stills.{IsStep, IsTied, AreStill, tied_still, at_is}
 use Rattle.node_world.proofs.Births.{at_nil}
@@ -56,13 +56,13 @@ about_child : (child parent : Enclave) (ns : Bool) → AreAbout child (child_lin
 about_child child parent true = (refl, tt)
 about_child child parent false = (tt, tt)
 
-plain_told : (child : Enclave) (heard : List Enclave) → AreUncounted (told_lines child heard)
-plain_told child [] = tt
-plain_told child (dead ∷ heard) = (tt, plain_told child heard)
+uncounted_told : (child : Enclave) (heard : List Enclave) → AreUncounted (told_lines child heard)
+uncounted_told child [] = tt
+uncounted_told child (dead ∷ heard) = (tt, uncounted_told child heard)
 
-plain_child : (child parent : Enclave) (ns : Bool) → AreUncounted (child_lines child parent ns)
-plain_child child parent true = (tt, tt)
-plain_child child parent false = (tt, tt)
+uncounted_child : (child parent : Enclave) (ns : Bool) → AreUncounted (child_lines child parent ns)
+uncounted_child child parent true = (tt, tt)
+uncounted_child child parent false = (tt, tt)
 
 own_append : (v : View) (ls ms : List Line) → own_lines Nothing v (ls ++ ms) ≡ own_lines Nothing (own_lines Nothing v ls) ms
 own_append v [] ms = refl
@@ -197,7 +197,7 @@ module _ (G H : Facts) (m : MachineView) (kind : Kind) (parent : Enclave) (block
       (cond_case (knows_way node.view) [] (lines.Sent node.view.me child (query_of node.view.me) ∷ []) (AreAbout child) tt (tt, tt))
 
   plain : AreUncounted ls
-  plain = plain_append own (adopt_lines node.view child) (plain_append (told_lines child node.view.core.heard) (child_lines child parent ns) (plain_told child node.view.core.heard) (plain_child child parent ns))
+  plain = uncounted_append own (adopt_lines node.view child) (uncounted_append (told_lines child node.view.core.heard) (child_lines child parent ns) (uncounted_told child node.view.core.heard) (uncounted_child child parent ns))
       (cond_case (knows_way node.view) [] (lines.Sent node.view.me child (query_of node.view.me) ∷ []) AreUncounted tt (tt, tt))
 
   -- the host, the parent and the child then

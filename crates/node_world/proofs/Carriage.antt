@@ -205,9 +205,9 @@ abbrev pub AreUncounted : List Line → Type 0
 AreUncounted [] = Unit {0}
 AreUncounted (line ∷ journal) = IsUncounted line × AreUncounted journal
 
-pub plain_append : (ls ms : List Line) → AreUncounted ls → AreUncounted ms → AreUncounted (ls ++ ms)
-plain_append [] ms first more = more
-plain_append (line ∷ ls) ms first more = (first.0, plain_append ls ms first.1 more)
+pub uncounted_append : (ls ms : List Line) → AreUncounted ls → AreUncounted ms → AreUncounted (ls ++ ms)
+uncounted_append [] ms first more = more
+uncounted_append (line ∷ ls) ms first more = (first.0, uncounted_append ls ms first.1 more)
 
 -- the pairs are as many as before, and of the same parents
 pub with_link-parent : (pairs : List Pair) (hop : Hop) (link : Channel) (i : ℕ) → (pair_at (with_link pairs hop link) i).parent ≡ (pair_at pairs i).parent
@@ -244,7 +244,7 @@ carried-length nodes (lines.Sent x y r ∷ ls) pairs =
     carried-length nodes ls (carried_over pairs hop r) ∙ carried_over-length pairs hop r
 carried-length nodes (_ ∷ ls) pairs = carried-length nodes ls pairs
 
--- the channels show the facts after plain lines, once what they send is carried
+-- the channels show the facts after uncounted lines, once what they send is carried
 pub linked_lines : WorldLaws → (nodes : List NodeView) (ls : List Line) (G : Facts) (pairs : List Pair) → length pairs ≡ length nodes - 1 → ((e : ℕ) → has_node nodes e ≡ lives_at G e) → ((e : ℕ) → e < length nodes → lives_at G e ≡ true) → AreUncounted ls → LinksFollow G.enclave G.channel pairs
     → LinksFollow (after_lines G ls).enclave (after_lines G ls).channel (carried nodes pairs ls)
 linked_lines laws nodes [] G pairs count living alive plain all = all
@@ -302,7 +302,7 @@ got_feed x y channels a b = by (eqb a x && eqb b y) (channels a b)
     by true f = refl
     by false f = refl
 
--- plain lines leave what each decoder has
+-- uncounted lines leave what each decoder has
 pub fed_lines : (ls : List Line) (G : Facts) → AreUncounted ls → TakenWithin G.channel → (a b : ℕ) → feed_by ((after_lines G ls).channel a b) ≡ feed_by (G.channel a b)
 fed_lines [] G plain all a b = refl
 fed_lines (lines.Sent x y r ∷ ls) G plain all a b = fed_lines ls (after_line G (lines.Sent x y r)) plain.1 (sent_within x.0 y.0 r G.channel all) a b ∙ sent_feed x.0 y.0 r G.channel all a b
@@ -313,7 +313,7 @@ fed_lines (line ∷ ls) G plain all a b = fed_lines ls (after_line G line) plain
 
 -- ---- numbers
 
--- plain lines leave what is counted, and who lives
+-- uncounted lines leave what is counted, and who lives
 pub record CountsStay (G H : Facts) : Type 0 where
   pub pool : H.pool ≡ G.pool
   pub born : H.born ≡ G.born

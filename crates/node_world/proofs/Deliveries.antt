@@ -37,19 +37,19 @@ use Rattle.node_world.proofs.Acted.{IsActed, HasFeed, IsFedPair, shown_by, linke
 use Rattle.node_world.proofs.Stills.{IsStep, IsTied, AreStill, tied_still}
 use Rattle.node_world.proofs.Neighbours.{IsOver, cause_of, refused_is, over_up, over_down, over_waits}
 
--- ---- the lines of records are plain
+-- ---- the lines of records are uncounted
 
-plain_of : (y : Enclave) (ls : List Line) → AreOf y ls → AreUncounted ls
-plain_of y [] of = tt
-plain_of y (lines.Admitted e ∷ ls) of = (tt, plain_of y ls of.1)
-plain_of y (lines.Asked e by ∷ ls) of = (tt, plain_of y ls of.1)
-plain_of y (lines.Way e over ∷ ls) of = (tt, plain_of y ls of.1)
-plain_of y (lines.Sent a b r ∷ ls) of = (tt, plain_of y ls of.1)
-plain_of y (lines.Got a b ∷ ls) of = (tt, plain_of y ls of.1)
-plain_of y (lines.Dropped e ∷ ls) of = (tt, plain_of y ls of.1)
-plain_of y (lines.Back e d over ∷ ls) of = (tt, plain_of y ls of.1)
-plain_of y (lines.Route e d over ∷ ls) of = (tt, plain_of y ls of.1)
-plain_of y (_ ∷ ls) of = absurd of.0
+uncounted_of : (y : Enclave) (ls : List Line) → AreOf y ls → AreUncounted ls
+uncounted_of y [] of = tt
+uncounted_of y (lines.Admitted e ∷ ls) of = (tt, uncounted_of y ls of.1)
+uncounted_of y (lines.Asked e by ∷ ls) of = (tt, uncounted_of y ls of.1)
+uncounted_of y (lines.Way e over ∷ ls) of = (tt, uncounted_of y ls of.1)
+uncounted_of y (lines.Sent a b r ∷ ls) of = (tt, uncounted_of y ls of.1)
+uncounted_of y (lines.Got a b ∷ ls) of = (tt, uncounted_of y ls of.1)
+uncounted_of y (lines.Dropped e ∷ ls) of = (tt, uncounted_of y ls of.1)
+uncounted_of y (lines.Back e d over ∷ ls) of = (tt, uncounted_of y ls of.1)
+uncounted_of y (lines.Route e d over ∷ ls) of = (tt, uncounted_of y ls of.1)
+uncounted_of y (_ ∷ ls) of = absurd of.0
 
 -- ---- a delivery over a channel
 
@@ -224,7 +224,7 @@ module _ (wire : WireLaws) (views : ViewLaws) (G H : Facts) (m : MachineView) (x
           tied_still G H (commands.Deliver x y count) m step h tt (machine ∙ ap (λ b. cond b m w) is) (made ∙ sym all) (subst AreStill (sym idle) (tt, tt))
       by false is =
           let busy : command_lines G (commands.Deliver x y count) ≡ lines.Took x y n ∷ ls = all ∙ ap (λ b. cond b (lines.Idle x y ∷ []) (lines.Took x y n ∷ ls)) is in
-          let plain : AreUncounted ls = plain_of node.view.me ls (views.of node.view x d.records) in
+          let plain : AreUncounted ls = uncounted_of node.view.me ls (views.of node.view x d.records) in
           let facts : H ≡ after_lines T ls = step.after ∙ ap (after_lines (after_line G (lines.Do (commands.Deliver x y count)))) busy in
           let living : (e : ℕ) → lives_at H e ≡ lives_at G e = λ e. ap (λ F. lives_at F e) facts ∙ (counted_lines ls T plain).living e in
           let shown = shown_by step.laws T H ls w facts plain step.flowing (busy_acted is busy living) in

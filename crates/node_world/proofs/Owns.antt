@@ -127,18 +127,18 @@ tied_proc G H m e uid gid step h = by (lives_at G e.0) (leb 1024 G.starts) refl 
 
 -- ---- calls
 
--- the lines of a call are about its enclave, and plain
+-- the lines of a call are about its enclave, and uncounted
 about_call : (e : Enclave) (ls : List Line) → AreCallLines e ls → AreAbout e ls
 about_call e [] own = tt
 about_call e (lines.Refused cause ∷ ls) own = (tt, about_call e ls own.1)
 about_call e (lines.Alloc of p page frames ∷ ls) own = (own.0, about_call e ls own.1)
 about_call e (_ ∷ ls) own = absurd own.0
 
-plain_call : (e : Enclave) (ls : List Line) → AreCallLines e ls → AreUncounted ls
-plain_call e [] own = tt
-plain_call e (lines.Refused cause ∷ ls) own = (tt, plain_call e ls own.1)
-plain_call e (lines.Alloc of p page frames ∷ ls) own = (tt, plain_call e ls own.1)
-plain_call e (_ ∷ ls) own = absurd own.0
+uncounted_call : (e : Enclave) (ls : List Line) → AreCallLines e ls → AreUncounted ls
+uncounted_call e [] own = tt
+uncounted_call e (lines.Refused cause ∷ ls) own = (tt, uncounted_call e ls own.1)
+uncounted_call e (lines.Alloc of p page frames ∷ ls) own = (tt, uncounted_call e ls own.1)
+uncounted_call e (_ ∷ ls) own = absurd own.0
 
 -- the `do` line of a call gives it into the hand
 call_begun : (G : Facts) (c : Command) (k : ProcessCall) → call_of c ≡ Some k → after_line G (lines.Do c) ≡ record G { hand = Calls k }
@@ -189,7 +189,7 @@ tied_call G H m c k is step h = by (lives_at G e.0) refl
         let made_is : after_call m k ≡ w = rw (lives, node.view) refl in
         let lines_are = step.laws.views.calls (view_of G e) k.pid k.call in
         let about : AreAbout e own = about_call e own lines_are in
-        let plain : AreUncounted own = plain_call e own lines_are in
+        let plain : AreUncounted own = uncounted_call e own lines_are in
         let B : Facts = record G { hand = Calls k } in
         let facts : H ≡ after_lines B own = step.after ∙ ap (λ F. after_lines F (command_lines G c)) (call_begun G c k is) ∙ ap (after_lines B) own_is in
         let living : (d : ℕ) → lives_at H d ≡ lives_at G d = λ d. ap (λ F. lives_at F d) facts ∙ (counted_lines own B plain).living d in
