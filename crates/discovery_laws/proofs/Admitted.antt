@@ -12,8 +12,8 @@ use Rattle.global_model.specs.Facts.{Facts, EnclaveFact, after_line, as_admitted
 use Rattle.global_model.specs.Flow.{IsTree}
 use Rattle.global_model.specs.Tree.{IsRooted, IsToward, distance, parent_of}
 use Rattle.global_model.specs.Views.{view_of}
-use Rattle.discovery_laws.specs.Known.{routes_of, back_of, holds, in_flight, is_admitted_at, route_of, way_of}
-use Rattle.discovery_laws.specs.Laws.{Laws}
+use Rattle.discovery_laws.specs.Known.{routes_of, back_at, holds, in_flight, is_admitted_at, route_at, way_at}
+use Rattle.discovery_laws.specs.Laws.{DiscoveryLaws}
 use Rattle.discovery_laws.proofs.Underway.{IsBounded, bounded_got}
 use Rattle.discovery_laws.proofs.Stages.{Admitting, Ready, Answers, IsRoute, IsStaged, about_in, is_about, number}
 use Rattle.discovery_laws.proofs.Unmoved.{answers_stay, holds_admitted}
@@ -28,7 +28,7 @@ some_ready None is = cc
 some_ready (Some fact) is = refl
 
 -- The admit of d came from x to y.
-module _ (laws : Laws) (G : Facts) (x y : Enclave) (d h : ℕ) (rs : List Record) (rooted : IsRooted (parent_of G)) (bounded : IsBounded G)
+module _ (laws : DiscoveryLaws) (G : Facts) (x y : Enclave) (d h : ℕ) (rs : List Record) (rooted : IsRooted (parent_of G)) (bounded : IsBounded G)
     (staged : IsStaged (parent_of G) G.born G d (Admitting h x.0 y.0)) (flight : in_flight G x.0 y.0 ≡ admit_of (number h) (number d) ∷ rs)
     (last : filter (is_about d) rs ≡ []) where
   got_admit : (a b : ℕ) → about_in (after_line G (lines.Got x y)) d a b ≡ []
@@ -49,13 +49,13 @@ module _ (laws : Laws) (G : Facts) (x y : Enclave) (d h : ℕ) (rs : List Record
   abbrev routed : Enclave → Facts
   routed over = after_line (after_line G (lines.Got x y)) (lines.Route y (number d) over)
 
-  backs_routed : (over : Enclave) (e : ℕ) → back_of (routed over) e d ≡ back_of G e d
+  backs_routed : (over : Enclave) (e : ℕ) → back_at (routed over) e d ≡ back_at G e d
   backs_routed over e = ap (λ table. at table d) (route_leaves_backs (after_line G (lines.Got x y)) y (number d) over e)
 
-  pub now_routed : (over : Enclave) → route_of (routed over) y.0 d ≡ Some over
+  pub now_routed : (over : Enclave) → route_at (routed over) y.0 d ≡ Some over
   now_routed over = row_here laws.row (routes_of G) (routes_of (routed over)) y.0 d over (route_puts (after_line G (lines.Got x y)) y (number d) over)
 
-  routes_routed : (over : Enclave) → IsToward (parent_of G) G.born y.0 d over.0 → (e : ℕ) (z : Enclave) → route_of (routed over) e d ≡ Some z
+  routes_routed : (over : Enclave) → IsToward (parent_of G) G.born y.0 d over.0 → (e : ℕ) (z : Enclave) → route_at (routed over) e d ≡ Some z
       → IsRoute (parent_of G) G.born d (Admitting h y.0 over.0) e z.0
   routes_routed over toward e z is =
       let nearer = laws.tree.nearer (parent_of G) G.born y.0 d over.0 rooted toward in
@@ -68,26 +68,26 @@ module _ (laws : Laws) (G : Facts) (x y : Enclave) (d h : ℕ) (rs : List Record
       ]
 
   -- and the admit is passed on over it
-  pub passed_over : (over : Enclave) → back_of G y.0 d ≡ Some over
+  pub passed_over : (over : Enclave) → back_at G y.0 d ≡ Some over
       → IsStaged (parent_of G) G.born (after_line (routed over) (lines.Sent y over (admit_of (number h) (number d)))) d (Admitting h y.0 over.0)
   passed_over over found =
       let P = parent_of G in
       let at = staged.at in
       let back = staged.backs y.0 over found in
       let nearer = laws.tree.nearer P G.born y.0 d over.0 rooted back.toward in
-      let later = back_of (after_line (routed over) (lines.Sent y over (admit_of (number h) (number d)))) in
+      let later = back_at (after_line (routed over) (lines.Sent y over (admit_of (number h) (number d)))) in
       let way = (route_leaves (after_line G (lines.Got x y)) y (number d) over).way d in
       record {
         flight = λ a b. one_sent (routed over) y over (admit_of (number h) (number d)) d a b still_bounded (eq-eqb d d refl) (got_admit a b);
         backs = λ e z is.
             let was = staged.backs e z (sym (backs_routed over e) ∙ is) in
-            record { toward = was.toward; leads = answers_stay (back_of G) later d z.0 (backs_routed over) was.leads; may = tt };
+            record { toward = was.toward; leads = answers_stay (back_at G) later d z.0 (backs_routed over) was.leads; may = tt };
         routes = routes_routed over back.toward;
         at = record {
           from = at.from;
           ahead = back.toward;
           nearer = omega (arith, nearer, at.nearer);
-          answers = answers_stay (back_of G) later d over.0 (backs_routed over) back.leads;
+          answers = answers_stay (back_at G) later d over.0 (backs_routed over) back.leads;
           known = ap (λ way. holds G d || is_some way) way ∙ at.known;
           waits = at.waits;
         };
@@ -101,7 +101,7 @@ module _ (laws : Laws) (G : Facts) (x y : Enclave) (d h : ℕ) (rs : List Record
     backs = λ e z is. let was = staged.backs e z is in record { toward = was.toward; leads = was.leads; may = tt };
     routes = λ e z is. let was = staged.routes e z is in record { toward = was.toward; may = tt };
     at = record {
-      known = ap (λ t. t || is_some (way_of G d)) (holds_admitted (after_line G (lines.Got x y)) y d) ∙ staged.at.known;
+      known = ap (λ t. t || is_some (way_at G d)) (holds_admitted (after_line G (lines.Got x y)) y d) ∙ staged.at.known;
       admitted = rw (eq-eqb d y.0 (sym here)) (some_ready (G.enclave y.0) some);
     };
   }
@@ -115,7 +115,7 @@ admit_on : (v : View) (from d over : Enclave) (r : Record) → d.0 ≢ v.me.0 �
     → admit_to v from r (Some d) ≡ lines.Route v.me d over ∷ lines.Sent v.me over r ∷ []
 admit_on v from d over r apart back turned = rw (ne_eqb d.0 v.me.0 apart, back, ne_eqb over.0 from.0 turned) refl
 
-pub admit_handled : Laws → (G : Facts) (x y : Enclave) (d h : ℕ) (rs : List Record) → IsLed G → IsTree G → IsBounded G
+pub admit_handled : DiscoveryLaws → (G : Facts) (x y : Enclave) (d h : ℕ) (rs : List Record) → IsLed G → IsTree G → IsBounded G
     → IsStaged (parent_of G) G.born G d (Admitting h x.0 y.0) → in_flight G x.0 y.0 ≡ admit_of (number h) (number d) ∷ rs
     → filter (is_about d) rs ≡ []
     → IsMoved G x y d (admit_of (number h) (number d)) (record_lines (view_of G y) x (admit_of (number h) (number d)))
@@ -152,16 +152,16 @@ admit_handled laws G x y d h rs led tree bounded staged flight last =
     born : is_some (G.enclave y.0) ≡ true
     born = (tree.enclaves y.0).known ∙ lt-ltb y.0 G.born staged.at.ahead.over
 
-    none : is_some (route_of G y.0 d) ≡ false
-    none = false_from_ne_true (is_some (route_of G y.0 d)) (λ some.
-        let found = is_there (route_of G y.0 d) some in
+    none : is_some (route_at G y.0 d) ≡ false
+    none = false_from_ne_true (is_some (route_at G y.0 d)) (λ some.
+        let found = is_there (route_at G y.0 d) some in
         let less = (staged.routes y.0 found.value found.is).may in
         omega (arith, less))
 
-    by : d ≢ y.0 → Answers (back_of G) d y.0 → P (body_lines (view_of G y) x r r.body)
+    by : d ≢ y.0 → Answers (back_at G) d y.0 → P (body_lines (view_of G y) x r r.body)
     by apart (inl is) = absurd (apart (sym is))
     by apart (inr some) =
-        let found = is_there (back_of G y.0 d) some in
+        let found = is_there (back_at G y.0 d) some in
         let over = found.value in
         let turned : over.0 ≢ x.0 = back_apart laws G x y d h rs rooted bounded staged flight last over (staged.backs y.0 over found.is).toward in
         subst P (sym (admit_on (view_of G y) x (number d) over r apart found.is turned))

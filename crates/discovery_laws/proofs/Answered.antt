@@ -21,8 +21,8 @@ use Rattle.global_model.specs.Channels.{is_neighbour}
 use Rattle.global_model.specs.Flow.{IsTree}
 use Rattle.global_model.specs.Tree.{IsToward, parent_of}
 use Rattle.global_model.specs.Views.{view_of}
-use Rattle.discovery_laws.specs.Known.{askers_of, holds, in_flight, knows, way_of}
-use Rattle.discovery_laws.specs.Laws.{PastLaws, TreeLaws}
+use Rattle.discovery_laws.specs.Known.{askers_of, holds, in_flight, knows, way_at}
+use Rattle.discovery_laws.specs.Laws.{FactLaws, TreeLaws}
 use Rattle.discovery_laws.proofs.Flights.{one_if, count, add}
 use Rattle.discovery_laws.proofs.Effects.{asked_leaves}
 use Rattle.discovery_laws.proofs.Asking.{is_query, is_here, is_query_body, is_here_body, place, one_place, remembers, heres_flying, IsCounted, counted_sent, counted_got, counted_way, counted_asked}
@@ -52,7 +52,7 @@ holder_is None = refl
 holder_is (Some fact) = refl
 
 pub knows_way_is : (G : Facts) (y : Enclave) → knows_way (view_of G y) ≡ knows G y.0
-knows_way_is G y = ap (λ b. b || is_some (way_of G y.0)) (holder_is (G.enclave y.0))
+knows_way_is G y = ap (λ b. b || is_some (way_at G y.0)) (holder_is (G.enclave y.0))
 
 -- ---- records that neither ask for the way nor tell it
 
@@ -247,11 +247,11 @@ module _ (laws : TreeLaws) (G : Facts) (x y : Enclave) (tree : IsTree G) (near :
   pub over_neighbour : knows G x.0 ≡ true → knows G y.0 ≡ false → (h : ℕ) → holds G h ≡ true → IsToward (parent_of G) G.born y.0 h x.0
   over_neighbour knowing unknowing h is = elim (laws.sides (parent_of G) G.born x.0 y.0 h old.rooted (laws.near G x.0 y.0 near)
       (near_born G x.0 y.0 tree near) (near_born G y.0 x.0 tree (near_turned G x.0 y.0 near)) (holder_born G h tree is)) [
-        | inl away ↦ absurd (back away (way_of G x.0) refl)
+        | inl away ↦ absurd (back away (way_at G x.0) refl)
         | inr there ↦ there
       ]
     where
-      back : IsToward (parent_of G) G.born x.0 h y.0 → (o : Option Enclave) → way_of G x.0 ≡ o → ⊥
+      back : IsToward (parent_of G) G.born x.0 h y.0 → (o : Option Enclave) → way_at G x.0 ≡ o → ⊥
       back away None none =
           let held : holds G x.0 ≡ true = by (holds G x.0) (ap (λ o. holds G x.0 || is_some o) (sym none) ∙ knowing) in
           away.apart (old.known.one x.0 h held is)
@@ -265,7 +265,7 @@ module _ (laws : TreeLaws) (G : Facts) (x y : Enclave) (tree : IsTree G) (near :
           let clash : true ≡ false = sym (old.known.over x.0 over found) ∙ ap (knows G) same ∙ unknowing in
           cc
 
-  pub handles_here : (past : PastLaws) (table : RowLaws Enclave) (r : Record) (behind : List Record) → in_flight G x.0 y.0 ≡ r ∷ behind
+  pub handles_here : (past : FactLaws) (table : RowLaws Enclave) (r : Record) (behind : List Record) → in_flight G x.0 y.0 ≡ r ∷ behind
       → is_here r ≡ true → is_query r ≡ false → knows G y.0 ≡ false
       → IsAsking none_owed (after_lines G (lines.Got x y ∷ lines.Way y x
       ∷ told_askers (view_of G y) (less (askers_of G y.0) (place (parent_of G y.0) x.0)) ++ lines.Sent y x (register_of y) ∷ []))

@@ -19,8 +19,8 @@ use Rattle.global_model.specs.Pauses.{Step, Written, Hosts, Bears, Takes, Handle
 use Rattle.global_model.specs.Tree.{parent_of}
 use Rattle.discovery_laws.proofs.Led.{IsLed}
 use Rattle.global_model.specs.Views.{view_of}
-use Rattle.discovery_laws.specs.Known.{holds, in_flight, knows, way_of}
-use Rattle.discovery_laws.specs.Laws.{Laws}
+use Rattle.discovery_laws.specs.Known.{holds, in_flight, knows, way_at}
+use Rattle.discovery_laws.specs.Laws.{DiscoveryLaws}
 use Rattle.discovery_laws.specs.Ways.{LeadsToHolder}
 use Rattle.discovery_laws.proofs.Flights.{one_if}
 use Rattle.discovery_laws.proofs.Asking.{is_query, is_here, is_query_body, is_here_body, none_ascends, place, remembers, queries_flying, heres_flying}
@@ -37,7 +37,7 @@ IsAsked G = IsAsking none_owed G
 
 -- ---- records
 
-module _ (laws : Laws) (G : Facts) (x y : Enclave) (r : Record) (behind : List Record) (next : in_flight G x.0 y.0 ≡ r ∷ behind) (tree : IsTree G) (near : is_neighbour G x.0 y.0 ≡ true) (old : IsAsked G) where
+module _ (laws : DiscoveryLaws) (G : Facts) (x y : Enclave) (r : Record) (behind : List Record) (next : in_flight G x.0 y.0 ≡ r ∷ behind) (tree : IsTree G) (near : is_neighbour G x.0 y.0 ≡ true) (old : IsAsked G) where
   abbrev v : View
   v = view_of G y
 
@@ -78,7 +78,7 @@ module _ (laws : Laws) (G : Facts) (x y : Enclave) (r : Record) (behind : List R
 
 -- ---- steps
 
-pub asked_step : (laws : Laws) (G : Facts) (step : Step) → IsPause G → MayCome G step → IsAsked G → IsAsked (after_lines G (written_by G step))
+pub asked_step : (laws : DiscoveryLaws) (G : Facts) (step : Step) → IsPause G → MayCome G step → IsAsked G → IsAsked (after_lines G (written_by G step))
 asked_step laws G (Written line) pause may old = calm_line laws.tree none_owed G line (calm_alone G line may.1) old
 asked_step laws G (Hosts ns blocks) pause may old = asked_host laws G pause old ns blocks may.1
 asked_step laws G (Bears child kind parent ns blocks) pause may old = asked_boot laws G pause old child parent kind ns blocks may.1 may.2
@@ -88,7 +88,7 @@ asked_step laws G (Handles x y r) pause may old =
     asked_record laws G x y r first.others first.is pause.tree may.near old r.body refl
 
 -- nobody asks, and nobody knows the way, before the first command
-pub asked_first : (laws : Laws) → IsAsked no_facts
+pub asked_first : (laws : DiscoveryLaws) → IsAsked no_facts
 asked_first laws = record {
   counted = record {
     within = λ a b. omega arith;
@@ -129,13 +129,13 @@ pub asked_led : (G : Facts) → IsAsked G → IsLed G
 asked_led G old = record {
   way = old.known.leads;
   known = old.known.over;
-  held = λ e x is. old.known.held (old.known.server e (or_right (holds G e) (is_some (way_of G e)) (ap (λ o. is_some o) is)));
+  held = λ e x is. old.known.held (old.known.server e (or_right (holds G e) (is_some (way_at G e)) (ap (λ o. is_some o) is)));
   one = old.known.one;
   quiet = old.known.quiet;
 }
 
 -- and where a way leads
-pub asked_leads : (G : Facts) → IsAsked G → (e : ℕ) (x : Enclave) → way_of G e ≡ Some x → LeadsToHolder G e x
+pub asked_leads : (G : Facts) → IsAsked G → (e : ℕ) (x : Enclave) → way_at G e ≡ Some x → LeadsToHolder G e x
 asked_leads G old e x is =
     let held = (asked_led G old).held e x is in
     record { holder = held.holder; holds = held.holds; toward = old.known.leads held.holder e x held.holds is }

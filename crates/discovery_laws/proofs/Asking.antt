@@ -14,7 +14,7 @@ use Rattle.xemem_language.specs.declared.line.Line.TheVariants as lines
 use Rattle.global_model.specs.Facts.{Facts, after_line, at_number, with_sent}
 use Rattle.global_model.specs.Channels.{is_neighbour}
 use Rattle.global_model.specs.Tree.{parent_of}
-use Rattle.discovery_laws.specs.Known.{askers_of, holds, in_flight, knows, way_of}
+use Rattle.discovery_laws.specs.Known.{askers_of, holds, in_flight, knows, way_at}
 use Rattle.discovery_laws.proofs.Effects.{number_at, way_learns, way_clears, asked_leaves, asked_keeps}
 use Rattle.discovery_laws.proofs.Flights.{one_if, count, count-append, add, add-turned, pair_has, sent_more, flies_more, got_sent, flies_less}
 use Rattle.discovery_laws.proofs.Underway.{IsBounded, bounded_sent, bounded_got}
@@ -89,13 +89,13 @@ pub record IsAlike (G H : Facts) : Type 0 where
   pub holds : (e : ℕ) → holds H e ≡ holds G e
   pub parent : (e : ℕ) → parent_of H e ≡ parent_of G e
   pub near : (a b : ℕ) → is_neighbour H a b ≡ is_neighbour G a b
-  pub way : (e : ℕ) → way_of H e ≡ way_of G e
+  pub way : (e : ℕ) → way_at H e ≡ way_at G e
   pub heard : (e : ℕ) → H.heard e ≡ G.heard e
   pub sent : (a b : ℕ) → (H.channel a b).sent ≡ (G.channel a b).sent
   pub got : (a b : ℕ) → (H.channel a b).got ≡ (G.channel a b).got
   pub cut : (a b : ℕ) → (H.channel a b).cut ≡ (G.channel a b).cut
 
-pub record IsSame (G H : Facts) : Type 0 where
+pub record AsksSame (G H : Facts) : Type 0 where
   pub alike : IsAlike G H
   pub askers : (e : ℕ) → askers_of H e ≡ askers_of G e
 
@@ -106,7 +106,7 @@ module _ (G H : Facts) (alike : IsAlike G H) where
   pub same_flight : (a b : ℕ) → in_flight H a b ≡ in_flight G a b
   same_flight a b = λ i. drop (alike.got a b i) (alike.sent a b i)
 
-module _ (G H : Facts) (same : IsSame G H) where
+module _ (G H : Facts) (same : AsksSame G H) where
   pub same_remembers : (a b : ℕ) → remembers H a b ≡ remembers G a b
   same_remembers a b = λ i. is_some (at (same.askers a i) (place (same.alike.parent a i) b))
 
@@ -238,7 +238,7 @@ counted_way owed left knowing laws G y from elsewhere none most least told old =
     by a false is = omega (arith, ap one_if is)
 
     before : (e : ℕ) → eqb e y.0 ≡ false → knows H e ≡ true → knows G e ≡ true
-    before e other is = ap (λ o. holds G e || is_some o) (sym (way_learns G y from e ∙ ap (λ t. cond t (Some from) (way_of G e)) other)) ∙ is
+    before e other is = ap (λ o. holds G e || is_some o) (sym (way_learns G y from e ∙ ap (λ t. cond t (Some from) (way_at G e)) other)) ∙ is
 
 -- ---- who asked is remembered
 
@@ -252,13 +252,13 @@ one_place parent x y = by (eqb x parent) (eqb y parent) refl refl
     by false false first second same = omega (arith, same)
 
 -- what a remembers of b once y remembers `by`: that one now, instead of owing it, and the others as before
-record IsKept (owed left : ℕ → ℕ → ℕ) (G H : Facts) (a b : ℕ) : Type 0 where
+record IsRemembered (owed left : ℕ → ℕ → ℕ) (G H : Facts) (a b : ℕ) : Type 0 where
   either : ((one_if (remembers H a b) ≡ 1) × (owed a b ≡ left a b + 1))
       ⊎ ((one_if (remembers H a b) ≡ one_if (remembers G a b)) × (owed a b ≡ left a b))
 
 kept : (owed left : ℕ → ℕ → ℕ) (laws : RowLaws Enclave) (G : Facts) (y asker : Enclave)
     → ((a b : ℕ) → owed a b ≡ left a b + add true y.0 asker.0 a b)
-    → (a b : ℕ) → IsKept owed left G (after_line G (lines.Asked y asker)) a b
+    → (a b : ℕ) → IsRemembered owed left G (after_line G (lines.Asked y asker)) a b
 kept owed left laws G y asker pays a b = record {
   either = number_at (λ a rows. ((one_if (is_some (at rows (place (parent_of G a) b))) ≡ 1) × (owed a b ≡ left a b + 1))
       ⊎ ((one_if (is_some (at rows (place (parent_of G a) b))) ≡ one_if (remembers G a b)) × (owed a b ≡ left a b)))

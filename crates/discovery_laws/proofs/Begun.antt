@@ -14,8 +14,8 @@ use Rattle.enclave_rules.specs.Ways.{place_among}
 use Rattle.global_model.specs.Facts.{Facts, after_line, after_lines}
 use Rattle.global_model.specs.Tree.{IsRooted, IsToward, parent_of}
 use Rattle.global_model.specs.Views.{view_of}
-use Rattle.discovery_laws.specs.Known.{back_of, holds, in_flight, is_admitted_at, knows, route_of, way_of}
-use Rattle.discovery_laws.specs.Laws.{Laws}
+use Rattle.discovery_laws.specs.Known.{back_at, holds, in_flight, is_admitted_at, knows, route_at, way_at}
+use Rattle.discovery_laws.specs.Laws.{DiscoveryLaws}
 use Rattle.discovery_laws.proofs.Answered.{knows_way_is}
 use Rattle.discovery_laws.proofs.Effects.{way_learns, way_leaves}
 use Rattle.discovery_laws.proofs.Underway.{IsBounded, bounded_got}
@@ -27,13 +27,13 @@ use Rattle.discovery_laws.proofs.Led.{IsLed}
 use Rattle.discovery_laws.proofs.Registers.{record_is, turned_home}
 
 -- nothing of d stands anywhere, and it isn't admitted
-record IsFresh (G : Facts) (d : ℕ) : Type 0 where
+record IsUnheard (G : Facts) (d : ℕ) : Type 0 where
   flight : (a b : ℕ) → about_in G d a b ≡ []
-  backs : (e : ℕ) (x : Enclave) → back_of G e d ≡ Some x → ⊥
-  routes : (e : ℕ) (x : Enclave) → route_of G e d ≡ Some x → ⊥
+  backs : (e : ℕ) (x : Enclave) → back_at G e d ≡ Some x → ⊥
+  routes : (e : ℕ) (x : Enclave) → route_at G e d ≡ Some x → ⊥
   waits : is_admitted_at G d ≡ false
 
-fresh_stays : (G H : Facts) (d : ℕ) → IsUnmoved G H d → IsFresh G d → IsFresh H d
+fresh_stays : (G H : Facts) (d : ℕ) → IsUnmoved G H d → IsUnheard G d → IsUnheard H d
 fresh_stays G H d same fresh = record {
   flight = λ a b. same.flight a b ∙ fresh.flight a b;
   backs = λ e x is. fresh.backs e x (sym (same.backs e) ∙ is);
@@ -45,7 +45,7 @@ known_not : (G : Facts) (d : ℕ) → knows G d ≡ false → knows G d ≡ true
 known_not G d none known = let both : false ≡ true = sym none ∙ known in cc
 
 -- who knows no way is silent
-silent_stage : (parent : ℕ → ℕ) (born : ℕ) (G : Facts) (d : ℕ) (stage : Stage) → knows G d ≡ false → IsStaged parent born G d stage → IsFresh G d
+silent_stage : (parent : ℕ → ℕ) (born : ℕ) (G : Facts) (d : ℕ) (stage : Stage) → knows G d ≡ false → IsStaged parent born G d stage → IsUnheard G d
 silent_stage parent born G d Silent none staged = record {
   flight = staged.flight;
   backs = λ e x is. (staged.backs e x is).may;
@@ -59,7 +59,7 @@ silent_stage parent born G d Ready none staged = absurd (known_not G d none stag
 -- ---- registering
 
 -- once d has sent its register over its way
-registers : Laws → (G : Facts) (d x : Enclave) (h : ℕ) (parent : ℕ → ℕ) (born : ℕ) → IsRooted parent → IsBounded G → IsFresh G d.0
+registers : DiscoveryLaws → (G : Facts) (d x : Enclave) (h : ℕ) (parent : ℕ → ℕ) (born : ℕ) → IsRooted parent → IsBounded G → IsUnheard G d.0
     → IsToward parent born d.0 h x.0 → holds G h ≡ true → knows G x.0 ≡ true → knows G d.0 ≡ true
     → IsStaged parent born (after_line G (lines.Sent d x (register_of d))) d.0 (Registering h d.0 x.0)
 registers laws G d x h parent born rooted bounded fresh ahead holder knowing known = record {
@@ -85,7 +85,7 @@ here_first : (v : View) (from : Enclave) → knows_way v ≡ false
 here_first v from none = rw none refl
 
 -- what is told to askers changes no way
-told_way : (G : Facts) (v : View) (askers : List (ℕ × Enclave)) (e : ℕ) → way_of (after_lines G (told_askers v askers)) e ≡ way_of G e
+told_way : (G : Facts) (v : View) (askers : List (ℕ × Enclave)) (e : ℕ) → way_at (after_lines G (told_askers v askers)) e ≡ way_at G e
 told_way G v [] e = refl
 told_way G v (row ∷ askers) e = told_way (after_line G (lines.Sent v.me row.1 (here_of v.me))) v askers e
 
@@ -93,7 +93,7 @@ tell_aside : (v : View) (askers : List (ℕ × Enclave)) (d : ℕ) → AreAside 
 tell_aside v [] d = tt
 tell_aside v (row ∷ askers) d = (refl, tell_aside v askers d)
 
-fresh_way : (G : Facts) (e over : Enclave) (d : ℕ) → IsFresh G d → IsFresh (after_line G (lines.Way e over)) d
+fresh_way : (G : Facts) (e over : Enclave) (d : ℕ) → IsUnheard G d → IsUnheard (after_line G (lines.Way e over)) d
 fresh_way G e over d fresh = record {
   flight = fresh.flight;
   backs = λ a x is. fresh.backs a x (ap (λ table. at table d) (sym ((way_leaves G e over).backs a)) ∙ is);
@@ -102,7 +102,7 @@ fresh_way G e over d fresh = record {
 }
 
 -- all that is written for the here, told askers and all
-begins : Laws → (G : Facts) (v : View) (d x : Enclave) (askers : List (ℕ × Enclave)) → IsBounded G → IsFresh G d.0
+begins : DiscoveryLaws → (G : Facts) (v : View) (d x : Enclave) (askers : List (ℕ × Enclave)) → IsBounded G → IsUnheard G d.0
     → (let H : Facts = after_lines G (lines.Way d x ∷ told_askers v askers ++ lines.Sent d x (register_of d) ∷ []) in
     IsLed H → IsRooted (parent_of H) → IsRegistered (parent_of H) H.born H d.0)
 begins laws G v d x askers bounded fresh = subst P (sym (laws.past.after G2 (told_askers v askers) (lines.Sent d x (register_of d) ∷ []))) done
@@ -118,9 +118,9 @@ begins laws G v d x askers bounded fresh = subst P (sym (laws.past.after G2 (tol
         let told : AreUnmoved (after_line G (lines.Way d x)) (after_lines (after_line G (lines.Way d x)) (told_askers v askers)) d.0
         = unmoved_lines laws.row (after_line G (lines.Way d x)) (told_askers v askers) d.0 bounded (tell_aside v askers d.0) in
         let K = after_lines (after_line G (lines.Way d x)) (told_askers v askers) in
-        let way : way_of K d.0 ≡ Some x = told_way (after_line G (lines.Way d x)) v askers d.0 ∙ way_learns G d x d.0 ∙ rw (eq-eqb d.0 d.0 refl) refl in
+        let way : way_at K d.0 ≡ Some x = told_way (after_line G (lines.Way d x)) v askers d.0 ∙ way_learns G d x d.0 ∙ rw (eq-eqb d.0 d.0 refl) refl in
         let held = led.held d.0 x way in
-        let known : knows K d.0 ≡ true = or_right (holds K d.0) (is_some (way_of K d.0)) (ap is_some way) in
+        let known : knows K d.0 ≡ true = or_right (holds K d.0) (is_some (way_at K d.0)) (ap is_some way) in
         record {
           stage = Registering held.holder d.0 x.0;
           is = registers laws K d x held.holder (parent_of K) K.born rooted told.bounded
@@ -129,7 +129,7 @@ begins laws G v d x askers bounded fresh = subst P (sym (laws.past.after G2 (tol
         }
 
 -- a here that is got, where the way wasn't known
-pub here_handled : Laws → (G : Facts) (x y : Enclave) (r : Record) (rs : List Record) (stage : Stage) → IsBounded G
+pub here_handled : DiscoveryLaws → (G : Facts) (x y : Enclave) (r : Record) (rs : List Record) (stage : Stage) → IsBounded G
     → IsStaged (parent_of G) G.born G y.0 stage → in_flight G x.0 y.0 ≡ r ∷ rs → r.body ≡ bodies.Here → is_stray (view_of G y) r ≡ false
     → knows G y.0 ≡ false
     → (let H : Facts = after_lines G (lines.Got x y ∷ record_lines (view_of G y) x r) in

@@ -16,7 +16,7 @@ use Rattle.global_model.specs.Apt.{IsBirth}
 use Rattle.global_model.specs.Tree.{IsRooted, parent_of}
 use Rattle.global_model.specs.Views.{view_of}
 use Rattle.discovery_laws.specs.Known.{knows}
-use Rattle.discovery_laws.specs.Laws.{Laws}
+use Rattle.discovery_laws.specs.Laws.{DiscoveryLaws}
 use Rattle.discovery_laws.proofs.Flights.{one_if, count, add, add-here, sent_more}
 use Rattle.discovery_laws.proofs.Asking.{is_query, queries_sent, counted_sent}
 use Rattle.discovery_laws.proofs.Knowing.{known_sent}
@@ -60,7 +60,7 @@ not_taken : (ns server : Bool) → (ns && server) ≡ false → ns ≡ true → 
 not_taken true server none has = none
 not_taken false server none has = absurd (cc)
 
-module _ (laws : Laws) (G : Facts) (pause : IsPause G) (old : IsAsking none_owed G) where
+module _ (laws : DiscoveryLaws) (G : Facts) (pause : IsPause G) (old : IsAsking none_owed G) where
   rooted_born : (child parent : Enclave) (kind : Kind) (ns : Bool) (blocks : List Block) → (0 < child.0 → parent.0 < child.0)
       → IsRooted (parent_of (after_line G (lines.Born child kind parent ns blocks)))
   rooted_born child parent kind ns blocks above = record { lower = λ e some. by e some (eqb e child.0) refl }

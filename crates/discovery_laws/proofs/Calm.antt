@@ -14,7 +14,7 @@ use Rattle.discovery_laws.specs.Known.{knows}
 use Rattle.discovery_laws.specs.Laws.{TreeLaws}
 use Rattle.discovery_laws.proofs.Flights.{one_if, add, pair_has}
 use Rattle.discovery_laws.proofs.Effects.{kept_by, holder_kept, parent_kept, has_kept, LeavesWays, admitted_leaves, back_leaves, route_leaves}
-use Rattle.discovery_laws.proofs.Asking.{is_query, is_here, IsAlike, IsSame, same_knows, IsCounted, counted_same, counted_sent}
+use Rattle.discovery_laws.proofs.Asking.{is_query, is_here, IsAlike, AsksSame, same_knows, IsCounted, counted_same, counted_sent}
 use Rattle.discovery_laws.proofs.Knowing.{IsKnown, known_same, known_sent}
 
 -- more may be about to know
@@ -99,7 +99,7 @@ neither : (a b : Bool) → (a || b) ≡ false → (a ≡ false) × (b ≡ false)
 neither true b is = cc
 neither false b is = (refl, is)
 
-pub asking_same : (laws : TreeLaws) (owed : ℕ → ℕ → ℕ) (G H : Facts) → IsSame G H → IsAsking owed G → IsAsking owed H
+pub asking_same : (laws : TreeLaws) (owed : ℕ → ℕ → ℕ) (G H : Facts) → AsksSame G H → IsAsking owed G → IsAsking owed H
 asking_same laws owed G H same old = record {
   counted = counted_knowing owed (knows G) (knows H) H (λ a. let is : one_if (knows H a) ≡ one_if (knows G a) = ap one_if (same_knows G H same.alike a) in omega (arith, is))
       (counted_same G H same owed (knows G) old.counted);
@@ -125,7 +125,7 @@ asking_sent owed G x y r calm old =
 
 -- where the enclaves, the channels and the deaths are as before by themselves
 still_same : (G H : Facts) → LeavesWays G H → H.born ≡ G.born → H.server ≡ G.server → ((e : ℕ) → H.enclave e ≡ G.enclave e)
-    → ((a b : ℕ) → H.channel a b ≡ G.channel a b) → ((e : ℕ) → H.heard e ≡ G.heard e) → IsSame G H
+    → ((a b : ℕ) → H.channel a b ≡ G.channel a b) → ((e : ℕ) → H.heard e ≡ G.heard e) → AsksSame G H
 still_same G H leaves born server enclaves channels heard = record {
   alike = record {
     born = born;

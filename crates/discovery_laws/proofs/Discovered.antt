@@ -19,35 +19,35 @@ use Rattle.global_model.specs.Journals.{Follows, onto}
 use Rattle.global_model.specs.Pauses.{IsPause, MayCome, MayHandle, Step, Written, Hosts, Bears, Takes, Handles, written_by}
 use Rattle.global_model.specs.Views.{view_of}
 use Rattle.discovery_laws.specs.Known.{in_flight, is_admitted_at}
-use Rattle.discovery_laws.specs.Laws.{Laws}
+use Rattle.discovery_laws.specs.Laws.{DiscoveryLaws}
 use Rattle.discovery_laws.specs.Once.{IsFirstNew, OnceAt, first_onto, is_alike, records_got}
 use Rattle.xemem_language.specs.Destinations.{destination_number}
 use Rattle.xemem_wire.specs.Table.{kind_of}
 use Rattle.discovery_laws.proofs.Underway.{bounded_got, next_flight}
 use Rattle.discovery_laws.proofs.Joined.{IsJoined}
-use Rattle.discovery_laws.proofs.Marks.{IsKept, kept-trans, kept_got, kept_lines, mark, mark_kept}
+use Rattle.discovery_laws.proofs.Marks.{IsLasting, kept-trans, kept_got, kept_lines, mark, mark_kept}
 use Rattle.discovery_laws.proofs.Onces.{alike_mark, new_record}
 use Rattle.discovery_laws.proofs.Pausing.{aside_alone, none_admitted, unborn_enclave}
 use Rattle.discovery_laws.proofs.Received.{inner_record}
 use Rattle.discovery_laws.proofs.Registrations.{pause_bounded}
-use Rattle.discovery_laws.proofs.Unmoved.{AreInner, IsInner, inner_aside}
+use Rattle.discovery_laws.proofs.Unmoved.{AreWithinStep, IsWithinStep, inner_aside}
 
 -- ---- what a step leaves of what is kept
 
-inner-append : (ls ms : List Line) → AreInner ls → AreInner ms → AreInner (ls ++ ms)
+inner-append : (ls ms : List Line) → AreWithinStep ls → AreWithinStep ms → AreWithinStep (ls ++ ms)
 inner-append [] ms first more = more
 inner-append (l ∷ ls) ms first more = (first.0, inner-append ls ms first.1 more)
 
-inner_told : (child : Enclave) (heard : List Enclave) → AreInner (told_lines child heard)
+inner_told : (child : Enclave) (heard : List Enclave) → AreWithinStep (told_lines child heard)
 inner_told child [] = tt
 inner_told child (d ∷ heard) = (tt, inner_told child heard)
 
-pub inner_either : (t : Bool) (ls ms : List Line) → AreInner ls → AreInner ms → AreInner (cond t ls ms)
+pub inner_either : (t : Bool) (ls ms : List Line) → AreWithinStep ls → AreWithinStep ms → AreWithinStep (cond t ls ms)
 inner_either true ls ms one other = one
 inner_either false ls ms one other = other
 
 pub inner_birth : (child parent : Enclave) (ns : Bool) (heard : List Enclave) (v : View)
-    → AreInner ((told_lines child heard ++ child_lines child parent ns) ++ adopt_lines v child)
+    → AreWithinStep ((told_lines child heard ++ child_lines child parent ns) ++ adopt_lines v child)
 inner_birth child parent ns heard v =
     inner-append (told_lines child heard ++ child_lines child parent ns) (adopt_lines v child)
     (inner-append (told_lines child heard) (child_lines child parent ns) (inner_told child heard)
@@ -56,7 +56,7 @@ inner_birth child parent ns heard v =
 
 -- what was kept is kept by a newborn enclave too, which had nothing
 kept_born : (G : Facts) (child : Enclave) (kind : Kind) (parent : Enclave) (ns : Bool) (blocks : List Block) → IsTree G → child.0 ≡ G.born
-    → IsKept G (after_line G (lines.Born child kind parent ns blocks))
+    → IsLasting G (after_line G (lines.Born child kind parent ns blocks))
 kept_born G child kind parent ns blocks tree next = record {
   backs = λ a d is. is;
   routes = λ a d is. is;
@@ -73,7 +73,7 @@ kept_born G child kind parent ns blocks tree next = record {
         cc)
     by e false there is = is
 
-pub kept_step : Laws → (G : Facts) (step : Step) → IsPause G → MayCome G step → IsKept G (after_lines G (written_by G step))
+pub kept_step : DiscoveryLaws → (G : Facts) (step : Step) → IsPause G → MayCome G step → IsLasting G (after_lines G (written_by G step))
 kept_step laws G (Written line) pause may = kept_lines laws.row G (line ∷ []) (inner_aside line 0 (aside_alone G line 0 may.1), tt) (pause_bounded G pause)
 kept_step laws G (Takes x y count) pause may = kept_lines laws.row G (lines.Took x y count ∷ []) (tt, tt) (pause_bounded G pause)
 kept_step laws G (Handles x y r) pause may =
@@ -104,12 +104,12 @@ IsGotless line = Unit {0}
 abbrev pub AreGotless : List Line → Type 0
 AreGotless journal = AllByRecursion IsGotless journal
 
-gotless_inner : (line : Line) → IsInner line → IsGotless line
+gotless_inner : (line : Line) → IsWithinStep line → IsGotless line
 gotless_inner (lines.Born e kind parent ns blocks) inner = tt
 gotless_inner (lines.Got x y) inner = inner
 gotless_inner _ inner = tt
 
-pub all_gotless : (ls : List Line) → AreInner ls → AreGotless ls
+pub all_gotless : (ls : List Line) → AreWithinStep ls → AreGotless ls
 all_gotless [] inner = tt
 all_gotless (l ∷ ls) inner = (gotless_inner l inner.0, all_gotless ls inner.1)
 
@@ -133,7 +133,7 @@ once_lines (l ∷ ls) past none = (once_line l past none.0, once_lines ls (l ∷
 abbrev pub AreMarked : Facts → ℕ → List Record → Type 0
 AreMarked G y rs = AllByRecursion (λ q. mark G y q ≡ true) rs
 
-marked_kept : (G H : Facts) (y : ℕ) (rs : List Record) → IsKept G H → AreMarked G y rs → AreMarked H y rs
+marked_kept : (G H : Facts) (y : ℕ) (rs : List Record) → IsLasting G H → AreMarked G y rs → AreMarked H y rs
 marked_kept G H y [] kept all = tt
 marked_kept G H y (r ∷ rs) kept all = (mark_kept G H y (kind_of r.body) r.origin.0 (destination_number r.dest) kept all.0, marked_kept G H y rs kept all.1)
 
@@ -158,15 +158,15 @@ pub record GoesOn (past ls : List Line) : Type 0 where
   pub once : Follows OnceAt past ls
   pub got : (y : ℕ) → AreMarked (after_lines (facts_at past) ls) y (records_got y (onto ls past))
 
-pub goes_gotless : (past ls : List Line) → AreGotless ls → IsKept (facts_at past) (after_lines (facts_at past) ls) → IsDiscovered past → GoesOn past ls
+pub goes_gotless : (past ls : List Line) → AreGotless ls → IsLasting (facts_at past) (after_lines (facts_at past) ls) → IsDiscovered past → GoesOn past ls
 goes_gotless past ls none kept old = record {
   once = once_lines ls past none;
   got = λ y. subst (AreMarked (after_lines (facts_at past) ls) y) (sym (same_got y ls past none))
       (marked_kept (facts_at past) (after_lines (facts_at past) ls) y (records_got y past) kept (old.got y));
 }
 
-pub goes_handled : Laws → (past : List Line) (x y : Enclave) (r : Record) → IsPause (facts_at past) → MayHandle (facts_at past) x y r → IsDiscovered past
-    → IsKept (facts_at past) (after_lines (facts_at past) (lines.Got x y ∷ record_lines (view_of (facts_at past) y) x r))
+pub goes_handled : DiscoveryLaws → (past : List Line) (x y : Enclave) (r : Record) → IsPause (facts_at past) → MayHandle (facts_at past) x y r → IsDiscovered past
+    → IsLasting (facts_at past) (after_lines (facts_at past) (lines.Got x y ∷ record_lines (view_of (facts_at past) y) x r))
     → GoesOn past (lines.Got x y ∷ record_lines (view_of (facts_at past) y) x r)
 goes_handled laws past x y r pause may old kept =
     let G = facts_at past in

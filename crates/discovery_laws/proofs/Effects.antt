@@ -6,7 +6,7 @@ use Rattle.xm_num.specs.Rows.{put}
 use Rattle.xemem_language.specs.declared.line.Line.TheVariants as lines
 use Rattle.enclave_rules.specs.Ways.{WaysView, place_among}
 use Rattle.global_model.specs.Facts.{EnclaveFact, Facts, after_line, as_admitted, at_number, fact_of, has_parent, is_holder}
-use Rattle.discovery_laws.specs.Known.{askers_of, backs_of, routes_of, way_of}
+use Rattle.discovery_laws.specs.Known.{askers_of, backs_of, routes_of, way_at}
 
 -- what holds of the new value at a number, and of all others as before
 pub number_at : {A : Type 0} (P : ℕ → A → Type 0) (k : ℕ) (v : A) (f g : ℕ → A) → ((j : ℕ) → g j ≡ cond (eqb j k) v (f j)) → (j : ℕ)
@@ -35,13 +35,13 @@ part_stays part k w ways same j = by (eqb j k) refl
     by false is = refl
 
 module _ (G : Facts) (y over : Enclave) (e : ℕ) where
-  pub way_learns : way_of (after_line G (lines.Way y over)) e ≡ cond (eqb e y.0) (Some over) (way_of G e)
+  pub way_learns : way_at (after_line G (lines.Way y over)) e ≡ cond (eqb e y.0) (Some over) (way_at G e)
   way_learns = part_at (λ w. w.way) y.0 _ G.ways e
 
   pub way_clears : askers_of (after_line G (lines.Way y over)) e ≡ cond (eqb e y.0) [] (askers_of G e)
   way_clears = part_at (λ w. w.askers) y.0 _ G.ways e
 
-  pub asked_leaves : way_of (after_line G (lines.Asked y over)) e ≡ way_of G e
+  pub asked_leaves : way_at (after_line G (lines.Asked y over)) e ≡ way_at G e
   asked_leaves = part_stays (λ w. w.way) y.0 _ G.ways refl e
 
   pub asked_keeps : askers_of (after_line G (lines.Asked y over)) e
@@ -50,7 +50,7 @@ module _ (G : Facts) (y over : Enclave) (e : ℕ) where
 
 -- the other lines leave both
 pub record LeavesWays (G H : Facts) : Type 0 where
-  pub way : (e : ℕ) → way_of H e ≡ way_of G e
+  pub way : (e : ℕ) → way_at H e ≡ way_at G e
   pub askers : (e : ℕ) → askers_of H e ≡ askers_of G e
 
 module _ (G : Facts) (e d over : Enclave) where

@@ -8,7 +8,7 @@ use Rattle.global_model.specs.Rest.{IsAtRest}
 use Rattle.global_model.specs.Pauses.{Step, written_by, IsPause, MayCome}
 use Rattle.global_model.specs.Tree.{parent_of}
 use Rattle.discovery_laws.specs.Known.{is_admitted_at, knows}
-use Rattle.discovery_laws.specs.Laws.{Laws}
+use Rattle.discovery_laws.specs.Laws.{DiscoveryLaws}
 use Rattle.discovery_laws.specs.Ways.{IsLeading}
 use Rattle.discovery_laws.proofs.Asked.{IsAsked, asked_first, asked_leads, asked_led, asked_step}
 use Rattle.discovery_laws.proofs.Resting.{rest_flight, knows_at_rest}
@@ -19,7 +19,7 @@ pub record IsJoined (G : Facts) : Type 0 where
   pub asked : IsAsked G
   pub registered : (d : ℕ) → IsRegistered (parent_of G) G.born G d
 
-pub joined_step : (laws : Laws) (G : Facts) (step : Step) → IsPause G → MayCome G step → IsJoined G → IsJoined (after_lines G (written_by G step))
+pub joined_step : (laws : DiscoveryLaws) (G : Facts) (step : Step) → IsPause G → MayCome G step → IsJoined G → IsJoined (after_lines G (written_by G step))
 joined_step laws G step pause may old =
     let asked : IsAsked (after_lines G (written_by G step)) = asked_step laws G step pause may old.asked in
     record {
@@ -28,7 +28,7 @@ joined_step laws G step pause may old =
     }
 
 -- before the first command nothing is known of any enclave
-pub joined_first : (laws : Laws) → IsJoined no_facts
+pub joined_first : (laws : DiscoveryLaws) → IsJoined no_facts
 joined_first laws = record {
   asked = asked_first laws;
   registered = λ d. record {

@@ -11,7 +11,7 @@ use Rattle.global_model.specs.Journals.{Follows, onto}
 use Rattle.global_model.specs.Pauses.{AreSteps, IsPause, MayCome, Step, Written, Hosts, Bears, Takes, Handles, written_by, written_in}
 use Rattle.global_model.specs.Place.{IsPlaced}
 use Rattle.global_model.specs.Views.{view_of}
-use Rattle.discovery_laws.specs.Laws.{Laws}
+use Rattle.discovery_laws.specs.Laws.{DiscoveryLaws}
 use Rattle.discovery_laws.specs.Once.{OnceAt, IsOnce, records_got}
 use Rattle.discovery_laws.proofs.Joined.{IsJoined, joined_first, joined_step}
 use Rattle.discovery_laws.proofs.Discovered.{AreMarked, GoesOn, IsDiscovered, all_gotless, inner_birth, inner_either, goes_handled, goes_gotless, kept_step}
@@ -20,7 +20,7 @@ use Rattle.discovery_laws.proofs.Unmoved.{inner_aside}
 
 -- ---- steps
 
-goes_on : Laws → (past : List Line) (step : Step) → IsPause (facts_at past) → MayCome (facts_at past) step → IsDiscovered past
+goes_on : DiscoveryLaws → (past : List Line) (step : Step) → IsPause (facts_at past) → MayCome (facts_at past) step → IsDiscovered past
     → GoesOn past (written_by (facts_at past) step)
 goes_on laws past (Written line) pause may old = goes_gotless past (line ∷ []) (all_gotless (line ∷ []) (inner_aside line 0 (aside_alone (facts_at past) line 0 may.1), tt)) (kept_step laws (facts_at past) (Written line) pause may) old
 goes_on laws past (Takes x y count) pause may old = goes_gotless past (lines.Took x y count ∷ []) (tt, tt) (kept_step laws (facts_at past) (Takes x y count) pause may) old
@@ -34,7 +34,7 @@ goes_on laws past (Bears child kind parent ns blocks) pause may old =
     (tt, all_gotless ((told_lines child (G.heard parent.0) ++ child_lines child parent ns) ++ adopt_lines v child) (inner_birth child parent ns (G.heard parent.0) v))
     (kept_step laws (facts_at past) (Bears child kind parent ns blocks) pause may) old
 
-after_step : (laws : Laws) (past : List Line) (step : Step) → IsPause (facts_at past) → MayCome (facts_at past) step → IsDiscovered past
+after_step : (laws : DiscoveryLaws) (past : List Line) (step : Step) → IsPause (facts_at past) → MayCome (facts_at past) step → IsDiscovered past
     → GoesOn past (written_by (facts_at past) step) → IsDiscovered (onto (written_by (facts_at past) step) past)
 after_step laws past step pause may old on =
     let G = facts_at past in
@@ -52,7 +52,7 @@ record GoesAll (past ls : List Line) : Type 0 where
   once : Follows OnceAt past ls
   end : IsDiscovered (onto ls past)
 
-all_steps : (laws : Laws) (steps : List Step) (past : List Line) → AreSteps (facts_at past) steps → IsDiscovered past
+all_steps : (laws : DiscoveryLaws) (steps : List Step) (past : List Line) → AreSteps (facts_at past) steps → IsDiscovered past
     → GoesAll past (written_in (facts_at past) steps)
 all_steps laws [] past are old = record { once = tt; end = old }
 all_steps laws (step ∷ steps) past are old =
@@ -71,26 +71,26 @@ all_steps laws (step ∷ steps) past are old =
 
 -- ---- whole journals
 
-from_the_start : (laws : Laws) (commands : List Command) → IsPlaced commands → GoesAll [] (journal_of commands)
+from_the_start : (laws : DiscoveryLaws) (commands : List Command) → IsPlaced commands → GoesAll [] (journal_of commands)
 from_the_start laws commands placed =
     let in_steps = laws.journal.steps commands placed in
     subst (GoesAll []) (sym in_steps.written)
     (all_steps laws in_steps.steps [] in_steps.are (record { joined = joined_first laws; got = λ y. tt }))
 
-pub journal_of-once : (laws : Laws) (commands : List Command) → IsPlaced commands → IsOnce (journal_of commands)
+pub journal_of-once : (laws : DiscoveryLaws) (commands : List Command) → IsPlaced commands → IsOnce (journal_of commands)
 journal_of-once laws commands placed = (from_the_start laws commands placed).once
 
 -- ---- pauses
 
 -- after any steps that may come
-pub steps_joined : (laws : Laws) (steps : List Step) → AreSteps no_facts steps → IsJoined (after_lines no_facts (written_in no_facts steps))
+pub steps_joined : (laws : DiscoveryLaws) (steps : List Step) → AreSteps no_facts steps → IsJoined (after_lines no_facts (written_in no_facts steps))
 steps_joined laws steps are = subst IsJoined (laws.past.facts (written_in no_facts steps) []) (all_steps laws steps [] are first_discovered).end.joined
   where
     first_discovered : IsDiscovered []
     first_discovered = record { joined = joined_first laws; got = λ y. tt }
 
 -- where every command has ended
-pub journal_of-joined : (laws : Laws) (commands : List Command) → IsPlaced commands → IsJoined (facts_after (journal_of commands))
+pub journal_of-joined : (laws : DiscoveryLaws) (commands : List Command) → IsPlaced commands → IsJoined (facts_after (journal_of commands))
 journal_of-joined laws commands placed =
     let in_steps = laws.journal.steps commands placed in
     subst (λ journal. IsJoined (facts_after journal)) (sym in_steps.written) (steps_joined laws in_steps.steps in_steps.are)

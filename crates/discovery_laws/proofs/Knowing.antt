@@ -8,7 +8,7 @@ use Rattle.xemem_language.specs.declared.record.Record.{Record}
 use Rattle.xemem_language.specs.declared.line.Line.TheVariants as lines
 use Rattle.global_model.specs.Facts.{Facts, after_line, with_got, with_sent}
 use Rattle.global_model.specs.Tree.{IsRooted, IsToward, parent_of}
-use Rattle.discovery_laws.specs.Known.{holds, in_flight, knows, way_of}
+use Rattle.discovery_laws.specs.Known.{holds, in_flight, knows, way_at}
 use Rattle.discovery_laws.specs.Laws.{TreeLaws}
 use Rattle.discovery_laws.proofs.Led.{IsHeld}
 use Rattle.discovery_laws.proofs.Underway.{IsBounded}
@@ -25,11 +25,11 @@ pub record IsKnown (G : Facts) : Type 0 where
   pub uncut : (a b : ℕ) → (G.channel a b).cut ≡ 0
   pub own : (a b : ℕ) → AllByRecursion (IsOwn a) (G.channel a b).sent
   pub told : (a b : ℕ) → 1 ≤ heres_flying G a b → knows G a ≡ true
-  pub over : (e : ℕ) (x : Enclave) → way_of G e ≡ Some x → knows G x.0 ≡ true
+  pub over : (e : ℕ) (x : Enclave) → way_at G e ≡ Some x → knows G x.0 ≡ true
   pub server : (e : ℕ) → knows G e ≡ true → G.server ≡ true
   pub held : G.server ≡ true → IsHeld G
   pub one : (a b : ℕ) → holds G a ≡ true → holds G b ≡ true → a ≡ b
-  pub leads : (h e : ℕ) (x : Enclave) → holds G h ≡ true → way_of G e ≡ Some x → IsToward (parent_of G) G.born e h x.0
+  pub leads : (h e : ℕ) (x : Enclave) → holds G h ≡ true → way_at G e ≡ Some x → IsToward (parent_of G) G.born e h x.0
 
 pub own-append : (x : ℕ) (rs : List Record) (r : Record) → AllByRecursion (IsOwn x) rs → IsOwn x r → AllByRecursion (IsOwn x) (rs ++ r ∷ [])
 own-append x [] r all own = (own, tt)
@@ -116,14 +116,14 @@ module _ (G : Facts) (y from : Enclave) where
   abbrev H : Facts
   H = after_line G (lines.Way y from)
 
-  way_at : (P : ℕ → Option Enclave → Type 0) (e : ℕ) → P y.0 (Some from) → (eqb e y.0 ≡ false → P e (way_of G e)) → P e (way_of H e)
-  way_at P e here there = number_at P y.0 (Some from) (way_of G) (way_of H) (way_learns G y from) e here there
+  way_either : (P : ℕ → Option Enclave → Type 0) (e : ℕ) → P y.0 (Some from) → (eqb e y.0 ≡ false → P e (way_at G e)) → P e (way_at H e)
+  way_either P e here there = number_at P y.0 (Some from) (way_at G) (way_at H) (way_learns G y from) e here there
 
   pub way_knows : (e : ℕ) → knows G e ≡ true → knows H e ≡ true
-  way_knows e is = way_at (λ e way. (holds G e || is_some way) ≡ true) e (or_right (holds G y.0) true refl) (λ other. is)
+  way_knows e is = way_either (λ e way. (holds G e || is_some way) ≡ true) e (or_right (holds G y.0) true refl) (λ other. is)
 
   pub way_learned : knows H y.0 ≡ true
-  way_learned = way_at (λ e way. (holds G e || is_some way) ≡ true) y.0 (or_right (holds G y.0) true refl) (λ other. absurd (eqb-false y.0 y.0 other refl))
+  way_learned = way_either (λ e way. (holds G e || is_some way) ≡ true) y.0 (or_right (holds G y.0) true refl) (λ other. absurd (eqb-false y.0 y.0 other refl))
 
   pub known_way : knows G from.0 ≡ true
       → ((h : ℕ) → holds G h ≡ true → IsToward (parent_of G) G.born y.0 h from.0)
@@ -133,14 +133,14 @@ module _ (G : Facts) (y from : Enclave) where
     uncut = old.uncut;
     own = old.own;
     told = λ a b some. way_knows a (old.told a b some);
-    over = λ e x. way_at (λ e way. way ≡ Some x → knows H x.0 ≡ true) e
+    over = λ e x. way_either (λ e way. way ≡ Some x → knows H x.0 ≡ true) e
         (λ is. let same : from ≡ x = cc in way_knows x.0 (subst (λ z. knows G z.0 ≡ true) same knowing))
         (λ other is. way_knows x.0 (old.over e x is));
-    server = λ e. way_at (λ e way. (holds G e || is_some way) ≡ true → G.server ≡ true) e
+    server = λ e. way_either (λ e way. (holds G e || is_some way) ≡ true → G.server ≡ true) e
         (λ is. old.server from.0 knowing) (λ other is. old.server e is);
     held = λ is. record { holder = (old.held is).holder; holds = (old.held is).holds };
     one = old.one;
-    leads = λ h e x is. way_at (λ e way. way ≡ Some x → IsToward (parent_of G) G.born e h x.0) e
+    leads = λ h e x is. way_either (λ e way. way ≡ Some x → IsToward (parent_of G) G.born e h x.0) e
         (λ found. let same : from ≡ x = cc in subst (λ z. IsToward (parent_of G) G.born y.0 h z.0) same (toward h is))
         (λ other found. old.leads h e x is found);
   }

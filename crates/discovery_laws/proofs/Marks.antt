@@ -10,14 +10,14 @@ use Rattle.xemem_language.specs.declared.line.Line.TheVariants as lines
 use Rattle.xemem_language.specs.declared.command.Command.TheVariants as commands
 use Rattle.xemem_wire.specs.Table.{kind_of}
 use Rattle.global_model.specs.Facts.{Facts, ChannelFact, EnclaveFact, after_line, after_lines, as_admitted, is_admitted, with_got, with_sent, with_taken}
-use Rattle.discovery_laws.specs.Known.{backs_of, routes_of, back_of, is_admitted_at, route_of}
-use Rattle.discovery_laws.specs.Laws.{RowLaws}
+use Rattle.discovery_laws.specs.Known.{backs_of, routes_of, back_at, is_admitted_at, route_at}
+use Rattle.discovery_laws.specs.Laws.{WayPutLaws}
 use Rattle.discovery_laws.proofs.Effects.{asked_leaves_rows, back_leaves_routes, back_puts, route_leaves_backs, route_puts, way_leaves}
 use Rattle.discovery_laws.proofs.Underway.{IsBounded}
 use Rattle.discovery_laws.proofs.Flights.{count}
 use Rattle.global_model.specs.Tree.{parent_of}
 use Rattle.discovery_laws.proofs.Stages.{IsRegistered}
-use Rattle.discovery_laws.proofs.Unmoved.{AreInner, IsInner, bounded_line}
+use Rattle.discovery_laws.proofs.Unmoved.{AreWithinStep, IsWithinStep, bounded_line}
 
 -- ---- marks
 
@@ -32,8 +32,8 @@ got_of channel = take channel.got channel.sent
 -- those that were got of the channel from their origin.
 abbrev pub mark_of : Facts → ℕ → ℕ → ℕ → ℕ → Bool
 mark_of G y kind origin dest =
-    if eqb kind 3 then is_some (back_of G y origin)
-    else (if eqb kind 4 then (if eqb dest y then is_admitted_at G y else is_some (route_of G y dest))
+    if eqb kind 3 then is_some (back_at G y origin)
+    else (if eqb kind 4 then (if eqb dest y then is_admitted_at G y else is_some (route_at G y dest))
     else leb 1 (count (is_kind kind) (got_of (G.channel origin y))))
 
 abbrev pub mark : Facts → ℕ → Record → Bool
@@ -42,13 +42,13 @@ mark G y r = mark_of G y (kind_of r.body) r.origin.0 (destination_number r.dest)
 -- ---- they last
 
 -- what is kept isn't lost
-pub record IsKept (G H : Facts) : Type 0 where
-  pub backs : (e d : ℕ) → is_some (back_of G e d) ≡ true → is_some (back_of H e d) ≡ true
-  pub routes : (e d : ℕ) → is_some (route_of G e d) ≡ true → is_some (route_of H e d) ≡ true
+pub record IsLasting (G H : Facts) : Type 0 where
+  pub backs : (e d : ℕ) → is_some (back_at G e d) ≡ true → is_some (back_at H e d) ≡ true
+  pub routes : (e d : ℕ) → is_some (route_at G e d) ≡ true → is_some (route_at H e d) ≡ true
   pub ready : (e : ℕ) → is_admitted_at G e ≡ true → is_admitted_at H e ≡ true
   pub got : (test : Record → Bool) (a b : ℕ) → count test (got_of (G.channel a b)) ≤ count test (got_of (H.channel a b))
 
-pub kept-trans : (G H K : Facts) → IsKept G H → IsKept H K → IsKept G K
+pub kept-trans : (G H K : Facts) → IsLasting G H → IsLasting H K → IsLasting G K
 kept-trans G H K one two = record {
   backs = λ e d is. two.backs e d (one.backs e d is);
   routes = λ e d is. two.routes e d (one.routes e d is);
@@ -56,13 +56,13 @@ kept-trans G H K one two = record {
   got = λ test a b. let first = one.got test a b in let second = two.got test a b in omega (arith, first, second);
 }
 
-pub mark_kept : (G H : Facts) (y kind origin dest : ℕ) → IsKept G H → mark_of G y kind origin dest ≡ true → mark_of H y kind origin dest ≡ true
+pub mark_kept : (G H : Facts) (y kind origin dest : ℕ) → IsLasting G H → mark_of G y kind origin dest ≡ true → mark_of H y kind origin dest ≡ true
 mark_kept G H y kind origin dest kept = by (eqb kind 3) (eqb kind 4) (eqb dest y)
   where
     by : (three four home : Bool)
-        → cond three (is_some (back_of G y origin)) (cond four (cond home (is_admitted_at G y) (is_some (route_of G y dest)))
+        → cond three (is_some (back_at G y origin)) (cond four (cond home (is_admitted_at G y) (is_some (route_at G y dest)))
         (leb 1 (count (is_kind kind) (got_of (G.channel origin y))))) ≡ true
-        → cond three (is_some (back_of H y origin)) (cond four (cond home (is_admitted_at H y) (is_some (route_of H y dest)))
+        → cond three (is_some (back_at H y origin)) (cond four (cond home (is_admitted_at H y) (is_some (route_at H y dest)))
         (leb 1 (count (is_kind kind) (got_of (H.channel origin y))))) ≡ true
     by true four home is = kept.backs y origin is
     by false true true is = kept.ready y is
@@ -107,7 +107,7 @@ ready_more G e a is = by (eqb a e.0) refl
     by false there = is
 
 -- a row that is there isn't lost when one is put
-some_row : RowLaws → (f g : ℕ → List (ℕ × Enclave)) (e of : ℕ) (over : Enclave) → ((a : ℕ) → g a ≡ cond (eqb a e) (put (f e) of over) (f a))
+some_row : WayPutLaws → (f g : ℕ → List (ℕ × Enclave)) (e of : ℕ) (over : Enclave) → ((a : ℕ) → g a ≡ cond (eqb a e) (put (f e) of over) (f a))
     → (a d : ℕ) → is_some (at (f a) d) ≡ true → is_some (at (g a) d) ≡ true
 some_row rows f g e of over changed a d is = ap (λ table. is_some (at table d)) (changed a) ∙ by (eqb a e) refl
   where
@@ -127,7 +127,7 @@ left_row f g same a d is = ap (λ table. is_some (at table d)) (same a) ∙ is
 same_got : (G : Facts) (test : Record → Bool) (a b : ℕ) → count test (got_of (G.channel a b)) ≤ count test (got_of (G.channel a b))
 same_got G test a b = omega arith
 
-pub kept_line : RowLaws → (G : Facts) (line : Line) → IsInner line → IsBounded G → IsKept G (after_line G line)
+pub kept_line : WayPutLaws → (G : Facts) (line : Line) → IsWithinStep line → IsBounded G → IsLasting G (after_line G line)
 kept_line rows G (lines.Born e kind parent ns blocks) inner bounded = absurd inner
 kept_line rows G (lines.Back e of over) inner bounded =
     let H = after_line G (lines.Back e of over) in
@@ -181,13 +181,13 @@ kept_line rows G (lines.Took x y n) inner bounded = record {
 kept_line rows G (lines.Do (commands.Pool blocks)) inner bounded = record { backs = λ a d is. is; routes = λ a d is. is; ready = λ a is. is; got = same_got G }
 kept_line rows G _ inner bounded = record { backs = λ a d is. is; routes = λ a d is. is; ready = λ a is. is; got = same_got G }
 
-pub kept_lines : RowLaws → (G : Facts) (ls : List Line) → AreInner ls → IsBounded G → IsKept G (after_lines G ls)
+pub kept_lines : WayPutLaws → (G : Facts) (ls : List Line) → AreWithinStep ls → IsBounded G → IsLasting G (after_lines G ls)
 kept_lines rows G [] inner bounded = record { backs = λ a d is. is; routes = λ a d is. is; ready = λ a is. is; got = same_got G }
 kept_lines rows G (l ∷ ls) inner bounded =
     kept-trans G (after_line G l) (after_lines (after_line G l) ls) (kept_line rows G l inner.0 bounded)
     (kept_lines rows (after_line G l) ls inner.1 (bounded_line G l bounded inner.0))
 
-pub kept_got : (G : Facts) (x y : Enclave) → IsKept G (after_line G (lines.Got x y))
+pub kept_got : (G : Facts) (x y : Enclave) → IsLasting G (after_line G (lines.Got x y))
 kept_got G x y = record {
   backs = λ a d is. is;
   routes = λ a d is. is;

@@ -11,7 +11,7 @@ use Rattle.enclave_rules.specs.Steps.{is_stray}
 use Rattle.global_model.specs.Facts.{Facts, EnclaveFact, after_line, fact_of, is_admitted, is_holder}
 use Rattle.global_model.specs.Views.{view_of}
 use Rattle.discovery_laws.specs.Known.{in_flight}
-use Rattle.discovery_laws.specs.Laws.{RowLaws}
+use Rattle.discovery_laws.specs.Laws.{WayPutLaws}
 use Rattle.discovery_laws.proofs.Underway.{IsBounded}
 use Rattle.discovery_laws.proofs.Stages.{about_in, alone_at, is_about}
 use Rattle.discovery_laws.proofs.Unmoved.{about_sent}
@@ -60,7 +60,7 @@ one_sent G x y r d a b bounded about none = about_sent G x y r d a b bounded ∙
 -- ---- rows of d
 
 -- What a table of each enclave has at d once a row of d was put in the one of e: f are the tables before, and g those after.
-module _ (rows : RowLaws) (f g : ℕ → List (ℕ × Enclave)) (e d : ℕ) (over : Enclave)
+module _ (rows : WayPutLaws) (f g : ℕ → List (ℕ × Enclave)) (e d : ℕ) (over : Enclave)
     (changed : (a : ℕ) → g a ≡ cond (eqb a e) (put (f e) d over) (f a)) where
   new_row : at (put (f e) d over) d ≡ Some over
   new_row = rows.ways (f e) d d over ∙ rw (eq-eqb d d refl) refl

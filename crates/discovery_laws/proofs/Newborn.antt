@@ -11,7 +11,7 @@ use Rattle.global_model.specs.Facts.{Facts, EnclaveFact, after_line, has_parent,
 use Rattle.global_model.specs.Channels.{is_child_of, is_neighbour}
 use Rattle.global_model.specs.Flow.{AreWays, IsTree}
 use Rattle.global_model.specs.Tree.{IsRooted, IsToward, parent_of}
-use Rattle.discovery_laws.specs.Known.{askers_of, holds, knows, way_of}
+use Rattle.discovery_laws.specs.Known.{askers_of, holds, knows, way_at}
 use Rattle.discovery_laws.specs.Laws.{TreeLaws}
 use Rattle.discovery_laws.proofs.Flights.{one_if, count, add}
 use Rattle.discovery_laws.proofs.Asking.{is_query, is_here, place, one_place, remembers, queries_flying, heres_sent, heres_flying, number_has, IsCounted}
@@ -70,10 +70,10 @@ module _ (G : Facts) (child parent : Enclave) (kind : Kind) (ns : Bool) (blocks 
   far : (x : ℕ) → is_neighbour G child.0 x ≡ true → ⊥
   far x near = let low = near_born G child.0 x tree near in omega (arith, low, next)
 
-  pub no_way : way_of G child.0 ≡ None
-  no_way = by (way_of G child.0) refl
+  pub no_way : way_at G child.0 ≡ None
+  no_way = by (way_at G child.0) refl
     where
-      by : (o : Option Enclave) → way_of G child.0 ≡ o → o ≡ None
+      by : (o : Option Enclave) → way_at G child.0 ≡ o → o ≡ None
       by None is = refl
       by (Some x) is = absurd (far x.0 (ways.way child.0 x is))
 
@@ -102,7 +102,7 @@ module _ (G : Facts) (child parent : Enclave) (kind : Kind) (ns : Bool) (blocks 
       or_false false = refl
 
       by : knows born child.0 ≡ ns
-      by = ap (λ b. b || is_some (way_of G child.0)) born_holds ∙ ap (λ o. ns || is_some o) no_way ∙ or_false ns
+      by = ap (λ b. b || is_some (way_at G child.0)) born_holds ∙ ap (λ o. ns || is_some o) no_way ∙ or_false ns
 
   pub other_holds : (e : ℕ) → eqb e child.0 ≡ false → holds born e ≡ holds G e
   other_holds e other = rw other refl
@@ -111,7 +111,7 @@ module _ (G : Facts) (child parent : Enclave) (kind : Kind) (ns : Bool) (blocks 
   other_knows e other = rw other refl
 
   unborn_knows : knows G child.0 ≡ false
-  unborn_knows = ap (λ b. b || is_some (way_of G child.0)) unborn_holds ∙ ap (λ o. is_some o) no_way
+  unborn_knows = ap (λ b. b || is_some (way_at G child.0)) unborn_holds ∙ ap (λ o. is_some o) no_way
 
   pub still_knows : (e : ℕ) → knows G e ≡ true → knows born e ≡ true
   still_knows e is = by (eqb e child.0) refl
@@ -177,7 +177,7 @@ module _ (G : Facts) (child parent : Enclave) (kind : Kind) (ns : Bool) (blocks 
       ]
 
       holds_knows : (e : ℕ) → holds G e ≡ true → knows G e ≡ true
-      holds_knows e is = or_left (holds G e) (is_some (way_of G e)) is
+      holds_knows e is = or_left (holds G e) (is_some (way_at G e)) is
 
       -- where the new one holds the name server none knew the way
       none_knew : ns ≡ true → (e : ℕ) → knows G e ≡ true → ⊥
@@ -193,11 +193,11 @@ module _ (G : Facts) (child parent : Enclave) (kind : Kind) (ns : Bool) (blocks 
           let has : ns ≡ true = sym born_holds ∙ ap (holds born) (sym (eqb-true b child.0 b_is)) ∙ second in
           absurd (none_knew has a (holds_knows a (sym (other_holds a a_is) ∙ first)))
 
-      toward : (h e : ℕ) (x : Enclave) → way_of G e ≡ Some x → (t : Bool) → eqb h child.0 ≡ t → holds born h ≡ true
+      toward : (h e : ℕ) (x : Enclave) → way_at G e ≡ Some x → (t : Bool) → eqb h child.0 ≡ t → holds born h ≡ true
           → IsToward (parent_of born) (G.born + 1) e h x.0
       toward h e x way true same is =
           let has : ns ≡ true = sym born_holds ∙ ap (holds born) (sym (eqb-true h child.0 same)) ∙ is in
-          absurd (none_knew has e (or_right (holds G e) (is_some (way_of G e)) (ap (λ o. is_some o) way)))
+          absurd (none_knew has e (or_right (holds G e) (is_some (way_at G e)) (ap (λ o. is_some o) way)))
       toward h e x way false other is = laws.stays (parent_of G) (parent_of born) G.born (G.born + 1) e h x.0 rooted
           (λ e some below. other_parent e below) (omega arith) (old.leads h e x (sym (other_holds h other) ∙ is) way)
 

@@ -16,7 +16,7 @@ use Rattle.global_model.specs.Pauses.{IsPause, MayHandle}
 use Rattle.global_model.specs.Tree.{parent_of}
 use Rattle.global_model.specs.Views.{view_of}
 use Rattle.discovery_laws.specs.Known.{in_flight}
-use Rattle.discovery_laws.specs.Laws.{Laws}
+use Rattle.discovery_laws.specs.Laws.{DiscoveryLaws}
 use Rattle.discovery_laws.specs.Once.{is_alike}
 use Rattle.discovery_laws.proofs.Underway.{IsNextOf, bounded_got, drop-more, first_has, next_flight}
 use Rattle.discovery_laws.proofs.Flights.{count, one_if}
@@ -125,7 +125,7 @@ mark_other : (G : Facts) (y kind origin dest : ℕ) → eqb kind 3 ≡ false →
     → mark_of G y kind origin dest ≡ leb 1 (count (is_kind kind) (got_of (G.channel origin y)))
 mark_other G y kind origin dest three four = rw (three, four) refl
 
-module _ (laws : Laws) (G : Facts) (x y : Enclave) (r : Record) (pause : IsPause G) (may : MayHandle G x y r) (asked : IsAsked G)
+module _ (laws : DiscoveryLaws) (G : Facts) (x y : Enclave) (r : Record) (pause : IsPause G) (may : MayHandle G x y r) (asked : IsAsked G)
     (registered : (d : ℕ) → IsRegistered (parent_of G) G.born G d) where
   next : IsNextOf r (in_flight G x.0 y.0)
   next = next_flight G x.0 y.0 r may.others may.next

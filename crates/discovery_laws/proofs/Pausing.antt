@@ -16,8 +16,8 @@ use Rattle.global_model.specs.Flow.{IsTree}
 use Rattle.global_model.specs.Pauses.{IsPause, MayCome, MayStandAlone, Step, Written, Hosts, Bears, Takes, Handles, written_by}
 use Rattle.global_model.specs.Tree.{IsRooted, parent_of}
 use Rattle.global_model.specs.Views.{view_of}
-use Rattle.discovery_laws.specs.Known.{back_of, holds, is_admitted_at, knows, route_of, way_of}
-use Rattle.discovery_laws.specs.Laws.{Laws}
+use Rattle.discovery_laws.specs.Known.{back_at, holds, is_admitted_at, knows, route_at, way_at}
+use Rattle.discovery_laws.specs.Laws.{DiscoveryLaws}
 use Rattle.discovery_laws.proofs.Underway.{IsBounded}
 use Rattle.discovery_laws.proofs.Stages.{Stage, Silent, Registering, Admitting, Ready, IsRegistered, IsStaged, about_in}
 use Rattle.discovery_laws.proofs.Unmoved.{holds_admitted, AreAside, IsAside, IsUnmoved, staged_stays, unmoved-trans, unmoved_lines}
@@ -47,7 +47,7 @@ barren_all [] d aside = tt
 barren_all (l ∷ ls) d aside = (barren_aside l d aside.0, barren_all ls d aside.1)
 
 -- lines that say nothing of d
-pub stays : Laws → (G : Facts) (ls : List Line) (d : ℕ) → IsTree G → IsBounded G → AreAside d ls → IsRegistered (parent_of G) G.born G d
+pub stays : DiscoveryLaws → (G : Facts) (ls : List Line) (d : ℕ) → IsTree G → IsBounded G → AreAside d ls → IsRegistered (parent_of G) G.born G d
     → IsRegistered (parent_of (after_lines G ls)) (after_lines G ls).born (after_lines G ls) d
 stays laws G ls d tree bounded aside registered =
     let more = unmoved_lines laws.row G ls d bounded aside in
@@ -63,8 +63,8 @@ aside-append d (l ∷ ls) ms first more = (first.0, aside-append d ls ms first.1
 -- nothing of d stands anywhere; it is admitted, or knows the way, where it holds the name server
 record IsBare (G : Facts) (d : ℕ) (holder admitted : Bool) : Type 0 where
   flight : (a b : ℕ) → about_in G d a b ≡ []
-  backs : (e : ℕ) (x : Enclave) → back_of G e d ≡ Some x → ⊥
-  routes : (e : ℕ) (x : Enclave) → route_of G e d ≡ Some x → ⊥
+  backs : (e : ℕ) (x : Enclave) → back_at G e d ≡ Some x → ⊥
+  routes : (e : ℕ) (x : Enclave) → route_at G e d ≡ Some x → ⊥
   held : holds G d ≡ holder
   known : knows G d ≡ holder
   ready : is_admitted_at G d ≡ admitted
@@ -124,7 +124,7 @@ module _ (G : Facts) (child : Enclave) (kind : Kind) (parent : Enclave) (ns : Bo
   bare_born : IsBare G child.0 false false → IsBare (after_line G (lines.Born child kind parent ns blocks)) child.0 ns false
   bare_born bare =
       let same : eqb child.0 child.0 ≡ true = eq-eqb child.0 child.0 refl in
-      let none : is_some (way_of G child.0) ≡ false = ap (λ t. t || is_some (way_of G child.0)) (sym bare.held) ∙ bare.known in
+      let none : is_some (way_at G child.0) ≡ false = ap (λ t. t || is_some (way_at G child.0)) (sym bare.held) ∙ bare.known in
       record {
         flight = bare.flight;
         backs = bare.backs;
@@ -144,7 +144,7 @@ module _ (G : Facts) (child : Enclave) (kind : Kind) (parent : Enclave) (ns : Bo
     backs = λ e. refl;
     routes = λ e. refl;
     holders = λ e is. by e (eqb e child.0) refl is;
-    knowing = λ e is. elim (or_cases (holds G e) (is_some (way_of G e)) is) [
+    knowing = λ e is. elim (or_cases (holds G e) (is_some (way_at G e)) is) [
       | inl held ↦ or_left _ _ (by e (eqb e child.0) refl held)
       | inr way ↦ or_right _ _ way
     ];
@@ -172,7 +172,7 @@ bare_admitted G e holder some bare = record {
   backs = bare.backs;
   routes = bare.routes;
   held = holds_admitted G e e.0 ∙ bare.held;
-  known = ap (λ t. t || is_some (way_of G e.0)) (holds_admitted G e e.0) ∙ bare.known;
+  known = ap (λ t. t || is_some (way_at G e.0)) (holds_admitted G e e.0) ∙ bare.known;
   ready = rw (eq-eqb e.0 e.0 refl) (by (G.enclave e.0) some);
 }
   where
@@ -182,7 +182,7 @@ bare_admitted G e holder some bare = record {
 
 -- An enclave is born: it is admitted where it holds the name server, and else asks its parent. What is written behind says nothing
 -- of any registration.
-module _ (laws : Laws) (G : Facts) (child : Enclave) (kind : Kind) (parent : Enclave) (ns : Bool) (blocks : List Block) (asks more : List Line)
+module _ (laws : DiscoveryLaws) (G : Facts) (child : Enclave) (kind : Kind) (parent : Enclave) (ns : Bool) (blocks : List Block) (asks more : List Line)
     (pause : IsPause G) (next : child.0 ≡ G.born) (asks_aside : (d : ℕ) → AreAside d asks) (more_aside : (d : ℕ) → AreAside d more) where
   aside_first : (d : ℕ) → child.0 ≢ d → (t : Bool) → AreAside d (cond t (lines.Admitted child ∷ []) asks ++ more)
   aside_first d apart true = (apart, more_aside d)
@@ -248,7 +248,7 @@ aside_adopt v child d = by (knows_way v)
     by true = tt
     by false = (refl, tt)
 
-pub registered_step : Laws → (G : Facts) (step : Step) → IsPause G → MayCome G step → IsLed G
+pub registered_step : DiscoveryLaws → (G : Facts) (step : Step) → IsPause G → MayCome G step → IsLed G
     → (let H : Facts = after_lines G (written_by G step) in
     IsLed H → IsRooted (parent_of H)
     → (d : ℕ) → IsRegistered (parent_of G) G.born G d → IsRegistered (parent_of H) H.born H d)

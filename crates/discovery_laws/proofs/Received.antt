@@ -18,7 +18,7 @@ use Rattle.global_model.specs.Facts.{Facts, after_line}
 use Rattle.discovery_laws.specs.Known.{in_flight}
 use Rattle.discovery_laws.proofs.Stages.{about_in, is_about, is_about_by}
 use Rattle.discovery_laws.proofs.Underway.{flight_got}
-use Rattle.discovery_laws.proofs.Unmoved.{AreAside, AreInner, IsUnmoved, inner_all}
+use Rattle.discovery_laws.proofs.Unmoved.{AreAside, AreWithinStep, IsUnmoved, inner_all}
 
 -- ---- a record is got
 
@@ -134,7 +134,7 @@ beyond : View → Record → ℕ
 beyond v r = suc (v.me.0 + r.origin.0 + destination_number r.dest)
 
 -- what is made of a record bears no enclave and gets no record
-pub inner_record : (v : View) (from : Enclave) (r : Record) → AreInner (record_lines v from r)
+pub inner_record : (v : View) (from : Enclave) (r : Record) → AreWithinStep (record_lines v from r)
 unfolding beyond
 inner_record v from r = inner_all (record_lines v from r) (beyond v r) (aside_record v from r (beyond v r) (by r.body) (hears r.body))
   where

@@ -11,8 +11,8 @@ use Rattle.enclave_rules.specs.Steps.{admit_of, body_lines, is_stray, record_lin
 use Rattle.global_model.specs.Facts.{Facts, after_line}
 use Rattle.global_model.specs.Tree.{AreNear, IsRooted, IsToward, distance, parent_of}
 use Rattle.global_model.specs.Views.{view_of}
-use Rattle.discovery_laws.specs.Known.{backs_of, routes_of, back_of, holds, in_flight, knows, route_of, way_of}
-use Rattle.discovery_laws.specs.Laws.{Laws}
+use Rattle.discovery_laws.specs.Known.{backs_of, routes_of, back_at, holds, in_flight, knows, route_at, way_at}
+use Rattle.discovery_laws.specs.Laws.{DiscoveryLaws}
 use Rattle.discovery_laws.proofs.Underway.{IsBounded, bounded_got}
 use Rattle.discovery_laws.proofs.Stages.{Stage, Registering, Admitting, Answers, MayAnswer, IsBack, IsRoute, IsStaged, about_in, is_about, number}
 use Rattle.discovery_laws.proofs.Moves.{no_stray, none_left, one_sent, row_cases, row_here, row_more, view_holder, IsThere, is_there}
@@ -24,7 +24,7 @@ use Rattle.discovery_laws.proofs.Led.{IsLed}
 -- ---- no turning back
 
 -- of two neighbours y and z, where z isn't next toward d, y is next from z toward it
-pub turned_back : Laws → (parent : ℕ → ℕ) (born y z d x : ℕ) → IsRooted parent → AreNear parent y z → z < born → IsToward parent born y d x → z ≢ x
+pub turned_back : DiscoveryLaws → (parent : ℕ → ℕ) (born y z d x : ℕ) → IsRooted parent → AreNear parent y z → z < born → IsToward parent born y d x → z ≢ x
     → IsToward parent born z d y
 turned_back laws parent born y z d x rooted near z_born behind apart = elim (laws.tree.sides parent born y z d rooted near behind.from z_born behind.to) [
   | inl on ↦ absurd (apart (on.next ∙ sym behind.next))
@@ -32,7 +32,7 @@ turned_back laws parent born y z d x rooted near z_born behind apart = elim (law
 ]
 
 -- and where y is d itself
-pub turned_home : Laws → (parent : ℕ → ℕ) (born d z : ℕ) → IsRooted parent → AreNear parent d z → d < born → z < born → IsToward parent born z d d
+pub turned_home : DiscoveryLaws → (parent : ℕ → ℕ) (born d z : ℕ) → IsRooted parent → AreNear parent d z → d < born → z < born → IsToward parent born z d d
 turned_home laws parent born d z rooted near d_born z_born = elim (laws.tree.sides parent born d z d rooted near d_born z_born d_born) [
   | inl on ↦ absurd (on.apart refl)
   | inr back ↦ back
@@ -45,7 +45,7 @@ abbrev pub remembered : Facts → Enclave → Enclave → ℕ → Facts
 remembered G x y d = after_line (after_line G (lines.Got x y)) (lines.Back y (number d) x)
 
 -- The register of d came from x to y, and y remembers the way back.
-module _ (laws : Laws) (G : Facts) (x y : Enclave) (d h : ℕ) (rs : List Record) (rooted : IsRooted (parent_of G)) (bounded : IsBounded G)
+module _ (laws : DiscoveryLaws) (G : Facts) (x y : Enclave) (d h : ℕ) (rs : List Record) (rooted : IsRooted (parent_of G)) (bounded : IsBounded G)
     (staged : IsStaged (parent_of G) G.born G d (Registering h x.0 y.0)) (flight : in_flight G x.0 y.0 ≡ register_of (number d) ∷ rs)
     (last : filter (is_about d) rs ≡ []) where
   -- none is under way
@@ -59,23 +59,23 @@ module _ (laws : Laws) (G : Facts) (x y : Enclave) (d h : ℕ) (rs : List Record
   backs_now : (e : ℕ) → backs_of (remembered G x y d) e ≡ cond (eqb e y.0) (put (backs_of G y.0) d x) (backs_of G e)
   backs_now = back_puts (after_line G (lines.Got x y)) y (number d) x
 
-  routes_now : (e : ℕ) → route_of (remembered G x y d) e d ≡ route_of G e d
+  routes_now : (e : ℕ) → route_at (remembered G x y d) e d ≡ route_at G e d
   routes_now e = ap (λ table. at table d) (back_leaves_routes (after_line G (lines.Got x y)) y (number d) x e)
 
   knows_now : (e : ℕ) → knows (remembered G x y d) e ≡ knows G e
   knows_now e = ap (λ way. holds G e || is_some way) ((back_leaves (after_line G (lines.Got x y)) y (number d) x).way e)
 
-  still_answers : (e : ℕ) → Answers (back_of G) d e → Answers (back_of (remembered G x y d)) d e
+  still_answers : (e : ℕ) → Answers (back_at G) d e → Answers (back_at (remembered G x y d)) d e
   still_answers e (inl is) = inl is
   still_answers e (inr some) = inr (row_more laws.row (backs_of G) (backs_of (remembered G x y d)) y.0 d x backs_now e some)
 
-  pub now_remembered : back_of (remembered G x y d) y.0 d ≡ Some x
+  pub now_remembered : back_at (remembered G x y d) y.0 d ≡ Some x
   now_remembered = row_here laws.row (backs_of G) (backs_of (remembered G x y d)) y.0 d x backs_now
 
   -- the ways back, at the next stage
   backs_then : (stage : Stage) → MayAnswer (parent_of G) stage y.0
       → ((e : ℕ) → distance (parent_of G) y.0 h < distance (parent_of G) e h → MayAnswer (parent_of G) stage e)
-      → (e : ℕ) (z : Enclave) → back_of (remembered G x y d) e d ≡ Some z → IsBack (parent_of G) G.born (back_of (remembered G x y d)) d stage e z.0
+      → (e : ℕ) (z : Enclave) → back_at (remembered G x y d) e d ≡ Some z → IsBack (parent_of G) G.born (back_at (remembered G x y d)) d stage e z.0
   backs_then stage new old e z is = elim (row_cases laws.row (backs_of G) (backs_of (remembered G x y d)) y.0 d x backs_now e z is) [
     | inl here ↦
         rw (here.0, ap (λ (w : Enclave). w.0) (sym here.1))
@@ -121,10 +121,10 @@ module _ (laws : Laws) (G : Facts) (x y : Enclave) (d h : ℕ) (rs : List Record
   abbrev routed : Facts
   routed = after_line (remembered G x y d) (lines.Route y (number d) x)
 
-  pub backs_routed : (e : ℕ) → back_of routed e d ≡ back_of (remembered G x y d) e d
+  pub backs_routed : (e : ℕ) → back_at routed e d ≡ back_at (remembered G x y d) e d
   backs_routed e = ap (λ table. at table d) (route_leaves_backs (remembered G x y d) y (number d) x e)
 
-  routes_routed : (e : ℕ) (z : Enclave) → route_of routed e d ≡ Some z → IsRoute (parent_of G) G.born d (Admitting y.0 y.0 x.0) e z.0
+  routes_routed : (e : ℕ) (z : Enclave) → route_at routed e d ≡ Some z → IsRoute (parent_of G) G.born d (Admitting y.0 y.0 x.0) e z.0
   routes_routed e z is =
       let nearer = laws.tree.nearer (parent_of G) G.born y.0 d x.0 rooted staged.at.behind in
       elim (row_cases laws.row (routes_of (remembered G x y d)) (routes_of routed) y.0 d x (route_puts (remembered G x y d) y (number d) x) e z is) [
@@ -136,17 +136,17 @@ module _ (laws : Laws) (G : Facts) (x y : Enclave) (d h : ℕ) (rs : List Record
   admitted_over =
       let at = staged.at in
       let nearer = laws.tree.nearer (parent_of G) G.born y.0 d x.0 rooted at.behind in
-      let later = back_of (after_line routed (lines.Sent y x (admit_of y (number d)))) in
+      let later = back_at (after_line routed (lines.Sent y x (admit_of y (number d)))) in
       record {
         flight = λ a b. one_sent routed y x (admit_of y (number d)) d a b still_bounded (eq-eqb d d refl) (got_register a b);
-        backs = λ e z is. back_stays (parent_of G) G.born (back_of (remembered G x y d)) later d (Admitting y.0 y.0 x.0) e z.0 backs_routed
+        backs = λ e z is. back_stays (parent_of G) G.born (back_at (remembered G x y d)) later d (Admitting y.0 y.0 x.0) e z.0 backs_routed
             (backs_then (Admitting y.0 y.0 x.0) tt (λ e less. tt) e z (sym (backs_routed e) ∙ is));
         routes = routes_routed;
         at = record {
           from = at.ahead.over;
           ahead = at.behind;
           nearer = omega (arith, nearer);
-          answers = answers_stay (back_of (remembered G x y d)) later d x.0 backs_routed (still_answers x.0 at.answers);
+          answers = answers_stay (back_at (remembered G x y d)) later d x.0 backs_routed (still_answers x.0 at.answers);
           known = ap (λ way. holds G d || is_some way) ((route_leaves (remembered G x y d) y (number d) x).way d) ∙ knows_now d ∙ at.known;
           waits = at.waits;
         };
@@ -166,10 +166,10 @@ register_on : (v : View) (from over : Enclave) (r : Record) → v.core.holder �
 register_on v from over r is way apart = rw (is, way, ne_eqb over.0 from.0 apart) refl
 
 -- what is known by an enclave that doesn't hold the name server is its way
-pub way_known : (G : Facts) (e : ℕ) → knows G e ≡ true → holds G e ≡ false → IsThere (way_of G e)
-way_known G e known none = is_there (way_of G e) (sym (rw none refl) ∙ known)
+pub way_known : (G : Facts) (e : ℕ) → knows G e ≡ true → holds G e ≡ false → IsThere (way_at G e)
+way_known G e known none = is_there (way_at G e) (sym (rw none refl) ∙ known)
 
-pub register_handled : Laws → (G : Facts) (x y : Enclave) (d h : ℕ) (rs : List Record) → IsLed G → IsRooted (parent_of G) → IsBounded G
+pub register_handled : DiscoveryLaws → (G : Facts) (x y : Enclave) (d h : ℕ) (rs : List Record) → IsLed G → IsRooted (parent_of G) → IsBounded G
     → IsStaged (parent_of G) G.born G d (Registering h x.0 y.0) → in_flight G x.0 y.0 ≡ register_of (number d) ∷ rs
     → filter (is_about d) rs ≡ []
     → IsMoved G x y d (register_of (number d)) (record_lines (view_of G y) x (register_of (number d)))
@@ -179,12 +179,12 @@ register_handled laws G x y d h rs led rooted bounded staged flight last =
     P : List Line → Type 0
     P ls = IsMoved G x y d (register_of (number d)) ls
 
-    kept : is_some (back_of (remembered G x y d) y.0 d) ≡ true
+    kept : is_some (back_at (remembered G x y d) y.0 d) ≡ true
     kept = ap is_some (now_remembered laws G x y d h rs rooted bounded staged flight last)
 
-    none : is_some (back_of G y.0 d) ≡ false
-    none = false_from_ne_true (is_some (back_of G y.0 d)) (λ some.
-        let found = is_there (back_of G y.0 d) some in
+    none : is_some (back_at G y.0 d) ≡ false
+    none = false_from_ne_true (is_some (back_at G y.0 d)) (λ some.
+        let found = is_there (back_at G y.0 d) some in
         let less = (staged.backs y.0 found.value found.is).may in
         omega (arith, less))
 

@@ -16,7 +16,7 @@ use Rattle.global_model.specs.Pauses.{IsPause, MayHandle}
 use Rattle.global_model.specs.Tree.{IsRooted, parent_of}
 use Rattle.global_model.specs.Views.{view_of}
 use Rattle.discovery_laws.specs.Known.{in_flight, knows}
-use Rattle.discovery_laws.specs.Laws.{Laws}
+use Rattle.discovery_laws.specs.Laws.{DiscoveryLaws}
 use Rattle.discovery_laws.proofs.Answered.{knows_way_is}
 use Rattle.discovery_laws.proofs.Underway.{IsBounded, bounded_got, next_flight}
 use Rattle.discovery_laws.proofs.Stages.{Stage, Silent, Registering, Admitting, Ready, IsRegistered, IsStaged, is_about, number, under_way}
@@ -47,7 +47,7 @@ pause_bounded G pause x y =
     let few = whole_few (G.channel x y).taken (G.channel x y).sent in
     omega (arith, got, few)
 
-pub registered_grown : Laws → (G H : Facts) → IsTree G → IsGrown G H → (K : Facts) (d : ℕ)
+pub registered_grown : DiscoveryLaws → (G H : Facts) → IsTree G → IsGrown G H → (K : Facts) (d : ℕ)
     → IsRegistered (parent_of G) G.born K d → IsRegistered (parent_of H) H.born K d
 registered_grown laws G H tree grown K d registered = record {
   stage = registered.stage;
@@ -57,7 +57,7 @@ registered_grown laws G H tree grown K d registered = record {
 -- ---- a record is got
 
 -- one that says nothing of d, from an enclave for which d registers nothing
-leaves : Laws → (G : Facts) (x y : Enclave) (r : Record) (rs : List Record) (d : ℕ) → IsBounded G → in_flight G x.0 y.0 ≡ r ∷ rs
+leaves : DiscoveryLaws → (G : Facts) (x y : Enclave) (r : Record) (rs : List Record) (d : ℕ) → IsBounded G → in_flight G x.0 y.0 ≡ r ∷ rs
     → is_about d r ≡ false → AreAside d (record_lines (view_of G y) x r)
     → IsRegistered (parent_of G) G.born G d → IsRegistered (parent_of G) G.born (after_lines G (lines.Got x y ∷ record_lines (view_of G y) x r)) d
 leaves laws G x y r rs d bounded flight other aside registered =
@@ -71,7 +71,7 @@ leaves laws G x y r rs d bounded flight other aside registered =
     }
 
 -- one of d
-pub moves : Laws → (G : Facts) (x y : Enclave) (r : Record) (rs : List Record) (d : ℕ) (stage : Stage) → IsLed G → IsTree G → IsBounded G
+pub moves : DiscoveryLaws → (G : Facts) (x y : Enclave) (r : Record) (rs : List Record) (d : ℕ) (stage : Stage) → IsLed G → IsTree G → IsBounded G
     → in_flight G x.0 y.0 ≡ r ∷ rs → is_about d r ≡ true → IsStaged (parent_of G) G.born G d stage
     → IsMoved G x y d r (record_lines (view_of G y) x r)
 moves laws G x y r rs d stage led tree bounded flight about staged = by stage staged (sym (staged.flight x.0 y.0) ∙ about_first G x.0 y.0 r rs d flight about)
@@ -100,7 +100,7 @@ here_or_not v d bodies.Here = inl refl
 here_or_not v d _ = inr tt
 
 -- a record that isn't of d, to an enclave that may hear of its way
-hears : Laws → (G : Facts) (x y : Enclave) (r : Record) (rs : List Record) → IsTree G → IsBounded G → in_flight G x.0 y.0 ≡ r ∷ rs
+hears : DiscoveryLaws → (G : Facts) (x y : Enclave) (r : Record) (rs : List Record) → IsTree G → IsBounded G → in_flight G x.0 y.0 ≡ r ∷ rs
     → is_about y.0 r ≡ false → knows G y.0 ≡ false
     → (let H : Facts = after_lines G (lines.Got x y ∷ record_lines (view_of G y) x r) in
     IsLed H → IsRooted (parent_of H)
@@ -120,7 +120,7 @@ hears laws G x y r rs tree bounded flight other none led rooted registered = eli
     H : Facts
     H = after_lines G (lines.Got x y ∷ record_lines (view_of G y) x r)
 
-pub handled : Laws → (G : Facts) (x y : Enclave) (r : Record) → IsPause G → MayHandle G x y r → IsLed G
+pub handled : DiscoveryLaws → (G : Facts) (x y : Enclave) (r : Record) → IsPause G → MayHandle G x y r → IsLed G
     → (let H : Facts = after_lines G (lines.Got x y ∷ record_lines (view_of G y) x r) in
     IsLed H → IsRooted (parent_of H)
     → (d : ℕ) → IsRegistered (parent_of G) G.born G d → IsRegistered (parent_of H) H.born H d)

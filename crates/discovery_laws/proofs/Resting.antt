@@ -9,7 +9,7 @@ use Rattle.global_model.specs.Channels.{is_child_of, is_neighbour, size_of, wait
 use Rattle.global_model.specs.Flow.{IsFlowing, IsTree}
 use Rattle.global_model.specs.Rest.{IsAtRest}
 use Rattle.global_model.specs.Tree.{parent_of}
-use Rattle.discovery_laws.specs.Known.{holds, in_flight, knows, way_of}
+use Rattle.discovery_laws.specs.Known.{holds, in_flight, knows, way_at}
 use Rattle.discovery_laws.proofs.Flights.{one_if, count}
 use Rattle.discovery_laws.proofs.Asking.{is_query, is_here, remembers, queries_flying, heres_flying, place}
 use Rattle.discovery_laws.proofs.Newborn.{near_born, near_turned}
@@ -118,5 +118,5 @@ module _ (G : Facts) (flowing : IsFlowing G) (asked : IsAsked G) (rest : IsAtRes
       let held = asked.known.held served in
       let low : held.holder < G.born = holder_born G held.holder flowing.tree held.holds in
       let below : e < G.born = living_born G e flowing.tree living in
-      let top : knows G 0 ≡ true = host_knows held.holder held.holder (omega arith) low (or_left (holds G held.holder) (is_some (way_of G held.holder)) held.holds) in
+      let top : knows G 0 ≡ true = host_knows held.holder held.holder (omega arith) low (or_left (holds G held.holder) (is_some (way_at G held.holder)) held.holds) in
       all_know top e e (omega arith) below

@@ -8,7 +8,7 @@ use Rattle.xemem_language.specs.declared.record.Body.TheVariants as bodies
 use Rattle.enclave_rules.specs.Steps.{admit_of, register_of}
 use Rattle.global_model.specs.Facts.{Facts}
 use Rattle.global_model.specs.Tree.{IsToward, distance}
-use Rattle.discovery_laws.specs.Known.{back_of, holds, in_flight, is_admitted_at, knows, route_of}
+use Rattle.discovery_laws.specs.Known.{back_at, holds, in_flight, is_admitted_at, knows, route_at}
 
 -- ---- the records of a registration
 
@@ -79,7 +79,7 @@ pub record IsRegistering (parent : ℕ → ℕ) (born : ℕ) (G : Facts) (d h x 
   pub ahead : IsToward parent born x h y
   pub behind : IsToward parent born y d x
   pub nearer : distance parent y h < distance parent d h
-  pub answers : Answers (back_of G) d x
+  pub answers : Answers (back_at G) d x
   pub knowing : knows G y ≡ true
   pub known : knows G d ≡ true
   pub waits : is_admitted_at G d ≡ false
@@ -89,7 +89,7 @@ pub record IsAdmitting (parent : ℕ → ℕ) (born : ℕ) (G : Facts) (d h x y 
   pub from : h < born
   pub ahead : IsToward parent born x d y
   pub nearer : distance parent y d < distance parent h d
-  pub answers : Answers (back_of G) d y
+  pub answers : Answers (back_at G) d y
   pub known : knows G d ≡ true
   pub waits : is_admitted_at G d ≡ false
 
@@ -97,7 +97,7 @@ pub record IsSilent (G : Facts) (d : ℕ) : Type 0 where
   pub known : knows G d ≡ holds G d
   pub admitted : is_admitted_at G d ≡ holds G d
 
-pub record IsReady (G : Facts) (d : ℕ) : Type 0 where
+pub record IsReadyAt (G : Facts) (d : ℕ) : Type 0 where
   pub known : knows G d ≡ true
   pub admitted : is_admitted_at G d ≡ true
 
@@ -105,13 +105,13 @@ abbrev pub IsAt : (ℕ → ℕ) → ℕ → Facts → ℕ → Stage → Type 0
 IsAt parent born G d Silent = IsSilent G d
 IsAt parent born G d (Registering h x y) = IsRegistering parent born G d h x y
 IsAt parent born G d (Admitting h x y) = IsAdmitting parent born G d h x y
-IsAt parent born G d Ready = IsReady G d
+IsAt parent born G d Ready = IsReadyAt G d
 
 -- the records of d under way, the ways back to it, the routes to it, and d itself are as the stage says
 pub record IsStaged (parent : ℕ → ℕ) (born : ℕ) (G : Facts) (d : ℕ) (stage : Stage) : Type 0 where
   pub flight : (a b : ℕ) → about_in G d a b ≡ under_way d stage a b
-  pub backs : (e : ℕ) (x : Enclave) → back_of G e d ≡ Some x → IsBack parent born (back_of G) d stage e x.0
-  pub routes : (e : ℕ) (x : Enclave) → route_of G e d ≡ Some x → IsRoute parent born d stage e x.0
+  pub backs : (e : ℕ) (x : Enclave) → back_at G e d ≡ Some x → IsBack parent born (back_at G) d stage e x.0
+  pub routes : (e : ℕ) (x : Enclave) → route_at G e d ≡ Some x → IsRoute parent born d stage e x.0
   pub at : IsAt parent born G d stage
 
 pub record IsRegistered (parent : ℕ → ℕ) (born : ℕ) (G : Facts) (d : ℕ) : Type 0 where

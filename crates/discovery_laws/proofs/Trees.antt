@@ -14,7 +14,7 @@ use Rattle.enclave_rules.specs.Steps.{record_lines}
 use Rattle.global_model.specs.Facts.{Facts, after_line, after_lines, fact_of}
 use Rattle.global_model.specs.Tree.{IsRooted, IsToward, distance, parent_of}
 use Rattle.global_model.specs.Views.{view_of}
-use Rattle.discovery_laws.specs.Laws.{Laws}
+use Rattle.discovery_laws.specs.Laws.{DiscoveryLaws}
 use Rattle.discovery_laws.proofs.Effects.{kept_by, parent_kept}
 use Rattle.discovery_laws.proofs.Stages.{Stage, Silent, Registering, Admitting, Ready, MayAnswer, MayReach, IsAt, IsStaged}
 
@@ -25,7 +25,7 @@ pub record IsGrown (G H : Facts) : Type 0 where
   pub parents : (e : ℕ) → 0 < e → e < G.born → parent_of H e ≡ parent_of G e
   pub born : G.born ≤ H.born
 
-record IsSame (G H : Facts) : Type 0 where
+record IsSameTree (G H : Facts) : Type 0 where
   parents : (e : ℕ) → parent_of H e ≡ parent_of G e
   born : H.born ≡ G.born
 
@@ -37,13 +37,13 @@ IsBarren line = Unit {0}
 abbrev pub AreBarren : List Line → Type 0
 AreBarren journal = AllByRecursion IsBarren journal
 
-same_line : (G : Facts) (line : Line) → IsBarren line → IsSame G (after_line G line)
+same_line : (G : Facts) (line : Line) → IsBarren line → IsSameTree G (after_line G line)
 same_line G (lines.Born e kind parent ns blocks) barren = absurd barren
 same_line G (lines.Admitted e) barren = record { parents = kept_by (λ fact. (fact_of fact).parent.0) parent_kept G e; born = refl }
 same_line G (lines.Do (commands.Pool blocks)) barren = record { parents = λ e. refl; born = refl }
 same_line G _ barren = record { parents = λ e. refl; born = refl }
 
-same_lines : (G : Facts) (ls : List Line) → AreBarren ls → IsSame G (after_lines G ls)
+same_lines : (G : Facts) (ls : List Line) → AreBarren ls → IsSameTree G (after_lines G ls)
 same_lines G [] barren = record { parents = λ e. refl; born = refl }
 same_lines G (l ∷ ls) barren =
     let one = same_line G l barren.0 in
@@ -65,7 +65,7 @@ all_barren y [] of = tt
 all_barren y (l ∷ ls) of = (own_barren y l of.0, all_barren y ls of.1)
 
 -- what is written for a record bears none
-pub grown_handled : Laws → (G : Facts) (x y : Enclave) (r : Record) → IsGrown G (after_lines G (lines.Got x y ∷ record_lines (view_of G y) x r))
+pub grown_handled : DiscoveryLaws → (G : Facts) (x y : Enclave) (r : Record) → IsGrown G (after_lines G (lines.Got x y ∷ record_lines (view_of G y) x r))
 grown_handled laws G x y r =
     let own = lines.Got x y ∷ record_lines (view_of G y) x r in
     let of : AreOf y own = subst (AreOf y) (append-nil own) (laws.step.own (view_of G y) x (r ∷ [])) in
@@ -93,7 +93,7 @@ grown-trans G H K one two =
 
 -- ---- a registration in a tree that has grown
 
-module _ (laws : Laws) (G H : Facts) (rooted : IsRooted (parent_of G)) (grown : IsGrown G H) where
+module _ (laws : DiscoveryLaws) (G H : Facts) (rooted : IsRooted (parent_of G)) (grown : IsGrown G H) where
   toward_grown : (x d y : ℕ) → IsToward (parent_of G) G.born x d y → IsToward (parent_of H) H.born x d y
   toward_grown x d y toward = laws.tree.stays (parent_of G) (parent_of H) G.born H.born x d y rooted grown.parents grown.born toward
 

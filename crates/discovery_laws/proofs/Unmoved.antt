@@ -10,8 +10,8 @@ use Rattle.xemem_language.specs.declared.line.Line.{Line}
 use Rattle.xemem_language.specs.declared.line.Line.TheVariants as lines
 use Rattle.xemem_language.specs.declared.command.Command.TheVariants as commands
 use Rattle.global_model.specs.Facts.{Facts, after_line, after_lines, is_admitted, is_holder, with_taken}
-use Rattle.discovery_laws.specs.Known.{backs_of, routes_of, back_of, holds, in_flight, is_admitted_at, knows, route_of, way_of}
-use Rattle.discovery_laws.specs.Laws.{RowLaws}
+use Rattle.discovery_laws.specs.Known.{backs_of, routes_of, back_at, holds, in_flight, is_admitted_at, knows, route_at, way_at}
+use Rattle.discovery_laws.specs.Laws.{WayPutLaws}
 use Rattle.discovery_laws.proofs.Effects.{asked_leaves, asked_leaves_rows, back_leaves, back_leaves_routes, back_puts, holder_kept, kept_by, route_leaves, route_leaves_backs, route_puts, way_learns, way_leaves}
 use Rattle.discovery_laws.proofs.Underway.{IsBounded, bounded_sent, flight_sent}
 use Rattle.discovery_laws.proofs.Stages.{about_in, is_about, Stage, Answers, IsBack, IsAt, IsStaged, Silent, Registering, Admitting, Ready}
@@ -21,8 +21,8 @@ use Rattle.discovery_laws.proofs.Stages.{about_in, is_about, Stage, Answers, IsB
 -- the same is known of d everywhere, and no enclave knows less of the way than before
 pub record IsUnmoved (G H : Facts) (d : ℕ) : Type 0 where
   pub flight : (a b : ℕ) → about_in H d a b ≡ about_in G d a b
-  pub backs : (e : ℕ) → back_of H e d ≡ back_of G e d
-  pub routes : (e : ℕ) → route_of H e d ≡ route_of G e d
+  pub backs : (e : ℕ) → back_at H e d ≡ back_at G e d
+  pub routes : (e : ℕ) → route_at H e d ≡ route_at G e d
   pub holders : (e : ℕ) → holds G e ≡ true → holds H e ≡ true
   pub knowing : (e : ℕ) → knows G e ≡ true → knows H e ≡ true
   pub held : holds H d ≡ holds G d
@@ -74,7 +74,7 @@ at_stays parent born G H d (Registering h x y) same at = record {
   ahead = at.ahead;
   behind = at.behind;
   nearer = at.nearer;
-  answers = answers_stay (back_of G) (back_of H) d x same.backs at.answers;
+  answers = answers_stay (back_at G) (back_at H) d x same.backs at.answers;
   knowing = same.knowing y at.knowing;
   known = same.known ∙ at.known;
   waits = same.admitted ∙ at.waits;
@@ -83,7 +83,7 @@ at_stays parent born G H d (Admitting h x y) same at = record {
   from = at.from;
   ahead = at.ahead;
   nearer = at.nearer;
-  answers = answers_stay (back_of G) (back_of H) d y same.backs at.answers;
+  answers = answers_stay (back_at G) (back_at H) d y same.backs at.answers;
   known = same.known ∙ at.known;
   waits = same.admitted ∙ at.waits;
 }
@@ -93,7 +93,7 @@ pub staged_stays : (parent : ℕ → ℕ) (born : ℕ) (G H : Facts) (d : ℕ) (
     → IsStaged parent born H d stage
 staged_stays parent born G H d stage same staged = record {
   flight = λ a b. same.flight a b ∙ staged.flight a b;
-  backs = λ e x is. back_stays parent born (back_of G) (back_of H) d stage e x.0 same.backs (staged.backs e x (sym (same.backs e) ∙ is));
+  backs = λ e x is. back_stays parent born (back_at G) (back_at H) d stage e x.0 same.backs (staged.backs e x (sym (same.backs e) ∙ is));
   routes = λ e x is. staged.routes e x (sym (same.routes e) ∙ is);
   at = at_stays parent born G H d stage same staged.at;
 }
@@ -142,7 +142,7 @@ unmoved_sent G x y r d bounded other = record {
     by a b false = refl
 
 -- a table that gets a row of another number has the same at d
-pub other_row : RowLaws → (f g : ℕ → List (ℕ × Enclave)) (e of : ℕ) (over : Enclave) → ((a : ℕ) → g a ≡ cond (eqb a e) (put (f e) of over) (f a))
+pub other_row : WayPutLaws → (f g : ℕ → List (ℕ × Enclave)) (e of : ℕ) (over : Enclave) → ((a : ℕ) → g a ≡ cond (eqb a e) (put (f e) of over) (f a))
     → (d a : ℕ) → of ≢ d → at (g a) d ≡ at (f a) d
 other_row rows f g e of over changed d a apart = ap (λ table. at table d) (changed a) ∙ by (eqb a e) refl
   where
@@ -152,7 +152,7 @@ other_row rows f g e of over changed d a apart = ap (λ table. at table d) (chan
 
 -- a line that leaves channels and enclaves, and all ways
 unmoved_by : (G H : Facts) (d : ℕ) → ((a b : ℕ) → in_flight H a b ≡ in_flight G a b) → ((e : ℕ) → H.enclave e ≡ G.enclave e)
-    → ((e : ℕ) → way_of H e ≡ way_of G e) → ((e : ℕ) → back_of H e d ≡ back_of G e d) → ((e : ℕ) → route_of H e d ≡ route_of G e d)
+    → ((e : ℕ) → way_at H e ≡ way_at G e) → ((e : ℕ) → back_at H e d ≡ back_at G e d) → ((e : ℕ) → route_at H e d ≡ route_at G e d)
     → IsUnmoved G H d
 unmoved_by G H d flight enclaves ways backs routes = record {
   flight = λ a b. ap (filter (is_about d)) (flight a b);
@@ -166,7 +166,7 @@ unmoved_by G H d flight enclaves ways backs routes = record {
 }
   where
     same : (e : ℕ) → knows H e ≡ knows G e
-    same e = ap (λ fact. is_holder fact || is_some (way_of H e)) (enclaves e) ∙ ap (λ way. holds G e || is_some way) (ways e)
+    same e = ap (λ fact. is_holder fact || is_some (way_at H e)) (enclaves e) ∙ ap (λ way. holds G e || is_some way) (ways e)
 
 knows_more : (held : Bool) (t : Bool) (over : Enclave) (way : Option Enclave) → (held || is_some way) ≡ true
     → (held || is_some (cond t (Some over) way)) ≡ true
@@ -180,13 +180,13 @@ unmoved_way G e over d apart = record {
   backs = λ a. ap (λ table. at table d) ((way_leaves G e over).backs a);
   routes = λ a. ap (λ table. at table d) ((way_leaves G e over).routes a);
   holders = λ a is. is;
-  knowing = λ a is. learns a ∙ knows_more (holds G a) (eqb a e.0) over (way_of G a) is;
+  knowing = λ a is. learns a ∙ knows_more (holds G a) (eqb a e.0) over (way_at G a) is;
   held = refl;
   known = learns d ∙ rw (ne_eqb d e.0 (λ is. apart (sym is))) refl;
   admitted = refl;
 }
   where
-    learns : (a : ℕ) → knows (after_line G (lines.Way e over)) a ≡ (holds G a || is_some (cond (eqb a e.0) (Some over) (way_of G a)))
+    learns : (a : ℕ) → knows (after_line G (lines.Way e over)) a ≡ (holds G a || is_some (cond (eqb a e.0) (Some over) (way_at G a)))
     learns a = ap (λ way. holds G a || is_some way) (way_learns G e over a)
 
 pub holds_admitted : (G : Facts) (e : Enclave) (a : ℕ) → holds (after_line G (lines.Admitted e)) a ≡ holds G a
@@ -198,9 +198,9 @@ unmoved_admitted G e d apart = record {
   backs = λ a. refl;
   routes = λ a. refl;
   holders = λ a is. holds_admitted G e a ∙ is;
-  knowing = λ a is. ap (λ t. t || is_some (way_of G a)) (holds_admitted G e a) ∙ is;
+  knowing = λ a is. ap (λ t. t || is_some (way_at G a)) (holds_admitted G e a) ∙ is;
   held = holds_admitted G e d;
-  known = ap (λ t. t || is_some (way_of G d)) (holds_admitted G e d);
+  known = ap (λ t. t || is_some (way_at G d)) (holds_admitted G e d);
   admitted = rw (ne_eqb d e.0 (λ is. apart (sym is))) refl;
 }
 
@@ -221,7 +221,7 @@ unmoved_took G x y count d = record {
     by a b true = refl
     by a b false = refl
 
-pub unmoved_line : RowLaws → (G : Facts) (line : Line) (d : ℕ) → IsBounded G → IsAside d line → IsUnmoved G (after_line G line) d
+pub unmoved_line : WayPutLaws → (G : Facts) (line : Line) (d : ℕ) → IsBounded G → IsAside d line → IsUnmoved G (after_line G line) d
 unmoved_line rows G (lines.Born e kind parent ns blocks) d bounded aside = absurd aside
 unmoved_line rows G (lines.Heard e of) d bounded aside = absurd aside
 unmoved_line rows G (lines.Got x y) d bounded aside = absurd aside
@@ -248,26 +248,26 @@ unmoved_line rows G (lines.Do (commands.Pool blocks)) d bounded aside =
 unmoved_line rows G line d bounded aside = unmoved_by G (after_line G line) d (λ a b. refl) (λ e. refl) (λ e. refl) (λ e. refl) (λ e. refl)
 
 -- a line within a step: it bears no enclave, hears of no death and gets no record
-abbrev pub IsInner : Line → Type 0
-IsInner (lines.Born e kind parent ns blocks) = ⊥
-IsInner (lines.Heard e of) = ⊥
-IsInner (lines.Got x y) = ⊥
-IsInner line = Unit {0}
+abbrev pub IsWithinStep : Line → Type 0
+IsWithinStep (lines.Born e kind parent ns blocks) = ⊥
+IsWithinStep (lines.Heard e of) = ⊥
+IsWithinStep (lines.Got x y) = ⊥
+IsWithinStep line = Unit {0}
 
-abbrev pub AreInner : List Line → Type 0
-AreInner journal = AllByRecursion IsInner journal
+abbrev pub AreWithinStep : List Line → Type 0
+AreWithinStep journal = AllByRecursion IsWithinStep journal
 
-pub inner_aside : (line : Line) (d : ℕ) → IsAside d line → IsInner line
+pub inner_aside : (line : Line) (d : ℕ) → IsAside d line → IsWithinStep line
 inner_aside (lines.Born e kind parent ns blocks) d aside = aside
 inner_aside (lines.Heard e of) d aside = aside
 inner_aside (lines.Got x y) d aside = aside
 inner_aside _ d aside = tt
 
-pub inner_all : (ls : List Line) (d : ℕ) → AreAside d ls → AreInner ls
+pub inner_all : (ls : List Line) (d : ℕ) → AreAside d ls → AreWithinStep ls
 inner_all [] d aside = tt
 inner_all (l ∷ ls) d aside = (inner_aside l d aside.0, inner_all ls d aside.1)
 
-pub bounded_line : (G : Facts) (line : Line) → IsBounded G → IsInner line → IsBounded (after_line G line)
+pub bounded_line : (G : Facts) (line : Line) → IsBounded G → IsWithinStep line → IsBounded (after_line G line)
 bounded_line G (lines.Born e kind parent ns blocks) bounded inner = absurd inner
 bounded_line G (lines.Heard e of) bounded inner = absurd inner
 bounded_line G (lines.Got x y) bounded inner = absurd inner
@@ -286,7 +286,7 @@ pub record AreUnmoved (G H : Facts) (d : ℕ) : Type 0 where
   pub same : IsUnmoved G H d
   pub bounded : IsBounded H
 
-pub unmoved_lines : RowLaws → (G : Facts) (ls : List Line) (d : ℕ) → IsBounded G → AreAside d ls → AreUnmoved G (after_lines G ls) d
+pub unmoved_lines : WayPutLaws → (G : Facts) (ls : List Line) (d : ℕ) → IsBounded G → AreAside d ls → AreUnmoved G (after_lines G ls) d
 unmoved_lines rows G [] d bounded aside = record { same = unmoved-refl G d; bounded = bounded }
 unmoved_lines rows G (l ∷ ls) d bounded aside =
     let one = unmoved_line rows G l d bounded aside.0 in

@@ -25,9 +25,9 @@ use Rattle.global_model.specs.Place.{IsPlaced}
 use Rattle.global_model.specs.Due.{journal_of}
 use Rattle.global_model.specs.Pauses.{Step, Written, Hosts, Bears, Takes, Handles, written_by, written_in, MayCome, AreSteps}
 use Rattle.global_model.specs.Views.{view_of}
-use Rattle.discovery_laws.specs.Laws.{Laws, PastLaws}
+use Rattle.discovery_laws.specs.Laws.{DiscoveryLaws, FactLaws}
 use Rattle.discovery_laws.specs.Ways.{is_way_line, ways_in}
-use Rattle.discovery_laws.specs.Known.{way_of}
+use Rattle.discovery_laws.specs.Known.{way_at}
 use Rattle.discovery_laws.proofs.Effects.{way_learns, asked_leaves, admitted_leaves, back_leaves, route_leaves}
 use Rattle.discovery_laws.proofs.Flights.{one_if}
 use Rattle.discovery_laws.proofs.Asking.{is_query_body, is_here_body}
@@ -63,10 +63,10 @@ all_wayless (l ∷ ls) calm = (calm_wayless l calm.0, all_wayless ls calm.1)
 
 -- ---- how often an enclave learned its way is told by whether it knows it
 
-record IsTold (G : Facts) (e : ℕ) (ls : List Line) : Type 0 where
-  told : ways_in e ls + one_if (is_some (way_of G e)) ≡ one_if (is_some (way_of (after_lines G ls) e))
+record IsToldBy (G : Facts) (e : ℕ) (ls : List Line) : Type 0 where
+  told : ways_in e ls + one_if (is_some (way_at G e)) ≡ one_if (is_some (way_at (after_lines G ls) e))
 
-wayless_line : (G : Facts) (e : ℕ) (line : Line) → IsWayless line → (is_way_line e line ≡ false) × (way_of (after_line G line) e ≡ way_of G e)
+wayless_line : (G : Facts) (e : ℕ) (line : Line) → IsWayless line → (is_way_line e line ≡ false) × (way_at (after_line G line) e ≡ way_at G e)
 wayless_line G e (lines.Way of over) none = absurd none
 wayless_line G e (lines.Heard of dead) none = absurd none
 wayless_line G e (lines.Do (commands.Pool blocks)) none = (refl, refl)
@@ -76,17 +76,17 @@ wayless_line G e (lines.Route of d over) none = (refl, (route_leaves G of d over
 wayless_line G e (lines.Admitted of) none = (refl, (admitted_leaves G of of of).way e)
 wayless_line G e line none = (refl, refl)
 
-told-append : (past : PastLaws) (G : Facts) (e : ℕ) (ls ms : List Line) → IsTold G e ls → IsTold (after_lines G ls) e ms → IsTold G e (ls ++ ms)
+told-append : (past : FactLaws) (G : Facts) (e : ℕ) (ls ms : List Line) → IsToldBy G e ls → IsToldBy (after_lines G ls) e ms → IsToldBy G e (ls ++ ms)
 told-append past G e ls ms first more = record {
   told =
       let both : ways_in e (ls ++ ms) ≡ ways_in e ls + ways_in e ms
       = ap length (filter-append (is_way_line e) ls ms) ∙ length-append (filter (is_way_line e) ls) (filter (is_way_line e) ms) in
-      let end : one_if (is_some (way_of (after_lines G (ls ++ ms)) e)) ≡ one_if (is_some (way_of (after_lines (after_lines G ls) ms) e))
-      = ap (λ H. one_if (is_some (way_of H e))) (past.after G ls ms) in
+      let end : one_if (is_some (way_at (after_lines G (ls ++ ms)) e)) ≡ one_if (is_some (way_at (after_lines (after_lines G ls) ms) e))
+      = ap (λ H. one_if (is_some (way_at H e))) (past.after G ls ms) in
       omega (arith, both, end, first.told, more.told);
 }
 
-wayless_told : (e : ℕ) (ls : List Line) (G : Facts) → AreWayless ls → IsTold G e ls
+wayless_told : (e : ℕ) (ls : List Line) (G : Facts) → AreWayless ls → IsToldBy G e ls
 wayless_told e [] G none = record { told = omega arith }
 wayless_told e (l ∷ ls) G none =
     let one = wayless_line G e l none.0 in
@@ -94,19 +94,19 @@ wayless_told e (l ∷ ls) G none =
     record {
       told =
           let count : ways_in e (l ∷ ls) ≡ ways_in e ls = ap (λ t. length (cond t (l ∷ filter (is_way_line e) ls) (filter (is_way_line e) ls))) one.0 in
-          let before : one_if (is_some (way_of (after_line G l) e)) ≡ one_if (is_some (way_of G e)) = ap (λ o. one_if (is_some o)) one.1 in
+          let before : one_if (is_some (way_at (after_line G l) e)) ≡ one_if (is_some (way_at G e)) = ap (λ o. one_if (is_some o)) one.1 in
           omega (arith, count, before, more.told);
     }
 
-way_told : (G : Facts) (e : ℕ) (y over : Enclave) → way_of G y.0 ≡ None → IsTold G e (lines.Way y over ∷ [])
+way_told : (G : Facts) (e : ℕ) (y over : Enclave) → way_at G y.0 ≡ None → IsToldBy G e (lines.Way y over ∷ [])
 way_told G e y over none = record {
   told = by (eqb y.0 e) (eqb e y.0) refl refl ∙ ap (λ o. one_if (is_some o)) (sym (way_learns G y over e));
 }
   where
     by : (s t : Bool) → eqb y.0 e ≡ s → eqb e y.0 ≡ t
-        → length (cond s (lines.Way y over ∷ []) []) + one_if (is_some (way_of G e)) ≡ one_if (is_some (cond t (Some over) (way_of G e)))
+        → length (cond s (lines.Way y over ∷ []) []) + one_if (is_some (way_at G e)) ≡ one_if (is_some (cond t (Some over) (way_at G e)))
     by true true is at =
-        let unknown : one_if (is_some (way_of G e)) ≡ 0 = ap (λ o. one_if (is_some o)) (ap (way_of G) (eqb-true e y.0 at) ∙ none) in
+        let unknown : one_if (is_some (way_at G e)) ≡ 0 = ap (λ o. one_if (is_some o)) (ap (way_at G) (eqb-true e y.0 at) ∙ none) in
         omega (arith, unknown)
     by false false is at = omega arith
     by true false is at = absurd (eqb-false e y.0 at (sym (eqb-true y.0 e is)))
@@ -123,33 +123,33 @@ wayless_askers : (v : View) (rows : List (ℕ × Enclave)) → AreWayless (told_
 wayless_askers v [] = tt
 wayless_askers v (row ∷ rows) = (tt, wayless_askers v rows)
 
-module _ (laws : Laws) (G : Facts) (e : ℕ) (x y : Enclave) (r : Record) where
+module _ (laws : DiscoveryLaws) (G : Facts) (e : ℕ) (x y : Enclave) (r : Record) where
   abbrev v : View
   v = view_of G y
 
-  here_told : (t : Bool) → knows_way v ≡ t → IsTold G e (lines.Got x y ∷ cond t (drop_lines v) (lines.Way y x
+  here_told : (t : Bool) → knows_way v ≡ t → IsToldBy G e (lines.Got x y ∷ cond t (drop_lines v) (lines.Way y x
       ∷ told_askers v (less v.ways.askers (place_among v.core.parent x)) ++ lines.Sent y x (register_of y) ∷ []))
   here_told true is = wayless_told e (lines.Got x y ∷ drop_lines v) G (tt, (tt, tt))
   here_told false is =
       let others = told_askers v (less v.ways.askers (place_among v.core.parent x)) in
-      let first : IsTold G e (lines.Got x y ∷ lines.Way y x ∷ [])
+      let first : IsToldBy G e (lines.Got x y ∷ lines.Way y x ∷ [])
       = told-append laws.past G e (lines.Got x y ∷ []) (lines.Way y x ∷ []) (wayless_told e (lines.Got x y ∷ []) G (tt, tt))
-      (way_told (after_line G (lines.Got x y)) e y x (unknown_way v.core.holder (way_of G y.0) is)) in
+      (way_told (after_line G (lines.Got x y)) e y x (unknown_way v.core.holder (way_at G y.0) is)) in
       told-append laws.past G e (lines.Got x y ∷ lines.Way y x ∷ []) (others ++ lines.Sent y x (register_of y) ∷ []) first
       (wayless_told e (others ++ lines.Sent y x (register_of y) ∷ []) (after_lines G (lines.Got x y ∷ lines.Way y x ∷ []))
       (wayless-append others (lines.Sent y x (register_of y) ∷ []) (wayless_askers v (less v.ways.askers (place_among v.core.parent x))) (tt, tt)))
 
-  body_told : (body : Body) → r.body ≡ body → IsTold G e (lines.Got x y ∷ body_lines v x r body)
+  body_told : (body : Body) → r.body ≡ body → IsToldBy G e (lines.Got x y ∷ body_lines v x r body)
   body_told bodies.Query is = wayless_told e (lines.Got x y ∷ body_lines v x r bodies.Query) G
       (tt, wayless_either (knows_way v) (lines.Sent y x (here_of y) ∷ []) (lines.Asked y x ∷ []) (tt, tt) (tt, tt))
   body_told bodies.Here is = here_told (knows_way v) refl
   body_told body is = wayless_told e (lines.Got x y ∷ body_lines v x r body) G
       (tt, all_wayless (body_lines v x r body) (calm_body v x r (ap (λ b. is_query_body b || is_here_body b) is) body refl))
 
-  record_told : IsTold G e (lines.Got x y ∷ record_lines v x r)
+  record_told : IsToldBy G e (lines.Got x y ∷ record_lines v x r)
   record_told = by (is_stray v r)
     where
-      by : (t : Bool) → IsTold G e (lines.Got x y ∷ cond t (drop_lines v) (body_lines v x r r.body))
+      by : (t : Bool) → IsToldBy G e (lines.Got x y ∷ cond t (drop_lines v) (body_lines v x r r.body))
       by true = wayless_told e (lines.Got x y ∷ drop_lines v) G (tt, (tt, tt))
       by false = body_told r.body refl
 
@@ -171,7 +171,7 @@ wayless_birth child kind parent blocks ns heard v = (
 
 -- ---- steps
 
-step_told : (laws : Laws) (G : Facts) (e : ℕ) (step : Step) → MayCome G step → IsTold G e (written_by G step)
+step_told : (laws : DiscoveryLaws) (G : Facts) (e : ℕ) (step : Step) → MayCome G step → IsToldBy G e (written_by G step)
 step_told laws G e (Written line) may = wayless_told e (line ∷ []) G (calm_wayless line (calm_alone G line may.1), tt)
 step_told laws G e (Hosts ns blocks) may = wayless_told e (host_lines blocks ns) G (tt, wayless_either ns (lines.Admitted host ∷ []) [] (tt, tt) tt)
 step_told laws G e (Bears child kind parent ns blocks) may =
@@ -180,19 +180,19 @@ step_told laws G e (Bears child kind parent ns blocks) may =
 step_told laws G e (Takes x y n) may = wayless_told e (lines.Took x y n ∷ []) G (tt, tt)
 step_told laws G e (Handles x y r) may = record_told laws G e x y r
 
-steps_told : (laws : Laws) (e : ℕ) (steps : List Step) (G : Facts) → AreSteps G steps → IsTold G e (written_in G steps)
+steps_told : (laws : DiscoveryLaws) (e : ℕ) (steps : List Step) (G : Facts) → AreSteps G steps → IsToldBy G e (written_in G steps)
 steps_told laws e [] G are = record { told = omega arith }
 steps_told laws e (step ∷ steps) G are =
     let own = written_by G step in
     told-append laws.past G e own (written_in (after_lines G own) steps) (step_told laws G e step are.1)
     (steps_told laws e steps (after_lines G own) are.2)
 
-pub journal_of-ways : (laws : Laws) (commands : List Command) → IsPlaced commands → (e : ℕ) → ways_in e (journal_of commands) ≤ 1
+pub journal_of-ways : (laws : DiscoveryLaws) (commands : List Command) → IsPlaced commands → (e : ℕ) → ways_in e (journal_of commands) ≤ 1
 journal_of-ways laws commands placed e =
     let in_steps = laws.journal.steps commands placed in
     let is : ways_in e (journal_of commands) ≡ ways_in e (written_in no_facts in_steps.steps) = ap (ways_in e) in_steps.written in
     let told = (steps_told laws e in_steps.steps no_facts in_steps.are).told in
-    let most = most_one (is_some (way_of (after_lines no_facts (written_in no_facts in_steps.steps)) e)) in
+    let most = most_one (is_some (way_at (after_lines no_facts (written_in no_facts in_steps.steps)) e)) in
     omega (arith, is, told, most)
   where
     most_one : (t : Bool) → one_if t ≤ 1

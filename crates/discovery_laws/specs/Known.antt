@@ -6,8 +6,8 @@ use Rattle.xemem_language.specs.declared.record.Record.{Record}
 use Rattle.global_model.specs.Facts.{Facts, is_admitted, is_holder, lives_at}
 
 -- the neighbour over which the enclave's way to the name server goes
-abbrev pub way_of : Facts → ℕ → Option Enclave
-way_of G e = (G.ways e).way
+abbrev pub way_at : Facts → ℕ → Option Enclave
+way_at G e = (G.ways e).way
 
 -- those that asked it for the way and weren't answered, by their places
 abbrev pub askers_of : Facts → ℕ → List (ℕ × Enclave)
@@ -20,18 +20,18 @@ backs_of G e = (G.ways e).backs
 abbrev pub routes_of : Facts → ℕ → List (ℕ × Enclave)
 routes_of G e = (G.ways e).routes
 
-abbrev pub back_of : Facts → ℕ → ℕ → Option Enclave
-back_of G e d = at (backs_of G e) d
+abbrev pub back_at : Facts → ℕ → ℕ → Option Enclave
+back_at G e d = at (backs_of G e) d
 
-abbrev pub route_of : Facts → ℕ → ℕ → Option Enclave
-route_of G e d = at (routes_of G e) d
+abbrev pub route_at : Facts → ℕ → ℕ → Option Enclave
+route_at G e d = at (routes_of G e) d
 
 abbrev pub holds : Facts → ℕ → Bool
 holds G e = is_holder (G.enclave e)
 
 -- it holds the name server, or knows the way to it
 abbrev pub knows : Facts → ℕ → Bool
-knows G e = holds G e || is_some (way_of G e)
+knows G e = holds G e || is_some (way_at G e)
 
 abbrev pub is_admitted_at : Facts → ℕ → Bool
 is_admitted_at G e = is_admitted (G.enclave e)

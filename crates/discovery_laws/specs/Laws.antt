@@ -2,7 +2,7 @@
 use Rattle.std.specs.Prelude.{◌≡◌, ◌⊎◌, ◌<◌, ◌≤◌, ◌+◌, true, ℕ, List, ◌++◌, ◌==◌, Some, if◌then◌else◌}
 use Rattle.xm_num.specs.declared.Enclave.{Enclave}
 use Rattle.xm_num.specs.Rows.{at, put}
-use Rattle.xm_num.specs.RowLaws.{RowLaws as TableLaws}
+use Rattle.xm_num.specs.RowLaws.{RowLaws}
 use Rattle.xemem_language.specs.declared.command.Command.{Command}
 use Rattle.xemem_language.specs.declared.line.Line.{Line}
 use Rattle.xemem_language.specs.declared.record.Record.{Record}
@@ -18,13 +18,13 @@ use Rattle.global_model.specs.Place.{IsPlaced}
 use Rattle.global_model.specs.Due.{journal_of}
 
 -- what is read off the lines of a journal in turn
-pub record PastLaws : Type 0 where
+pub record FactLaws : Type 0 where
   pub pasts : (journal lines past : List Line) → onto (journal ++ lines) past ≡ onto lines (onto journal past)
   pub facts : (journal past : List Line) → facts_at (onto journal past) ≡ after_lines (facts_at past) journal
   pub after : (G : Facts) (journal lines : List Line) → after_lines G (journal ++ lines) ≡ after_lines (after_lines G journal) lines
 
 -- the journal of commands
-pub record JournalLaws : Type 0 where
+pub record FlowLaws : Type 0 where
   pub flowing : (commands : List Command) → IsPlaced commands → IsFlowing (facts_after (journal_of commands))
   pub steps : (commands : List Command) → IsPlaced commands → IsInSteps no_facts (journal_of commands)
 
@@ -33,7 +33,7 @@ pub record StepLaws : Type 0 where
   pub own : (v : View) (x : Enclave) (rs : List Record) → AreOf v.me (lines_of_records v x rs)
 
 -- what a table has at a number after a change
-pub record RowLaws : Type 0 where
+pub record WayPutLaws : Type 0 where
   pub ways : (table : List (ℕ × Enclave)) (k q : ℕ) (v : Enclave) → at (put table k v) q ≡ (if k == q then Some v else at table q)
 
 -- paths in a tree
@@ -46,10 +46,10 @@ pub record TreeLaws : Type 0 where
   pub stays : (parent later : ℕ → ℕ) (born more x d y : ℕ) → IsRooted parent → ((e : ℕ) → 0 < e → e < born → later e ≡ parent e) → born ≤ more → IsToward parent born x d y → IsToward later more x d y
   pub far : (parent later : ℕ → ℕ) (born x d : ℕ) → IsRooted parent → ((e : ℕ) → 0 < e → e < born → later e ≡ parent e) → x < born → d < born → distance later x d ≡ distance parent x d
 
-pub record Laws : Type 0 where
-  pub past : PastLaws
-  pub journal : JournalLaws
+pub record DiscoveryLaws : Type 0 where
+  pub past : FactLaws
+  pub journal : FlowLaws
   pub step : StepLaws
-  pub row : RowLaws
-  pub table : TableLaws Enclave
+  pub row : WayPutLaws
+  pub table : RowLaws Enclave
   pub tree : TreeLaws

@@ -5,7 +5,7 @@ use Rattle.xemem_language.specs.declared.line.Line.{Line}
 use Rattle.xemem_language.specs.declared.line.Line.TheVariants as lines
 use Rattle.global_model.specs.Facts.{Facts}
 use Rattle.global_model.specs.Tree.{IsToward, parent_of}
-use Rattle.discovery_laws.specs.Known.{back_of, holds, route_of, way_of}
+use Rattle.discovery_laws.specs.Known.{back_at, holds, route_at, way_at}
 
 -- x is the next enclave from e on the path to d
 abbrev pub LeadsTo : Facts → ℕ → ℕ → Enclave → Type 0
@@ -20,9 +20,9 @@ pub record LeadsToHolder (G : Facts) (e : ℕ) (x : Enclave) : Type 0 where
 -- Ways lead to the one that holds the name server, and ways back and routes to their enclaves.
 pub record IsLeading (G : Facts) : Type 0 where
   pub holder : (a b : ℕ) → holds G a ≡ true → holds G b ≡ true → a ≡ b
-  pub way : (e : ℕ) (x : Enclave) → way_of G e ≡ Some x → LeadsToHolder G e x
-  pub backs : (e d : ℕ) (x : Enclave) → back_of G e d ≡ Some x → LeadsTo G e d x
-  pub routes : (e d : ℕ) (x : Enclave) → route_of G e d ≡ Some x → LeadsTo G e d x
+  pub way : (e : ℕ) (x : Enclave) → way_at G e ≡ Some x → LeadsToHolder G e x
+  pub backs : (e d : ℕ) (x : Enclave) → back_at G e d ≡ Some x → LeadsTo G e d x
+  pub routes : (e d : ℕ) (x : Enclave) → route_at G e d ≡ Some x → LeadsTo G e d x
 
 -- a line by which the enclave learns its way
 abbrev pub is_way_line : ℕ → Line → Bool

@@ -7,7 +7,7 @@ ghost use Rattle.global_model.specs.Pauses.{AreSteps, Step, written_in};
 ghost use Rattle.global_model.specs.Place.{IsPlaced};
 ghost use Rattle.global_model.specs.Rest.{IsAtRest};
 ghost use Rattle.discovery_laws.specs.Known.{AreAdmitted};
-ghost use Rattle.discovery_laws.specs.Laws.{Laws};
+ghost use Rattle.discovery_laws.specs.Laws.{DiscoveryLaws};
 ghost use Rattle.discovery_laws.specs.Ways.{IsLeading, ways_in};
 ghost use Rattle.discovery_laws.specs.Once.{IsOnce};
 
@@ -19,7 +19,7 @@ use xm_num::laws::{row_laws, rows};
 
 // The laws of the crates below, all at once.
 fn laws()
-    ensures { Laws }
+    ensures { DiscoveryLaws }
 {
     pasts_grow();
     journals_are_carried();

@@ -15,7 +15,7 @@ use Rattle.global_model.specs.Views.{view_of}
 use Rattle.enclave_rules.specs.Steps.{route_lines}
 use Rattle.global_model.specs.Refusals.{refusal_of}
 use Rattle.global_model.specs.Due.{next_enclave, touched_lines, acts_of, command_lines, step_lines, journal_from}
-use Rattle.global_model.specs.Plain.{IsPlain, ArePlain, IsAct, AreActs, IsQuiet, IsBirth}
+use Rattle.global_model.specs.Plain.{IsPlain, ArePlain, IsAct, AreActs, IsQuiet, BearsOne}
 use Rattle.global_model.specs.Journals.{do_commands}
 use Rattle.global_model.proofs.Pasts.{do_commands-append}
 use Rattle.global_model.proofs.Plain.{each-weaker, plain_host, plain_deliver, plain_settle, plain_routes, plain_show, plain_birth, plain_pool}
@@ -89,7 +89,7 @@ quiet_plain G (commands.ShowLink x y) quiet = plain_show G x y
 quiet_plain G commands.ShowPool quiet = plain_pool G
 quiet_plain G _ quiet = tt
 
-pub behind_plain : (G : Facts) (command : Command) → IsBirth command → ArePlain (drop 1 (acts_of G command))
+pub behind_plain : (G : Facts) (command : Command) → BearsOne command → ArePlain (drop 1 (acts_of G command))
 behind_plain G (commands.Host blocks ns) birth = plain_host ns
 behind_plain G (commands.Boot kind parent blocks ns) birth = plain_birth (next_enclave G) parent ns (G.heard parent.0) (view_of G parent)
 behind_plain G _ birth = absurd birth

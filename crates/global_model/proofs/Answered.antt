@@ -32,11 +32,11 @@ use Rattle.enclave_rules.specs.Memory.{ProcessView}
 use Rattle.enclave_rules.specs.Pages.{allows}
 use Rattle.enclave_rules.specs.Steps.{refusal, host_lines, process_at, unused_in, alloc_lines, page_answer, touch_answer, answer_lines, route_lines, state_lines, first_blocks}
 use Rattle.global_model.specs.Facts.{Facts, EnclaveFact, no_facts, fact_of, is_living_enclave, lives_at, runs, after_line}
-use Rattle.global_model.specs.Space.{mapping_of, pages_of, unused_frames, free_blocks}
+use Rattle.global_model.specs.Space.{mapping_of, pages_at, unused_frames, blocks_left}
 use Rattle.global_model.specs.Refusals.{is_taken, denies}
 use Rattle.global_model.specs.Views.{view_of}
 use Rattle.global_model.specs.Due.{touched_lines, command_lines}
-use Rattle.global_model.specs.Known.{at_living, start_by, boot_by, IsAnswered}
+use Rattle.global_model.specs.Known.{at_living, start_asked, boot_asked, IsAnswered}
 use Rattle.global_model.proofs.Runs.{filter_all}
 use Rattle.global_model.proofs.Lent.{unused_seen}
 use Rattle.global_model.proofs.Tree.{living_born, root_lives}
@@ -77,11 +77,11 @@ free_run f a (suc n) = by (free_run f (a + 1) n) (is_free (f a))
     by more false = more
 
 boot_answered : (G : Facts) → IsSound G → (kind : Kind) (parent : Enclave) (blocks : ℕ) (ns : Bool)
-    → command_lines G (commands.Boot kind parent blocks ns) ≡ at_living G parent (boot_by G kind parent blocks ns)
+    → command_lines G (commands.Boot kind parent blocks ns) ≡ at_living G parent (boot_asked G kind parent blocks ns)
 boot_answered G sound kind parent blocks ns =
-    rw (free_run G.block 0 G.pool) (where_lives G parent _ _ _ (λ living. either_way (leb 256 G.born) causes.TooMany _ _ _ (λ room. either_way (ns && G.server) causes.NameServerTaken _ _ _ (λ free. either_way (ltb (length (free_blocks G)) blocks) causes.NoBlocks None _ _ (λ enough. refl)))))
+    rw (free_run G.block 0 G.pool) (where_lives G parent _ _ _ (λ living. either_way (leb 256 G.born) causes.TooMany _ _ _ (λ room. either_way (ns && G.server) causes.NameServerTaken _ _ _ (λ free. either_way (ltb (length (blocks_left G)) blocks) causes.NoBlocks None _ _ (λ enough. refl)))))
 
-proc_answered : (G : Facts) → IsSound G → (e : Enclave) (uid gid : ℕ) → command_lines G (commands.Proc e uid gid) ≡ at_living G e (start_by G e uid gid)
+proc_answered : (G : Facts) → IsSound G → (e : Enclave) (uid gid : ℕ) → command_lines G (commands.Proc e uid gid) ≡ at_living G e (start_asked G e uid gid)
 proc_answered G sound e uid gid =
     where_lives G e _ _ _ (λ living. either_way (leb 1024 G.starts) causes.TooMany None _ _ (λ room. refl))
 
@@ -120,14 +120,14 @@ abbrev AnyMapped : Type 0
 AnyMapped = (table : List (ℕ × Page)) (low high : ℕ) → any_between table low high ≡ list_any (λ k. is_some (at table k)) (range_with_len low (high - low))
 
 -- the pages of a process that is there
-pages_are : (G : Facts) (e p : ℕ) (process : ProcessView) → at (G.memory e).processes p ≡ Some process → pages_of G e p ≡ process.pages
+pages_are : (G : Facts) (e p : ℕ) (process : ProcessView) → at (G.memory e).processes p ≡ Some process → pages_at G e p ≡ process.pages
 pages_are G e p process is = ap (λ o. option_map_or (λ (process : ProcessView). process.pages) o []) is
 
-taken_is : AnyMapped → (G : Facts) (e p page count : ℕ) → is_taken G e p page count ≡ any_between (pages_of G e p) page (page + count)
+taken_is : AnyMapped → (G : Facts) (e p page count : ℕ) → is_taken G e p page count ≡ any_between (pages_at G e p) page (page + count)
 taken_is any G e p page count =
     let size : page + count - page ≡ count = omega arith in
-    let rows = any (pages_of G e p) page (page + count) in
-    ap (λ t. list_any t (range_with_len page count)) (λ i k. is_some-mapped (fact_of (G.enclave e)) (at (pages_of G e p) k) i) ∙ ap (λ n. list_any (λ k. is_some (at (pages_of G e p) k)) (range_with_len page n)) (sym size) ∙ sym rows
+    let rows = any (pages_at G e p) page (page + count) in
+    ap (λ t. list_any t (range_with_len page count)) (λ i k. is_some-mapped (fact_of (G.enclave e)) (at (pages_at G e p) k) i) ∙ ap (λ n. list_any (λ k. is_some (at (pages_at G e p) k)) (range_with_len page n)) (sym size) ∙ sym rows
 
 alloc_answered : AnyMapped → (G : Facts) → IsSound G → (e : Enclave) (p : Pid) (page : Vpn) (count : ℕ) → command_lines G (commands.Alloc e p page count) ≡ at_living G e (alloc_lines (view_of G e) p page count)
 alloc_answered any G sound e p page count =
@@ -169,13 +169,13 @@ touch_answered G sound e p addr want =
 
 -- ---- the host
 
-free_pool_blocks : (pool : ℕ) → free_blocks (pool_facts pool) ≡ first_blocks pool
+free_pool_blocks : (pool : ℕ) → blocks_left (pool_facts pool) ≡ first_blocks pool
 free_pool_blocks pool = ap (map (λ b. record { 0 = b })) (filter_all (range_with_len 0 pool))
 
 pub host_answered : (pool blocks : ℕ) (ns : Bool) → command_lines (pool_facts pool) (commands.Host blocks ns) ≡ cond (ltb pool blocks) (refusal causes.NoBlocks) (host_lines (first_blocks blocks) ns)
 host_answered pool blocks ns = either_way (ltb pool blocks) causes.NoBlocks None _ _ (λ enough.
     let within : blocks ≤ pool = ltb-false pool blocks enough in
-    let drawn : take blocks (free_blocks (pool_facts pool)) ≡ first_blocks blocks = ap (take blocks) (free_pool_blocks pool) ∙ take-map-range_with_len (λ b. record { 0 = b }) 0 pool blocks within in
+    let drawn : take blocks (blocks_left (pool_facts pool)) ≡ first_blocks blocks = ap (take blocks) (free_pool_blocks pool) ∙ take-map-range_with_len (λ b. record { 0 = b }) 0 pool blocks within in
     ap (λ bs. host_lines bs ns) drawn)
 
 -- ---- calls and what is shown

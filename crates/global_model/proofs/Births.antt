@@ -14,14 +14,14 @@ use Rattle.frame_pool.specs.Blocks.{lend_from}
 use Rattle.xemem_language.specs.declared.line.Line.TheVariants as lines
 use Rattle.enclave_rules.specs.Core.{as_born, with_child, core_line}
 use Rattle.enclave_rules.specs.Host.{no_host, with_birth}
-use Rattle.global_model.specs.Facts.{Facts, fact_of, with_lent, after_line}
+use Rattle.global_model.specs.Facts.{Facts, fact_of, lent_to, after_line}
 use Rattle.global_model.specs.Channels.{is_child_of}
 use Rattle.global_model.specs.Views.{child_row, children_of, core_of, host_of, view_of}
 use Rattle.global_model.specs.Apt.{IsBirth}
 use Rattle.global_model.proofs.Runs.{passing_run-same, map_run-same, run-more}
 use Rattle.global_model.proofs.Tree.{living_born}
 use Rattle.global_model.proofs.Sound.{IsSound, no_fact}
-use Rattle.global_model.proofs.Shown.{IsShown, same_core}
+use Rattle.global_model.proofs.Shown.{SeesLine, same_core}
 
 -- ---- rows and states
 
@@ -41,9 +41,9 @@ put_past f t a (suc m) n v past = by (put_past f t (a + 1) m n v (omega arith)) 
         rw (above, apart) (ap (λ rows. (a, f a) ∷ rows) more)
     by more false = more
 
-lend_run : (f : ℕ → BlockState) (blocks : List Block) (e : Enclave) (a n : ℕ) → lend_from a blocks e (map f (range_with_len a n)) ≡ map (with_lent blocks e f) (range_with_len a n)
+lend_run : (f : ℕ → BlockState) (blocks : List Block) (e : Enclave) (a n : ℕ) → lend_from a blocks e (map f (range_with_len a n)) ≡ map (lent_to blocks e f) (range_with_len a n)
 lend_run f blocks e a zero = refl
-lend_run f blocks e a (suc n) = ap (λ states. with_lent blocks e f a ∷ states) (lend_run f blocks e (a + 1) n)
+lend_run f blocks e a (suc n) = ap (λ states. lent_to blocks e f a ∷ states) (lend_run f blocks e (a + 1) n)
 
 -- ---- a birth
 
@@ -168,7 +168,7 @@ module _ (G : Facts) (e : Enclave) (kind : Kind) (parent : Enclave) (ns : Bool) 
     | inr apart ↦ core_other k.0 apart
   ]
 
-  pub shown_born : (k : Enclave) → IsShown G k (lines.Born e kind parent ns blocks)
+  pub shown_born : (k : Enclave) → SeesLine G k (lines.Born e kind parent ns blocks)
   shown_born k =
       let line = lines.Born e kind parent ns blocks in
       let host : cond (eqb k.0 0) (host_of (with_born G e kind parent ns blocks)) no_host ≡ cond (eqb k.0 0) (with_birth e parent blocks (host_of G)) no_host

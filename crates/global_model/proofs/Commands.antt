@@ -23,8 +23,8 @@ use Rattle.enclave_rules.specs.View.{View}
 use Rattle.enclave_rules.specs.Sending.{knows_way}
 use Rattle.enclave_rules.specs.Steps.{query_of, child_lines, birth_lines, adopt_lines}
 use Rattle.global_model.specs.Facts.{Facts, no_facts, facts_after, is_living_enclave, after_line, after_lines}
-use Rattle.global_model.specs.Channels.{arriving, is_neighbour, was_born, waiting_bytes}
-use Rattle.global_model.specs.Space.{Mapping, space_of, free_blocks}
+use Rattle.global_model.specs.Channels.{arriving, is_neighbour, was_born, waiting_in}
+use Rattle.global_model.specs.Space.{Mapping, space_of, blocks_left}
 use Rattle.global_model.specs.Refusals.{conditions_of, refusal_of}
 use Rattle.global_model.specs.Views.{view_of}
 use Rattle.global_model.specs.Place.{may_stand, IsPlacedAfter, IsPlaced}
@@ -40,15 +40,15 @@ use Rattle.global_model.proofs.Turns.{begin_turn, end_turn, lives_in, IsClose, I
 use Rattle.global_model.proofs.Deliveries.{proper_tells, deliver_up_to, settle_up_to}
 
 -- What holds wherever a command has ended, so many commands having been carried out. No enclave is born before the second.
-pub record IsReady (before : ℕ) (G : Facts) : Type 0 where
+pub record IsReadyAfter (before : ℕ) (G : Facts) : Type 0 where
   pub sound : IsSound G
   pub got : NothingArrives G
   pub unborn : before ≤ 1 → G.born ≡ 0
 
 -- lines that are apt, and leave it
-pub record IsRun (before : ℕ) (G : Facts) (journal : List Line) : Type 0 where
+pub record IsAptRun (before : ℕ) (G : Facts) (journal : List Line) : Type 0 where
   pub apt : AreApt G journal
-  pub ready : IsReady before (after_lines G journal)
+  pub ready : IsReadyAfter before (after_lines G journal)
 
 -- a command's `do` line, but for the pool's
 abbrev pub begun : Facts → Command → Facts
@@ -58,18 +58,18 @@ begun G command = after_line G (lines.Do command)
 
 -- a command, where one or more stand before it, whose acts are apt where it isn't refused
 module _ (before : ℕ) (G : Facts) (c : Command) (late : 1 ≤ before) where
-  up_to_run : (near : ℕ → ℕ → Bool) (lives : ℕ → Bool) (H : Facts) (journal : List Line) → IsUpTo near lives 0 0 [] H journal → IsRun (before + 1) H journal
+  up_to_run : (near : ℕ → ℕ → Bool) (lives : ℕ → Bool) (H : Facts) (journal : List Line) → IsUpTo near lives 0 0 [] H journal → IsAptRun (before + 1) H journal
   up_to_run near lives H journal up = record {
     apt = up.apt;
     ready = record { sound = up.turn.sound; got = end_turn near lives 0 0 (after_lines H journal) up.turn; unborn = λ few. absurd (omega (arith, few, late)) };
   }
 
-  with_refusal : IsApt G (lines.Do c) → IsReady before (begun G c) → (refusal_of G c ≡ None → IsRun (before + 1) (begun G c) (acts_of (begun G c) c))
-      → IsRun (before + 1) G (step_lines G c)
+  with_refusal : IsApt G (lines.Do c) → IsReadyAfter before (begun G c) → (refusal_of G c ≡ None → IsAptRun (before + 1) (begun G c) (acts_of (begun G c) c))
+      → IsAptRun (before + 1) G (step_lines G c)
   with_refusal apt ready acts = by (refusal_of G c) refl
     where
       by : (o : Option Cause) → refusal_of G c ≡ o
-          → IsRun (before + 1) G (lines.Do c ∷ option_map_or (λ cause. lines.Refused cause ∷ []) o (acts_of (begun G c) c))
+          → IsAptRun (before + 1) G (lines.Do c ∷ option_map_or (λ cause. lines.Refused cause ∷ []) o (acts_of (begun G c) c))
       by None is = let run = acts is in record { apt = (apt, run.apt); ready = run.ready }
       by (Some cause) is = record {
         apt = (apt, (tt, tt));
@@ -77,8 +77,8 @@ module _ (before : ℕ) (G : Facts) (c : Command) (late : 1 ≤ before) where
       }
 
   -- one whose acts neither bear an enclave nor take bytes
-  run_proper : IsApt G (lines.Do c) → IsReady before (begun G c)
-      → (refusal_of G c ≡ None → AreProper (is_neighbour (begun G c)) (lives_in (begun G c)) (acts_of (begun G c) c)) → IsRun (before + 1) G (step_lines G c)
+  run_proper : IsApt G (lines.Do c) → IsReadyAfter before (begun G c)
+      → (refusal_of G c ≡ None → AreProper (is_neighbour (begun G c)) (lives_in (begun G c)) (acts_of (begun G c) c)) → IsAptRun (before + 1) G (step_lines G c)
   run_proper apt ready proper =
       let H = begun G c in
       with_refusal apt ready (λ none. up_to_run (is_neighbour H) (lives_in H) H (acts_of H c)
@@ -88,9 +88,9 @@ module _ (before : ℕ) (G : Facts) (c : Command) (late : 1 ≤ before) where
 
 -- an enclave is born, and lines follow that bear none and take no bytes
 run_born : (before : ℕ) (H : Facts) (e : Enclave) (kind : Kind) (parent : Enclave) (ns : Bool) (blocks : List Block) (more : List Line) → 1 ≤ before
-    → IsReady before H → IsBirth H e kind parent ns blocks
+    → IsReadyAfter before H → IsBirth H e kind parent ns blocks
     → AreProper (is_neighbour (after_line H (lines.Born e kind parent ns blocks))) (lives_in (after_line H (lines.Born e kind parent ns blocks))) more
-    → IsRun (before + 1) H (lines.Born e kind parent ns blocks ∷ more)
+    → IsAptRun (before + 1) H (lines.Born e kind parent ns blocks ∷ more)
 run_born before H e kind parent ns blocks more late ready birth proper =
     let line = lines.Born e kind parent ns blocks in
     let K = after_line H line in
@@ -115,21 +115,21 @@ proper_birth near lives child parent ns v me up down known_child known_parent =
     = each_either P ns (lines.Admitted child ∷ []) (lines.Sent child parent (query_of child) ∷ []) (up.living, tt) ((up, valid_query child known_child), tt) in
     each-append P (child_lines child parent ns) (adopt_lines v child) own asks
 
-run_boot : (before : ℕ) (G : Facts) (kind : Kind) (parent : Enclave) (count : ℕ) (ns : Bool) → 1 ≤ before → IsReady before G → is_guest kind ≡ false
-    → IsRun (before + 1) G (step_lines G (commands.Boot kind parent count ns))
+run_boot : (before : ℕ) (G : Facts) (kind : Kind) (parent : Enclave) (count : ℕ) (ns : Bool) → 1 ≤ before → IsReadyAfter before G → is_guest kind ≡ false
+    → IsAptRun (before + 1) G (step_lines G (commands.Boot kind parent count ns))
 run_boot before G kind parent count ns late ready plain =
     let c = commands.Boot kind parent count ns in
     let B = begun G c in
-    let begin : IsReady before B = record { sound = sound_line G (lines.Do c) ready.sound tt; got = ready.got; unborn = ready.unborn } in
+    let begin : IsReadyAfter before B = record { sound = sound_line G (lines.Do c) ready.sound tt; got = ready.got; unborn = ready.unborn } in
     with_refusal before G c late tt begin (λ none. acts begin (all_unmet (conditions_of G c) none))
   where
-    acts : IsReady before (begun G (commands.Boot kind parent count ns)) → AreUnmet (conditions_of G (commands.Boot kind parent count ns))
-        → IsRun (before + 1) (begun G (commands.Boot kind parent count ns)) (acts_of (begun G (commands.Boot kind parent count ns)) (commands.Boot kind parent count ns))
+    acts : IsReadyAfter before (begun G (commands.Boot kind parent count ns)) → AreUnmet (conditions_of G (commands.Boot kind parent count ns))
+        → IsAptRun (before + 1) (begun G (commands.Boot kind parent count ns)) (acts_of (begun G (commands.Boot kind parent count ns)) (commands.Boot kind parent count ns))
     acts begin unmet =
         let B = begun G (commands.Boot kind parent count ns) in
         let tree = begin.sound.tree in
         let child = next_enclave B in
-        let blocks = take count (free_blocks B) in
+        let blocks = take count (blocks_left B) in
         let line = lines.Born child kind parent ns blocks in
         let K = after_line B line in
         let lives : is_living_enclave (B.enclave parent.0) ≡ true = not_false _ unmet.0 in
@@ -153,18 +153,18 @@ run_boot before G kind parent count ns late ready plain =
         (record { living = near_living K parent.0 child.0 sound.tree down; beside = down })
         (le-leb child.0 255 (omega (arith, room))) (number_fits B.born parent.0 tree.most lower) in
         let more = child_lines child parent ns ++ adopt_lines (view_of B parent) child in
-        let run : IsRun (before + 1) B (line ∷ more) = run_born before B child kind parent ns blocks more late begin birth proper in
-        subst (λ heard. IsRun (before + 1) B (birth_lines child kind parent blocks ns heard ++ adopt_lines (view_of B parent) child)) (sym (begin.sound.heard parent.0)) run
+        let run : IsAptRun (before + 1) B (line ∷ more) = run_born before B child kind parent ns blocks more late begin birth proper in
+        subst (λ heard. IsAptRun (before + 1) B (birth_lines child kind parent blocks ns heard ++ adopt_lines (view_of B parent) child)) (sym (begin.sound.heard parent.0)) run
 
-run_host : (before : ℕ) (G : Facts) (count : ℕ) (ns : Bool) → before ≡ 1 → IsReady before G
-    → IsRun (before + 1) G (step_lines G (commands.Host count ns))
+run_host : (before : ℕ) (G : Facts) (count : ℕ) (ns : Bool) → before ≡ 1 → IsReadyAfter before G
+    → IsAptRun (before + 1) G (step_lines G (commands.Host count ns))
 run_host before G count ns second ready =
     let c = commands.Host count ns in
     let B = begun G c in
     let late : 1 ≤ before = omega (arith, second) in
     let none : B.born ≡ 0 = ready.unborn (omega (arith, second)) in
-    let begin : IsReady before B = record { sound = sound_line G (lines.Do c) ready.sound tt; got = ready.got; unborn = ready.unborn } in
-    let blocks = take count (free_blocks B) in
+    let begin : IsReadyAfter before B = record { sound = sound_line G (lines.Do c) ready.sound tt; got = ready.got; unborn = ready.unborn } in
+    let blocks = take count (blocks_left B) in
     let K = after_line B (lines.Born host kinds.Host host ns blocks) in
     let birth : IsBirth B host kinds.Host host ns blocks = record {
       room = omega (arith, none);
@@ -181,12 +181,12 @@ run_host before G count ns second ready =
 
 -- ---- deliveries
 
-run_deliver : (before : ℕ) (G : Facts) (x y : Enclave) (count : ℕ) → 1 ≤ before → IsReady before G → 1 ≤ count
-    → IsRun (before + 1) G (step_lines G (commands.Deliver x y count))
+run_deliver : (before : ℕ) (G : Facts) (x y : Enclave) (count : ℕ) → 1 ≤ before → IsReadyAfter before G → 1 ≤ count
+    → IsAptRun (before + 1) G (step_lines G (commands.Deliver x y count))
 run_deliver before G x y count late ready some =
     let c = commands.Deliver x y count in
     let B = begun G c in
-    let begin : IsReady before B = record { sound = sound_line G (lines.Do c) ready.sound tt; got = ready.got; unborn = ready.unborn } in
+    let begin : IsReadyAfter before B = record { sound = sound_line G (lines.Do c) ready.sound tt; got = ready.got; unborn = ready.unborn } in
     with_refusal before G c late tt begin (λ none.
     let unmet = all_unmet (conditions_of G c) none in
     let known = and_parts (is_living_enclave (G.enclave y.0)) (was_born G x.0) (not_false _ unmet.0) in
@@ -194,19 +194,19 @@ run_deliver before G x y count late ready some =
     up_to_run before B c late (is_neighbour B) (lives_in B) B (acts_of B c)
     (deliver_up_to (is_neighbour B) (lives_in B) x y count B some between (begin_turn 0 0 B begin.sound begin.got)))
 
-run_settle : (before : ℕ) (G : Facts) (most : ℕ) → 1 ≤ before → IsReady before G → IsRun (before + 1) G (step_lines G (commands.Settle most))
+run_settle : (before : ℕ) (G : Facts) (most : ℕ) → 1 ≤ before → IsReadyAfter before G → IsAptRun (before + 1) G (step_lines G (commands.Settle most))
 run_settle before G most late ready =
     let c = commands.Settle most in
     let B = begun G c in
-    let begin : IsReady before B = record { sound = sound_line G (lines.Do c) ready.sound tt; got = ready.got; unborn = ready.unborn } in
+    let begin : IsReadyAfter before B = record { sound = sound_line G (lines.Do c) ready.sound tt; got = ready.got; unborn = ready.unborn } in
     with_refusal before G c late tt begin (λ none. up_to_run before B c late (is_neighbour B) (lives_in B) B (acts_of B c)
     (settle_up_to (is_neighbour B) (lives_in B) most 0 B (begin_turn 0 0 B begin.sound begin.got)))
 
 -- ---- processes
 
 -- one line, which keeps what arrives and bears nobody
-run_line : (before : ℕ) (H : Facts) (line : Line) → 1 ≤ before → IsReady before H → IsApt H line
-    → ((a b : ℕ) → (after_line H line).channel a b ≡ H.channel a b) → IsRun (before + 1) H (line ∷ [])
+run_line : (before : ℕ) (H : Facts) (line : Line) → 1 ≤ before → IsReadyAfter before H → IsApt H line
+    → ((a b : ℕ) → (after_line H line).channel a b ≡ H.channel a b) → IsAptRun (before + 1) H (line ∷ [])
 run_line before H line late ready apt channels = record {
   apt = (apt, tt);
   ready = record {
@@ -216,19 +216,19 @@ run_line before H line late ready apt channels = record {
   };
 }
 
-run_proc : (before : ℕ) (G : Facts) (e : Enclave) (uid gid : ℕ) → 1 ≤ before → IsReady before G → IsRun (before + 1) G (step_lines G (commands.Proc e uid gid))
+run_proc : (before : ℕ) (G : Facts) (e : Enclave) (uid gid : ℕ) → 1 ≤ before → IsReadyAfter before G → IsAptRun (before + 1) G (step_lines G (commands.Proc e uid gid))
 run_proc before G e uid gid late ready =
     let c = commands.Proc e uid gid in
     let B = begun G c in
-    let begin : IsReady before B = record { sound = sound_line G (lines.Do c) ready.sound tt; got = ready.got; unborn = ready.unborn } in
+    let begin : IsReadyAfter before B = record { sound = sound_line G (lines.Do c) ready.sound tt; got = ready.got; unborn = ready.unborn } in
     with_refusal before G c late tt begin (λ none. let unmet = all_unmet (conditions_of G c) none in run_line before B _ late begin (not_false _ unmet.0, refl) (λ a b. refl))
 
-run_alloc : (before : ℕ) (G : Facts) (e : Enclave) (p : Pid) (page : Vpn) (count : ℕ) → 1 ≤ before → IsReady before G
-    → IsRun (before + 1) G (step_lines G (commands.Alloc e p page count))
+run_alloc : (before : ℕ) (G : Facts) (e : Enclave) (p : Pid) (page : Vpn) (count : ℕ) → 1 ≤ before → IsReadyAfter before G
+    → IsAptRun (before + 1) G (step_lines G (commands.Alloc e p page count))
 run_alloc before G e p page count late ready =
     let c = commands.Alloc e p page count in
     let B = begun G c in
-    let begin : IsReady before B = record { sound = sound_line G (lines.Do c) ready.sound tt; got = ready.got; unborn = ready.unborn } in
+    let begin : IsReadyAfter before B = record { sound = sound_line G (lines.Do c) ready.sound tt; got = ready.got; unborn = ready.unborn } in
     with_refusal before G c late tt begin (λ none.
     let unmet = all_unmet (conditions_of G c) none in
     run_line before B _ late begin (record { living = not_false _ unmet.0; running = not_false _ unmet.1.0; count = count; lowest = refl }) (λ a b. refl))
@@ -240,7 +240,7 @@ proper_touched near lives e p page (Some found) = (tt, tt)
 
 -- ---- all commands
 
-run_pool : (before : ℕ) (G : Facts) (blocks : ℕ) → before ≡ 0 → IsReady before G → IsRun (before + 1) G (step_lines G (commands.Pool blocks))
+run_pool : (before : ℕ) (G : Facts) (blocks : ℕ) → before ≡ 0 → IsReadyAfter before G → IsAptRun (before + 1) G (step_lines G (commands.Pool blocks))
 run_pool before G blocks first ready =
     let none : G.born ≡ 0 = ready.unborn (omega (arith, first)) in
     record { apt = (none, tt); ready = record { sound = sound_line G (lines.Do (commands.Pool blocks)) ready.sound none; got = ready.got; unborn = λ few. none } }
@@ -254,24 +254,24 @@ not_built : (b : Bool) → (b && false) ≡ true → ⊥
 not_built true is = cc
 not_built false is = cc
 
-module _ (before : ℕ) (G : Facts) (ready : IsReady before G) where
+module _ (before : ℕ) (G : Facts) (ready : IsReadyAfter before G) where
   late_by : (built : Bool) → (leb 2 before && built) ≡ true → 1 ≤ before
   late_by built is = let two : 2 ≤ before = leb-true 2 before (and_parts _ _ is).0 in omega (arith, two)
 
   -- one that only tells
-  run_told : (c : Command) (late : 1 ≤ before) → IsApt G (lines.Do c) → IsReady before (begun G c)
-      → AreProper (is_neighbour (begun G c)) (lives_in (begun G c)) (acts_of (begun G c) c) → IsRun (before + 1) G (step_lines G c)
+  run_told : (c : Command) (late : 1 ≤ before) → IsApt G (lines.Do c) → IsReadyAfter before (begun G c)
+      → AreProper (is_neighbour (begun G c)) (lives_in (begun G c)) (acts_of (begun G c) c) → IsAptRun (before + 1) G (step_lines G c)
   run_told c late apt begin proper = run_proper before G c late apt begin (λ none. proper)
 
   -- the `do` line of a command that makes no pool
-  begin : (c : Command) → IsApt G (lines.Do c) → ((a b : ℕ) → (begun G c).channel a b ≡ G.channel a b) → (begun G c).born ≡ G.born → IsReady before (begun G c)
+  begin : (c : Command) → IsApt G (lines.Do c) → ((a b : ℕ) → (begun G c).channel a b ≡ G.channel a b) → (begun G c).born ≡ G.born → IsReadyAfter before (begun G c)
   begin c apt channels born = record {
     sound = sound_line G (lines.Do c) ready.sound apt;
     got = λ a b. ap arriving (channels a b) ∙ ready.got a b;
     unborn = λ few. born ∙ ready.unborn few;
   }
 
-  pub run_step : (c : Command) → may_stand before c ≡ true → IsInRange c → IsRun (before + 1) G (step_lines G c)
+  pub run_step : (c : Command) → may_stand before c ≡ true → IsInRange c → IsAptRun (before + 1) G (step_lines G c)
   run_step (commands.Pool blocks) may range = run_pool before G blocks (eqb-true before 0 (and_parts _ _ may).0) ready
   run_step (commands.Host blocks ns) may range = run_host before G blocks ns (eqb-true before 1 (and_parts _ _ may).0) ready
   run_step (commands.Boot kind parent blocks ns) may range =
@@ -290,7 +290,7 @@ module _ (before : ℕ) (G : Facts) (ready : IsReady before G) where
       (tells_routes (IsProper (is_neighbour G) (lives_in G)) (proper_tells (is_neighbour G) (lives_in G)) (view_of G e))
   run_step (commands.ShowLink x y) may range =
       let c = commands.ShowLink x y in
-      let waiting = waiting_bytes G x.0 y.0 in
+      let waiting = waiting_in G x.0 y.0 in
       run_told c (late_by _ may) tt (begin c tt (λ a b. refl) refl)
       (tells_bytes (IsProper (is_neighbour G) (lives_in G)) (proper_tells (is_neighbour G) (lives_in G)) x y (length waiting) 0 waiting)
   run_step commands.ShowPool may range =
@@ -301,24 +301,24 @@ module _ (before : ℕ) (G : Facts) (ready : IsReady before G) where
 
 -- ---- whole journals
 
-pub journal_runs : (cs : List Command) (before : ℕ) (G : Facts) → IsReady before G → IsPlacedAfter before cs → IsRun (before + length cs) G (journal_from G cs)
-journal_runs [] before G ready placed = let same : before + 0 ≡ before = omega arith in record { apt = tt; ready = subst (λ n. IsReady n G) (sym same) ready }
+pub journal_runs : (cs : List Command) (before : ℕ) (G : Facts) → IsReadyAfter before G → IsPlacedAfter before cs → IsAptRun (before + length cs) G (journal_from G cs)
+journal_runs [] before G ready placed = let same : before + 0 ≡ before = omega arith in record { apt = tt; ready = subst (λ n. IsReadyAfter n G) (sym same) ready }
 journal_runs (c ∷ cs) before G ready placed =
     let ls = step_lines G c in
-    let one : IsRun (before + 1) G ls = run_step before G ready c placed.0 placed.1 in
-    let more : IsRun ((before + 1) + length cs) (after_lines G ls) (journal_from (after_lines G ls) cs) = journal_runs cs (before + 1) (after_lines G ls) one.ready placed.2 in
+    let one : IsAptRun (before + 1) G ls = run_step before G ready c placed.0 placed.1 in
+    let more : IsAptRun ((before + 1) + length cs) (after_lines G ls) (journal_from (after_lines G ls) cs) = journal_runs cs (before + 1) (after_lines G ls) one.ready placed.2 in
     let same : (before + 1) + length cs ≡ before + suc (length cs) = omega arith in
-    let run : IsRun ((before + 1) + length cs) G (ls ++ journal_from (after_lines G ls) cs) = record {
+    let run : IsAptRun ((before + 1) + length cs) G (ls ++ journal_from (after_lines G ls) cs) = record {
       apt = apt_append G ls (journal_from (after_lines G ls) cs) one.apt more.apt;
-      ready = subst (IsReady ((before + 1) + length cs)) (sym (after_lines-append G ls (journal_from (after_lines G ls) cs))) more.ready;
+      ready = subst (IsReadyAfter ((before + 1) + length cs)) (sym (after_lines-append G ls (journal_from (after_lines G ls) cs))) more.ready;
     } in
-    subst (λ n. IsRun n G (ls ++ journal_from (after_lines G ls) cs)) same run
+    subst (λ n. IsAptRun n G (ls ++ journal_from (after_lines G ls) cs)) same run
 
-pub ready_start : IsReady 0 no_facts
+pub ready_start : IsReadyAfter 0 no_facts
 ready_start = record { sound = sound_start; got = λ x y. refl; unborn = λ few. refl }
 
-pub runs_after : (cs : List Command) → IsPlaced cs → IsRun (length cs) no_facts (journal_of cs)
-runs_after cs placed = let same : 0 + length cs ≡ length cs = omega arith in subst (λ n. IsRun n no_facts (journal_of cs)) same (journal_runs cs 0 no_facts ready_start placed)
+pub runs_after : (cs : List Command) → IsPlaced cs → IsAptRun (length cs) no_facts (journal_of cs)
+runs_after cs placed = let same : 0 + length cs ≡ length cs = omega arith in subst (λ n. IsAptRun n no_facts (journal_of cs)) same (journal_runs cs 0 no_facts ready_start placed)
 
 -- the commands but the last are placed, and the last may stand after them
 pub record IsLast (before : ℕ) (cs : List Command) (c : Command) : Type 0 where
@@ -337,13 +337,13 @@ placed_last before (first ∷ cs) c placed =
 
 -- what holds before the last of these commands, and what its lines are
 pub record IsLastRun (cs : List Command) (c : Command) : Type 0 where
-  pub ready : IsReady (length cs) (facts_after (journal_of cs))
-  pub run : IsRun (length cs + 1) (facts_after (journal_of cs)) (step_lines (facts_after (journal_of cs)) c)
+  pub ready : IsReadyAfter (length cs) (facts_after (journal_of cs))
+  pub run : IsAptRun (length cs + 1) (facts_after (journal_of cs)) (step_lines (facts_after (journal_of cs)) c)
 
 pub last_runs : (cs : List Command) (c : Command) → IsPlaced (cs ++ c ∷ []) → IsLastRun cs c
 last_runs cs c placed =
     let last : IsLast 0 cs c = placed_last 0 cs c placed in
-    let ready : IsReady (length cs) (facts_after (journal_of cs)) = (runs_after cs last.front).ready in
+    let ready : IsReadyAfter (length cs) (facts_after (journal_of cs)) = (runs_after cs last.front).ready in
     let same : 0 + length cs ≡ length cs = omega arith in
     record { ready = ready; run = run_step (length cs) (facts_after (journal_of cs)) ready c (ap (λ n. may_stand n c) (sym same) ∙ last.may) last.range }
 

@@ -7,7 +7,7 @@ use Rattle.xemem_language.specs.declared.record.Record.{Record}
 use Rattle.xemem_language.specs.declared.line.Line.{Line}
 use Rattle.xemem_language.specs.declared.line.Line.TheVariants as lines
 use Rattle.global_model.specs.Facts.{Facts, with_taken, after_line, after_lines}
-use Rattle.global_model.specs.Channels.{waiting_bytes, arriving}
+use Rattle.global_model.specs.Channels.{waiting_in, arriving}
 use Rattle.global_model.specs.Due.{took_lines, deliver_lines, next_rest, first_waiting, settle_end, settle_from}
 use Rattle.global_model.specs.Apt.{IsNear, IsTaking}
 use Rattle.global_model.proofs.Sound.{at_channel, sound_line}
@@ -35,7 +35,7 @@ module _ (near : ℕ → ℕ → Bool) (lives : ℕ → Bool) where
     pub apt : IsTaking G x y n
     pub turn : IsTurn near lives x.0 y.0 (arriving ((after_line G (lines.Took x y n)).channel x.0 y.0)) (after_line G (lines.Took x y n))
 
-  pub took : (x y : Enclave) (n : ℕ) (G : Facts) → IsClose near lives y x → 1 ≤ n → n ≤ length (waiting_bytes G x.0 y.0)
+  pub took : (x y : Enclave) (n : ℕ) (G : Facts) → IsClose near lives y x → 1 ≤ n → n ≤ length (waiting_in G x.0 y.0)
       → IsTurn near lives x.0 y.0 [] G → IsTook x y n G
   took x y n G close one within turn =
       let H = after_line G (lines.Took x y n) in
@@ -64,7 +64,7 @@ module _ (near : ℕ → ℕ → Bool) (lives : ℕ → Bool) where
       by rs a b true is here there = let both = and_parts (eqb a x.0) (eqb b y.0) is in here (eqb-true a x.0 both.0) (eqb-true b y.0 both.1)
       by rs a b false is here there = there
 
-  took_up_to : (x y : Enclave) (n : ℕ) (G : Facts) → IsClose near lives y x → 1 ≤ n → n ≤ length (waiting_bytes G x.0 y.0)
+  took_up_to : (x y : Enclave) (n : ℕ) (G : Facts) → IsClose near lives y x → 1 ≤ n → n ≤ length (waiting_in G x.0 y.0)
       → IsTurn near lives x.0 y.0 [] G → IsUpTo near lives x.0 y.0 [] G (took_lines G x y n)
   took_up_to x y n G close one within turn =
       let H = after_line G (lines.Took x y n) in
@@ -74,13 +74,13 @@ module _ (near : ℕ → ℕ → Bool) (lives : ℕ → Bool) where
 
   pub deliver_up_to : (x y : Enclave) (count : ℕ) (G : Facts) → 1 ≤ count → IsNear G y x → IsTurn near lives 0 0 [] G
       → IsUpTo near lives 0 0 [] G (deliver_lines G x y count)
-  deliver_up_to x y count G some between turn = by (eqb (length (waiting_bytes G x.0 y.0)) 0) refl
+  deliver_up_to x y count G some between turn = by (eqb (length (waiting_in G x.0 y.0)) 0) refl
     where
-      by : (t : Bool) → eqb (length (waiting_bytes G x.0 y.0)) 0 ≡ t
-          → IsUpTo near lives 0 0 [] G (cond t (lines.Idle x y ∷ []) (took_lines G x y (min count (length (waiting_bytes G x.0 y.0)))))
+      by : (t : Bool) → eqb (length (waiting_in G x.0 y.0)) 0 ≡ t
+          → IsUpTo near lives 0 0 [] G (cond t (lines.Idle x y ∷ []) (took_lines G x y (min count (length (waiting_in G x.0 y.0)))))
       by true is = proper_lines near lives 0 0 [] (lines.Idle x y ∷ []) G (tt, tt) turn
       by false is =
-          let waiting = length (waiting_bytes G x.0 y.0) in
+          let waiting = length (waiting_in G x.0 y.0) in
           let not_none : waiting ≡ 0 → ⊥ = eqb-false waiting 0 is in
           let close : IsClose near lives y x = record { living = sym (turn.alive y.0) ∙ between.living; beside = sym (turn.same y.0 x.0) ∙ between.near } in
           let up = took_up_to x y (min count waiting) G close (omega (arith, some, not_none)) (omega arith) (other_turn near lives 0 0 x.0 y.0 G turn) in

@@ -5,7 +5,7 @@ use Rattle.std.proofs.lemmas.Grind.{flat_map-append}
 use Rattle.xemem_language.specs.declared.record.Record.{Record}
 use Rattle.xemem_wire.specs.Spelling.{spelling_of, header_of, spellings_of, is_valid, AreValid}
 use Rattle.global_model.specs.Facts.{ChannelFact, Facts, lives_at, with_sent, with_taken, with_got}
-use Rattle.global_model.specs.Channels.{size_of, whole_records, arriving, waiting_bytes, waiting_of}
+use Rattle.global_model.specs.Channels.{size_of, whole_records, arriving, waiting_in, waiting_of}
 use Rattle.global_model.specs.Flow.{IsFlow}
 
 -- ---- sizes
@@ -129,7 +129,7 @@ waiting_size c =
     omega (arith, front, rest)
 
 -- and no more wait elsewhere
-pub waiting_few : (G : Facts) (x y : ℕ) → length (waiting_bytes G x y) ≤ length (waiting_of (G.channel x y))
+pub waiting_few : (G : Facts) (x y : ℕ) → length (waiting_in G x y) ≤ length (waiting_of (G.channel x y))
 waiting_few G x y = by (lives_at G y)
   where
     by : (b : Bool) → length (cond b (waiting_of (G.channel x y)) []) ≤ length (waiting_of (G.channel x y))
@@ -145,7 +145,7 @@ flow_taken n c le flow =
     }
 
 -- where a record arrives, it is the next one and whole
-pub record IsNext (c : ChannelFact) (rs : List Record) : Type 0 where
+pub record IsNextToGet (c : ChannelFact) (rs : List Record) : Type 0 where
   pub sent : c.got < length c.sent
   pub whole : length (spellings_of (take (c.got + 1) c.sent)) ≤ c.taken
   pub flow : IsFlow (with_got c)
@@ -157,7 +157,7 @@ drop-more zero x (w ∷ ws) xs is = cc
 drop-more (suc n) x [] xs is = cc
 drop-more (suc n) x (w ∷ ws) xs is = let e : suc n + 1 ≡ suc (n + 1) = omega arith in rw e (drop-more n x ws xs is)
 
-pub next_arrives : (c : ChannelFact) (r : Record) (rs : List Record) → IsFlow c → arriving c ≡ r ∷ rs → IsNext c rs
+pub next_arrives : (c : ChannelFact) (r : Record) (rs : List Record) → IsFlow c → arriving c ≡ r ∷ rs → IsNextToGet c rs
 next_arrives c r rs flow is =
     let ws = whole_records c.taken c.sent in
     let some : length ws - c.got ≡ suc (length rs) = sym (length-drop c.got ws) ∙ ap length is in

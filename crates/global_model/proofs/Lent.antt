@@ -15,7 +15,7 @@ use Rattle.enclave_rules.specs.Core.{is_guest}
 use Rattle.enclave_rules.specs.Memory.{ProcessView, is_used, unused}
 use Rattle.enclave_rules.specs.Pages.{frame_list, frames_of}
 use Rattle.global_model.specs.Facts.{Facts, fact_of, is_living_enclave, after_line}
-use Rattle.global_model.specs.Space.{is_lent_to, is_own_frame, is_unused, unused_frames, free_blocks}
+use Rattle.global_model.specs.Space.{is_lent_to, is_own_frame, is_unused, unused_frames, blocks_left}
 use Rattle.global_model.proofs.Runs.{filter_run-same, filter_groups, is_among, first_of_run, first_taken, first_passes}
 
 -- ---- blocks
@@ -42,7 +42,7 @@ listed_among [] k = refl
 listed_among (b ∷ bs) k = ap (λ t. eqb b k || t) (listed_among bs k)
 
 -- the blocks that are drawn are the lowest free ones
-module _ (G : Facts) (blocks : List Block) (count : ℕ) (lowest : blocks ≡ take count (free_blocks G)) where
+module _ (G : Facts) (blocks : List Block) (count : ℕ) (lowest : blocks ≡ take count (blocks_left G)) where
   drawn_blocks : blocks ≡ block_list (lowest_free G count)
   drawn_blocks = lowest ∙ take-map (λ b. record { 0 = b }) count (filter (λ b. is_free (G.block b)) (range_with_len 0 G.pool))
 
@@ -79,7 +79,7 @@ lent_before k e true state apart free = ne_eqb e.0 k apart ∙ by state (free re
 -- ---- a birth
 
 module _ (G : Facts) (e : Enclave) (kind : Kind) (parent : Enclave) (ns : Bool) (blocks : List Block) (count : ℕ)
-    (next : e.0 ≡ G.born) (lowest : blocks ≡ take count (free_blocks G)) where
+    (next : e.0 ≡ G.born) (lowest : blocks ≡ take count (blocks_left G)) where
   pub lent_born : ((b : ℕ) → b < G.pool → IsOfPool G.born (G.block b)) → lent_blocks (after_line G (lines.Born e kind parent ns blocks)) e.0 ≡ blocks
   lent_born pool =
       ap block_list (filter_run-same _ (is_listed blocks) 0 G.pool (λ b low high. lent_now G.born e (is_listed blocks b) (G.block b) next (pool b (omega (arith, high)))))

@@ -19,9 +19,9 @@ use Rattle.enclave_rules.specs.Core.{is_guest}
 use Rattle.enclave_rules.specs.Steps.{handled_lines}
 use Rattle.global_model.specs.Facts.{Facts, after_line, after_lines, no_facts, is_living_enclave}
 use Rattle.global_model.specs.Apt.{IsNear, NothingArrives}
-use Rattle.global_model.specs.Channels.{arriving, is_neighbour, was_born, waiting_bytes}
+use Rattle.global_model.specs.Channels.{arriving, is_neighbour, was_born, waiting_in}
 use Rattle.global_model.specs.Views.{view_of}
-use Rattle.global_model.specs.Space.{Mapping, space_of, free_blocks, unused_frames}
+use Rattle.global_model.specs.Space.{Mapping, space_of, blocks_left, unused_frames}
 use Rattle.global_model.specs.Refusals.{conditions_of, refusal_of}
 use Rattle.global_model.specs.Place.{may_stand, IsPlacedAfter, IsPlaced}
 use Rattle.global_model.specs.Due.{next_enclave, touched_lines, got_lines, took_lines, deliver_lines, next_rest, first_waiting, settle_end, settle_from, acts_of, step_lines, journal_from, journal_of}
@@ -36,7 +36,7 @@ use Rattle.global_model.proofs.Sound.{IsSound, sound_line}
 use Rattle.global_model.proofs.Turns.{at_pair_same, IsTurn, begin_turn, end_turn, other_turn, lives_in, IsClose, IsProper, IsUpTo, proper_lines, got_step}
 use Rattle.global_model.proofs.Waiting.{IsWaiting, first_waits, rest_waits}
 use Rattle.global_model.proofs.Deliveries.{took, IsTook, deliver_up_to, settle_at}
-use Rattle.global_model.proofs.Commands.{IsReady, IsRun, begun, run_step, ready_start, cokernel_plain}
+use Rattle.global_model.proofs.Commands.{IsReadyAfter, IsAptRun, begun, run_step, ready_start, cokernel_plain}
 
 -- ---- steps one after the other
 
@@ -80,11 +80,11 @@ pause_sound G sound = record { tree = sound.tree; ways = ways_near G sound.near;
 -- ---- lines by themselves
 
 -- the line changes no tree, channel or way, whatever the facts are
-record IsAside (line : Line) : Type 0 where
+record StandsAlone (line : Line) : Type 0 where
   proper : (near : ℕ → ℕ → Bool) (lives : ℕ → Bool) → IsProper near lives line
   alone : (G : Facts) → MayStandAlone G line
 
-tells_aside : MayTell IsAside
+tells_aside : MayTell StandsAlone
 tells_aside = record {
   bytes = λ x y at bytes some most. record { proper = λ near lives. tt; alone = λ G. tt };
   own = λ e. record { proper = λ near lives. tt; alone = λ G. tt };
@@ -97,7 +97,7 @@ tells_aside = record {
 }
 
 module _ (near : ℕ → ℕ → Bool) (lives : ℕ → Bool) where
-  told_in_steps : (ls : List Line) (G : Facts) → EachIs IsAside ls → IsTurn near lives 0 0 [] G → IsInSteps G ls
+  told_in_steps : (ls : List Line) (G : Facts) → EachIs StandsAlone ls → IsTurn near lives 0 0 [] G → IsInSteps G ls
   told_in_steps [] G told turn = none_in_steps G
   told_in_steps (l ∷ ls) G told turn =
       let one = proper_lines near lives 0 0 [] (l ∷ []) G (told.0.proper near lives, tt) turn in
@@ -120,7 +120,7 @@ module _ (near : ℕ → ℕ → Bool) (lives : ℕ → Bool) where
       let one : IsUpTo near lives x.0 y.0 rs G own = got_step near lives x y close r rs G turn in
       in_steps-append G own (got_lines (after_lines G own) x y rs) first (got_in_steps x y close rs (after_lines G own) one.turn)
 
-  took_in_steps : (x y : Enclave) (n : ℕ) (G : Facts) → IsClose near lives y x → 1 ≤ n → n ≤ length (waiting_bytes G x.0 y.0)
+  took_in_steps : (x y : Enclave) (n : ℕ) (G : Facts) → IsClose near lives y x → 1 ≤ n → n ≤ length (waiting_in G x.0 y.0)
       → IsTurn near lives x.0 y.0 [] G → IsInSteps G (took_lines G x y n)
   took_in_steps x y n G close one within turn =
       let H = after_line G (lines.Took x y n) in
@@ -131,20 +131,20 @@ module _ (near : ℕ → ℕ → Bool) (lives : ℕ → Bool) where
 
   deliver_in_steps : (x y : Enclave) (count : ℕ) (G : Facts) → 1 ≤ count → IsNear G y x → IsTurn near lives 0 0 [] G
       → IsInSteps G (deliver_lines G x y count)
-  deliver_in_steps x y count G some between turn = by (eqb (length (waiting_bytes G x.0 y.0)) 0) refl
+  deliver_in_steps x y count G some between turn = by (eqb (length (waiting_in G x.0 y.0)) 0) refl
     where
-      by : (t : Bool) → eqb (length (waiting_bytes G x.0 y.0)) 0 ≡ t
-          → IsInSteps G (cond t (lines.Idle x y ∷ []) (took_lines G x y (min count (length (waiting_bytes G x.0 y.0)))))
+      by : (t : Bool) → eqb (length (waiting_in G x.0 y.0)) 0 ≡ t
+          → IsInSteps G (cond t (lines.Idle x y ∷ []) (took_lines G x y (min count (length (waiting_in G x.0 y.0)))))
       by true is = told_in_steps (lines.Idle x y ∷ []) G (record { proper = λ near lives. tt; alone = λ G. tt }, tt) turn
       by false is =
-          let waiting = length (waiting_bytes G x.0 y.0) in
+          let waiting = length (waiting_in G x.0 y.0) in
           let not_none : waiting ≡ 0 → ⊥ = eqb-false waiting 0 is in
           let close : IsClose near lives y x = record { living = sym (turn.alive y.0) ∙ between.living; beside = sym (turn.same y.0 x.0) ∙ between.near } in
           took_in_steps x y (min count waiting) G close (omega (arith, some, not_none)) (omega arith) (other_turn near lives 0 0 x.0 y.0 G turn)
 
   end_in_steps : (made : ℕ) (G : Facts) → IsTurn near lives 0 0 [] G → IsInSteps G (settle_end G made ∷ [])
   end_in_steps made G turn = told_in_steps (settle_end G made ∷ []) G
-      (tells_end IsAside (λ made. record { proper = λ near lives. tt; alone = λ G. tt }) (λ made. record { proper = λ near lives. tt; alone = λ G. tt }) G made, tt) turn
+      (tells_end StandsAlone (λ made. record { proper = λ near lives. tt; alone = λ G. tt }) (λ made. record { proper = λ near lives. tt; alone = λ G. tt }) G made, tt) turn
 
   settle_in_steps : (left made : ℕ) (G : Facts) → IsTurn near lives 0 0 [] G → IsInSteps G (settle_from left made G)
   settle_in_steps zero made G turn = end_in_steps made G turn
@@ -167,7 +167,7 @@ module _ (near : ℕ → ℕ → Bool) (lives : ℕ → Bool) where
 
 -- ---- commands
 
-told_sound : (ls : List Line) (G : Facts) → EachIs IsAside ls → IsSound G → NothingArrives G → IsInSteps G ls
+told_sound : (ls : List Line) (G : Facts) → EachIs StandsAlone ls → IsSound G → NothingArrives G → IsInSteps G ls
 told_sound ls G told sound none = told_in_steps (is_neighbour G) (lives_in G) ls G told (begin_turn 0 0 G sound none)
 
 -- a command, where every whole record was got before it and is after its line
@@ -194,7 +194,7 @@ module _ (G : Facts) (sound : IsSound G) (got : NothingArrives G) where
       let unmet = all_unmet (conditions_of G c) none in
       let lives : is_living_enclave (B.enclave parent.0) ≡ true = not_false _ unmet.0 in
       let lower : parent.0 < B.born = living_born B parent.0 after.tree lives in
-      one_in_steps B (Bears (next_enclave B) kind parent ns (take count (free_blocks B))) (pause_sound B after) (
+      one_in_steps B (Bears (next_enclave B) kind parent ns (take count (blocks_left B))) (pause_sound B after) (
         got,
         record {
           room = leb-false 256 B.born unmet.1.0;
@@ -214,7 +214,7 @@ module _ (G : Facts) (sound : IsSound G) (got : NothingArrives G) where
       let c = commands.Host count ns in
       let B = begun G c in
       let after : IsSound B = sound_line G (lines.Do c) sound tt in
-      with_refusal c tt after got (λ allowed. one_in_steps B (Hosts ns (take count (free_blocks B))) (pause_sound B after) (
+      with_refusal c tt after got (λ allowed. one_in_steps B (Hosts ns (take count (blocks_left B))) (pause_sound B after) (
         got,
         record {
           room = omega (arith, none);
@@ -279,14 +279,14 @@ module _ (G : Facts) (sound : IsSound G) (got : NothingArrives G) where
 
   -- a command whose acts stand by themselves
   shows_in_steps : (c : Command) → MayStandAlone G (lines.Do c) → IsSound (begun G c) → NothingArrives (begun G c)
-      → EachIs IsAside (acts_of (begun G c) c) → IsInSteps G (step_lines G c)
+      → EachIs StandsAlone (acts_of (begun G c) c) → IsInSteps G (step_lines G c)
   shows_in_steps c alone after none aside = with_refusal c alone after none (λ allowed. told_sound (acts_of (begun G c) c) (begun G c) aside after none)
 
 not_built : (b : Bool) → (b && false) ≡ true → ⊥
 not_built true is = cc
 not_built false is = cc
 
-command_in_steps : (before : ℕ) (G : Facts) → IsReady before G → (c : Command) → may_stand before c ≡ true → IsInRange c → IsInSteps G (step_lines G c)
+command_in_steps : (before : ℕ) (G : Facts) → IsReadyAfter before G → (c : Command) → may_stand before c ≡ true → IsInRange c → IsInSteps G (step_lines G c)
 command_in_steps before G ready (commands.Pool blocks) may range =
     let first : before ≡ 0 = eqb-true before 0 (and_parts _ _ may).0 in
     alone_in_steps G ready.sound ready.got (lines.Do (commands.Pool blocks)) (ready.unborn (omega (arith, first)))
@@ -302,24 +302,24 @@ command_in_steps before G ready (commands.Deliver x y count) may range = deliver
 command_in_steps before G ready (commands.Settle most) may range = settle_in_turn G ready.sound ready.got most
 command_in_steps before G ready (commands.ShowRoutes e) may range =
     let c = commands.ShowRoutes e in
-    shows_in_steps G ready.sound ready.got c tt (sound_line G (lines.Do c) ready.sound tt) ready.got (tells_routes IsAside tells_aside (view_of (begun G c) e))
+    shows_in_steps G ready.sound ready.got c tt (sound_line G (lines.Do c) ready.sound tt) ready.got (tells_routes StandsAlone tells_aside (view_of (begun G c) e))
 command_in_steps before G ready (commands.ShowLink x y) may range =
     let c = commands.ShowLink x y in
-    let waiting = waiting_bytes (begun G c) x.0 y.0 in
-    shows_in_steps G ready.sound ready.got c tt (sound_line G (lines.Do c) ready.sound tt) ready.got (tells_bytes IsAside tells_aside x y (length waiting) 0 waiting)
+    let waiting = waiting_in (begun G c) x.0 y.0 in
+    shows_in_steps G ready.sound ready.got c tt (sound_line G (lines.Do c) ready.sound tt) ready.got (tells_bytes StandsAlone tells_aside x y (length waiting) 0 waiting)
 command_in_steps before G ready commands.ShowPool may range =
     let c = commands.ShowPool in
     shows_in_steps G ready.sound ready.got c tt (sound_line G (lines.Do c) ready.sound tt) ready.got
-    (tells_states IsAside tells_aside 0 (map G.block (range_with_len 0 G.pool)))
+    (tells_states StandsAlone tells_aside 0 (map G.block (range_with_len 0 G.pool)))
 command_in_steps before G ready _ may range = absurd (not_built (leb 2 before) may)
 
 -- ---- whole journals
 
-journal_in_steps : (cs : List Command) (before : ℕ) (G : Facts) → IsReady before G → IsPlacedAfter before cs → IsInSteps G (journal_from G cs)
+journal_in_steps : (cs : List Command) (before : ℕ) (G : Facts) → IsReadyAfter before G → IsPlacedAfter before cs → IsInSteps G (journal_from G cs)
 journal_in_steps [] before G ready placed = none_in_steps G
 journal_in_steps (c ∷ cs) before G ready placed =
     let ls = step_lines G c in
-    let one : IsRun (before + 1) G ls = run_step before G ready c placed.0 placed.1 in
+    let one : IsAptRun (before + 1) G ls = run_step before G ready c placed.0 placed.1 in
     in_steps-append G ls (journal_from (after_lines G ls) cs) (command_in_steps before G ready c placed.0 placed.1)
     (journal_in_steps cs (before + 1) (after_lines G ls) one.ready placed.2)
 

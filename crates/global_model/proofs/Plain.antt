@@ -8,7 +8,7 @@ use Rattle.xemem_language.specs.declared.record.Record.{Record}
 use Rattle.xemem_language.specs.declared.line.Line.{Line}
 use Rattle.xemem_language.specs.declared.line.Line.TheVariants as lines
 use Rattle.global_model.specs.Facts.{Facts, after_line, after_lines}
-use Rattle.global_model.specs.Channels.{waiting_bytes, arriving}
+use Rattle.global_model.specs.Channels.{waiting_in, arriving}
 use Rattle.enclave_rules.specs.Core.{host}
 use Rattle.enclave_rules.specs.View.{View}
 use Rattle.enclave_rules.specs.Sending.{knows_way}
@@ -79,7 +79,7 @@ plain_took G x y count = let H = after_line G (lines.Took x y count) in (tt, pla
 
 pub plain_deliver : (G : Facts) (x y : Enclave) (count : ℕ) → ArePlain (deliver_lines G x y count)
 plain_deliver G x y count =
-    let waiting = length (waiting_bytes G x.0 y.0) in
+    let waiting = length (waiting_in G x.0 y.0) in
     plain_either (waiting == 0) (lines.Idle x y ∷ []) (took_lines G x y (min count waiting)) (tt, tt) (plain_took G x y (min count waiting))
 
 pub plain_settle : (left made : ℕ) (G : Facts) → ArePlain (settle_from left made G)

@@ -15,7 +15,7 @@ use Rattle.enclave_rules.specs.Core.{host}
 use Rattle.enclave_rules.specs.Sending.{knows_way}
 use Rattle.enclave_rules.specs.View.{View}
 use Rattle.global_model.specs.Apt.{NothingArrives}
-use Rattle.global_model.specs.Channels.{waiting_bytes}
+use Rattle.global_model.specs.Channels.{waiting_in}
 use Rattle.global_model.specs.Due.{acts_of, first_waiting, journal_from, journal_of, next_enclave, settle_end, settle_from, step_lines, touched_lines}
 use Rattle.global_model.specs.Facts.{Facts, after_lines, facts_at}
 use Rattle.global_model.specs.Flow.{IsFlowing}
@@ -27,7 +27,7 @@ use Rattle.global_model.specs.Space.{Mapping, space_of}
 use Rattle.global_model.specs.Views.{view_of}
 use Rattle.global_model.proofs.Tree.{tree_lives}
 use Rattle.global_model.proofs.Sound.{IsSound, sound_line}
-use Rattle.global_model.proofs.Commands.{IsReady, IsRun, ready_start, run_step}
+use Rattle.global_model.proofs.Commands.{IsReadyAfter, IsAptRun, ready_start, run_step}
 use Rattle.global_model.proofs.Tells.{MayTell, tells_bytes, tells_routes, tells_states}
 use Rattle.global_model.proofs.Pasts.{Follows-append, facts_at-onto}
 use Rattle.global_model.proofs.Settles.{IsInner, IsSettled, deliveries-append, inner_deliver, settle_flows, settled_before, settled_by}
@@ -164,7 +164,7 @@ rests_acts past (commands.Deliver x y count) sound none = rests_inner _ _ (inner
 rests_acts past (commands.Settle most) sound none = rests_settle past most sound none
 rests_acts past (commands.ShowRoutes e) sound none =
     rests_inner (route_lines (view_of (facts_at past) e)) (lines.Do (commands.ShowRoutes e) ∷ past) (tells_routes IsInner inner_tells (view_of (facts_at past) e))
-rests_acts past (commands.ShowLink x y) sound none = rests_inner _ _ (tells_bytes IsInner inner_tells x y _ 0 (waiting_bytes (facts_at past) x.0 y.0))
+rests_acts past (commands.ShowLink x y) sound none = rests_inner _ _ (tells_bytes IsInner inner_tells x y _ 0 (waiting_in (facts_at past) x.0 y.0))
 rests_acts past commands.ShowPool sound none =
     let G = facts_at past in rests_inner _ _ (tells_states IsInner inner_tells 0 (map G.block (range_with_len 0 G.pool)))
 rests_acts past _ sound none = tt
@@ -182,17 +182,17 @@ rests_step past c sound none = (tt, by (refusal_of (facts_at past) c) (rests_act
 
 -- ---- journals
 
-rests_from : (cs : List Command) (before : ℕ) (past : List Line) → IsReady before (facts_at past) → IsPlacedAfter before cs
+rests_from : (cs : List Command) (before : ℕ) (past : List Line) → IsReadyAfter before (facts_at past) → IsPlacedAfter before cs
     → Follows RestAt past (journal_from (facts_at past) cs)
 rests_from [] before past ready placed = tt
 rests_from (c ∷ cs) before past ready placed =
     let G = facts_at past in
     let ls = step_lines G c in
-    let run : IsRun (before + 1) G ls = run_step before G ready c placed.0 placed.1 in
+    let run : IsAptRun (before + 1) G ls = run_step before G ready c placed.0 placed.1 in
     let facts : facts_at (onto ls past) ≡ after_lines G ls = facts_at-onto ls past in
     let one : Follows RestAt past ls = rests_step past c (sound_line G (lines.Do c) ready.sound run.apt.0) ready.got in
     let more : Follows RestAt (onto ls past) (journal_from (facts_at (onto ls past)) cs)
-    = rests_from cs (before + 1) (onto ls past) (subst (IsReady (before + 1)) (sym facts) run.ready) placed.2 in
+    = rests_from cs (before + 1) (onto ls past) (subst (IsReadyAfter (before + 1)) (sym facts) run.ready) placed.2 in
     Follows-append RestAt ls (journal_from (after_lines G ls) cs) past one (subst (λ H. Follows RestAt (onto ls past) (journal_from H cs)) facts more)
 
 pub journal_of-rested : (cs : List Command) → IsPlaced cs → IsRested (journal_of cs)

@@ -26,7 +26,7 @@ use Rattle.global_model.proofs.Tree.{child_under, living_born}
 use Rattle.global_model.proofs.Runs.{map_run-same, filter_run-none}
 use Rattle.global_model.proofs.Lent.{IsOfPool}
 use Rattle.global_model.proofs.Sound.{IsSound, no_fact, sound_line, sound_start}
-use Rattle.global_model.proofs.Shown.{IsShown, same_core, ways_shown, memory_shown, shown_admitted}
+use Rattle.global_model.proofs.Shown.{SeesLine, same_core, ways_shown, memory_shown, shown_admitted}
 use Rattle.global_model.proofs.Births.{shown_born}
 use Rattle.global_model.proofs.Writes.{EachIs}
 use Rattle.global_model.proofs.Plain.{each-weaker}
@@ -45,7 +45,7 @@ abbrev pub IsLater : Line → Type 0
 IsLater (lines.Do (commands.Pool blocks)) = ⊥
 IsLater line = Unit {0}
 
-pub shown_line : (G : Facts) (line : Line) (k : Enclave) → IsLater line → IsSound G → IsApt G line → IsShown G k line
+pub shown_line : (G : Facts) (line : Line) (k : Enclave) → IsLater line → IsSound G → IsApt G line → SeesLine G k line
 shown_line G (lines.Do (commands.Pool blocks)) k later sound apt = absurd later
 shown_line G (lines.Born e kind parent ns blocks) k later sound apt = shown_born G e kind parent ns blocks sound apt k
 shown_line G (lines.Told e of) k later sound apt = absurd apt

@@ -10,7 +10,7 @@ use Rattle.xemem_language.specs.declared.command.Command.TheVariants as commands
 use Rattle.xemem_language.specs.declared.line.Line.{Line}
 use Rattle.xemem_language.specs.declared.line.Line.TheVariants as lines
 use Rattle.global_model.specs.Facts.{Facts, after_line, after_lines, facts_after, no_facts, is_living_enclave}
-use Rattle.global_model.specs.Channels.{is_neighbour, was_born, waiting_bytes, arriving}
+use Rattle.global_model.specs.Channels.{is_neighbour, was_born, waiting_in, arriving}
 use Rattle.enclave_rules.specs.View.{View}
 use Rattle.global_model.specs.Views.{view_of}
 use Rattle.enclave_rules.specs.Steps.{record_lines, handled_lines}
@@ -77,10 +77,10 @@ others_got G x y (r ∷ rs) =
     (others_got (after_lines G own) x y rs)
 
 -- a delivery of what waits is one
-one_delivery : (G : Facts) (x y : Enclave) (count : ℕ) → 0 < length (waiting_bytes G x.0 y.0)
+one_delivery : (G : Facts) (x y : Enclave) (count : ℕ) → 0 < length (waiting_in G x.0 y.0)
     → deliveries_in (deliver_lines G x y count) ≡ 1
 one_delivery G x y count some =
-    let waiting = length (waiting_bytes G x.0 y.0) in
+    let waiting = length (waiting_in G x.0 y.0) in
     let n = min count waiting in
     let more : eqb waiting 0 ≡ false = ne_eqb waiting 0 (λ none. omega (arith, none, some)) in
     let H = after_line G (lines.Took x y n) in
@@ -89,10 +89,10 @@ one_delivery G x y count some =
 -- the lines of a delivery are inner ones
 pub inner_deliver : (G : Facts) (x y : Enclave) (count : ℕ) → EachIs IsInner (deliver_lines G x y count)
 inner_deliver G x y count =
-    let n = min count (length (waiting_bytes G x.0 y.0)) in
+    let n = min count (length (waiting_in G x.0 y.0)) in
     let H = after_line G (lines.Took x y n) in
     let rs = arriving (H.channel x.0 y.0) in
-    each_either IsInner (eqb (length (waiting_bytes G x.0 y.0)) 0) (lines.Idle x y ∷ []) (lines.Took x y n ∷ got_lines H x y rs) (tt, tt)
+    each_either IsInner (eqb (length (waiting_in G x.0 y.0)) 0) (lines.Idle x y ∷ []) (lines.Took x y n ∷ got_lines H x y rs) (tt, tt)
     (tt, each-weaker IsOther IsInner (λ line other. other.1) (got_lines H x y rs) (others_got H x y rs))
 
 -- ---- how a settle ends

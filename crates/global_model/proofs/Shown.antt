@@ -14,8 +14,8 @@ use Rattle.global_model.specs.Views.{core_of, view_of, seen_line}
 use Rattle.global_model.proofs.Sound.{admitted_keeps, keeps_kind, keeps_blocks}
 
 -- the line leaves of the enclave's view what it is to leave
-abbrev pub IsShown : Facts → Enclave → Line → Type 0
-IsShown G e line = view_of (after_line G line) e ≡ seen_line G (view_of G e) line
+abbrev pub SeesLine : Facts → Enclave → Line → Type 0
+SeesLine G e line = view_of (after_line G line) e ≡ seen_line G (view_of G e) line
 
 -- ---- cores with the same parts
 
@@ -104,7 +104,7 @@ marked : (o : Option EnclaveFact) → is_living_enclave o ≡ true → (fact_of 
 marked None living = cc
 marked (Some fact) living = refl
 
-pub shown_admitted : (G : Facts) (a e : Enclave) → is_living_enclave (G.enclave a.0) ≡ true → IsShown G e (lines.Admitted a)
+pub shown_admitted : (G : Facts) (a e : Enclave) → is_living_enclave (G.enclave a.0) ≡ true → SeesLine G e (lines.Admitted a)
 shown_admitted G a e living =
     elim (cases_eq a.0 e.0) [
       | inl same ↦

@@ -17,16 +17,16 @@ use Rattle.enclave_rules.specs.Pages.{frames_of}
 use Rattle.enclave_rules.specs.Ways.{WaysView, no_ways}
 use Rattle.enclave_rules.specs.Memory.{MemoryView, no_memory}
 use Rattle.enclave_rules.specs.Hand.{Hand}
-use Rattle.global_model.specs.Facts.{Facts, no_facts, EnclaveFact, ChannelFact, no_channel, fact_of, as_admitted, at_number, at_pair, with_lent, with_sent, with_taken, with_got, after_line, after_lines}
+use Rattle.global_model.specs.Facts.{Facts, no_facts, EnclaveFact, ChannelFact, no_channel, fact_of, as_admitted, at_number, at_pair, lent_to, with_sent, with_taken, with_got, after_line, after_lines}
 use Rattle.global_model.specs.Channels.{is_neighbour}
 use Rattle.global_model.specs.Flow.{IsTree, IsFlow, IsFlowing}
 use Rattle.global_model.specs.Apt.{IsBirth, IsNear, NothingArrives, IsApt, AreApt}
-use Rattle.global_model.proofs.Flow.{waiting_few, flow_sent, flow_taken, IsNext, next_arrives}
+use Rattle.global_model.proofs.Flow.{waiting_few, flow_sent, flow_taken, IsNextToGet, next_arrives}
 use Rattle.global_model.specs.Space.{is_lent_to}
 use Rattle.global_model.proofs.Owned.{Owns, owns_none, owns_more, owns_start, owns_pages, unused_lent}
 use Rattle.global_model.proofs.Lent.{lent_blocks, IsOfPool, listed_is_free, lent_born, lent_stay, pool_born}
 use Rattle.global_model.proofs.Tree.{same_tree, living_tree, near-turned, living_born, tree_born, tree_admitted, near_admitted, near_grows, far_before}
-use Rattle.global_model.proofs.Ways.{NamesNear, AreNear, ways_near, none_near, near_more, near_asked, near_way, near_back, near_route, at_number_has}
+use Rattle.global_model.proofs.Ways.{NamesNear, AllNameNear, ways_near, none_near, near_more, near_asked, near_way, near_back, near_route, at_number_has}
 
 -- The enclaves are a tree, none holds the name server before one is born, and none is a virtual machine. Nobody has heard of a death. Each block is free or lent, and an enclave's
 -- blocks are those that are lent to it. Those who aren't born know nothing, and the pages of processes are own ones of the enclave's blocks. Ways name neighbours, and records flow between
@@ -41,7 +41,7 @@ pub record IsSound (G : Facts) : Type 0 where
   pub unaware : (e : ℕ) → G.born ≤ e → G.ways e ≡ no_ways
   pub empty : (e : ℕ) → G.born ≤ e → G.memory e ≡ no_memory
   pub owned : (e : ℕ) → Owns G.block e (G.memory e)
-  pub near : AreNear (is_neighbour G) G.ways
+  pub near : AllNameNear (is_neighbour G) G.ways
   pub flows : (x y : ℕ) → IsFlow (G.channel x y)
   pub apart : (x y : ℕ) → is_neighbour G x y ≡ false → G.channel x y ≡ no_channel
 
@@ -91,7 +91,7 @@ not_near near x y a b is far is_x is_y =
 
 -- other ways, memory and channels
 sound_with : (G : Facts) (ways : ℕ → WaysView) (memory : ℕ → MemoryView) (starts : ℕ) (channel : ℕ → ℕ → ChannelFact) (hand : Hand) → IsSound G
-    → ((e : ℕ) → G.born ≤ e → ways e ≡ no_ways) → ((e : ℕ) → G.born ≤ e → memory e ≡ no_memory) → ((e : ℕ) → Owns G.block e (memory e)) → AreNear (is_neighbour G) ways
+    → ((e : ℕ) → G.born ≤ e → ways e ≡ no_ways) → ((e : ℕ) → G.born ≤ e → memory e ≡ no_memory) → ((e : ℕ) → Owns G.block e (memory e)) → AllNameNear (is_neighbour G) ways
     → ((x y : ℕ) → IsFlow (channel x y)) → ((x y : ℕ) → is_neighbour G x y ≡ false → channel x y ≡ no_channel)
     → IsSound (record G { ways = ways; memory = memory; starts = starts; channel = channel; hand = hand })
 sound_with G ways memory starts channel hand sound unaware empty owned near flows apart = record {
@@ -165,7 +165,7 @@ sound_born G e kind parent ns blocks sound birth =
     by_kind k true = birth.plain
     by_kind k false = sound.plain k
 
-    stays : (k b : ℕ) → is_lent_to k (G.block b) ≡ true → is_lent_to k (with_lent blocks e G.block b) ≡ true
+    stays : (k b : ℕ) → is_lent_to k (G.block b) ≡ true → is_lent_to k (lent_to blocks e G.block b) ≡ true
     stays k b is = by_lent k e (G.block b) (is_listed blocks b) (listed_is_free G blocks birth.count birth.lowest b) is
 
     by_blocks : (k : ℕ) → k < G.born + 1 → (b : Bool) → eqb k e.0 ≡ b
@@ -259,7 +259,7 @@ sound_line G (lines.Sent x y r) sound apt =
 sound_line G (lines.Took x y count) sound apt =
     sound_channel G x.0 y.0 (with_taken count) _ sound (turned G x y apt.between) (flow_taken count (G.channel x.0 y.0) (omega (arith, apt.wait, waiting_few G x.0 y.0)) (sound.flows x.0 y.0))
 sound_line G (lines.Got x y) sound apt =
-    let next : IsNext (G.channel x.0 y.0) apt.later = next_arrives (G.channel x.0 y.0) apt.rec apt.later (sound.flows x.0 y.0) apt.arrives in
+    let next : IsNextToGet (G.channel x.0 y.0) apt.later = next_arrives (G.channel x.0 y.0) apt.rec apt.later (sound.flows x.0 y.0) apt.arrives in
     sound_channel G x.0 y.0 with_got _ sound (turned G x y apt.between) next.flow
 sound_line G (lines.Asked e by) sound apt = sound_ways G e _ sound (there G e by sound apt) (near_asked (λ x. is_neighbour G e.0 x.0 ≡ true) (fact_of (G.enclave e.0)).parent by (G.ways e.0) apt.near (sound.near e.0))
 sound_line G (lines.Way e over) sound apt = sound_ways G e _ sound (there G e over sound apt) (near_way (λ x. is_neighbour G e.0 x.0 ≡ true) over (G.ways e.0) apt.near (sound.near e.0))

@@ -16,7 +16,7 @@ use Rattle.global_model.specs.Views.{view_of}
 use Rattle.global_model.specs.Due.{got_lines}
 use Rattle.global_model.specs.Apt.{IsNear, IsGetting, NothingArrives, IsApt, AreApt}
 use Rattle.global_model.proofs.Pasts.{after_lines-append}
-use Rattle.global_model.proofs.Flow.{valid_arriving, arriving_sent, IsNext, next_arrives}
+use Rattle.global_model.proofs.Flow.{valid_arriving, arriving_sent, IsNextToGet, next_arrives}
 use Rattle.global_model.proofs.Tree.{living_born, near_admitted}
 use Rattle.global_model.proofs.Ways.{NamesNear, near_more}
 use Rattle.global_model.proofs.Sound.{IsSound, sound_line, apt_append, at_pair_has, at_channel}
@@ -200,7 +200,7 @@ module _ (near : ℕ → ℕ → Bool) (lives : ℕ → Bool) (x y : Enclave) (c
   -- the next record is got
   one_got : (r : Record) (rs : List Record) (G : Facts) → IsTurn near lives x.0 y.0 (r ∷ rs) G → IsUpTo near lives x.0 y.0 rs G (lines.Got x y ∷ [])
   one_got r rs G turn =
-      let next : IsNext (G.channel x.0 y.0) rs
+      let next : IsNextToGet (G.channel x.0 y.0) rs
       = next_arrives (G.channel x.0 y.0) r rs (turn.sound.flows x.0 y.0) (turn.arrives x.0 y.0 ∙ at_pair_same x.0 y.0 (λ none. r ∷ rs) (λ x y. [])) in
       let apt : IsGetting G x y = record {
         between = record { living = turn.alive y.0 ∙ close.living; near = turn.same y.0 x.0 ∙ close.beside };

@@ -6,7 +6,7 @@ use Rattle.xm_num.specs.declared.Enclave.{Enclave}
 use Rattle.xemem_language.specs.declared.record.Record.{Record}
 use Rattle.xemem_wire.specs.Spelling.{spelling_of, header_of}
 use Rattle.global_model.specs.Facts.{Facts, EnclaveFact, fact_of, has_parent, lives_at, no_channel}
-use Rattle.global_model.specs.Channels.{end_waits, is_child_of, is_neighbour, size_of, waiting_bytes, waiting_of}
+use Rattle.global_model.specs.Channels.{end_waits, is_child_of, is_neighbour, size_of, waiting_in, waiting_of}
 use Rattle.global_model.specs.Flow.{IsTree, IsFlowing}
 use Rattle.global_model.specs.Due.{rest_of_record, next_rest, channels_of, waits, first_waiting}
 use Rattle.global_model.specs.Rest.{IsAtRest}
@@ -117,10 +117,10 @@ none_passes {X = X} test (y ∷ ys) is = by (test y) refl (none_passes test ys) 
 pub record IsWaiting (G : Facts) (x y : Enclave) : Type 0 where
   pub near : is_neighbour G x.0 y.0 ≡ true
   pub living : lives_at G y.0 ≡ true
-  pub some : 0 < length (waiting_bytes G x.0 y.0)
+  pub some : 0 < length (waiting_in G x.0 y.0)
 
 -- where bytes wait, the receiver lives
-waiting_living : (G : Facts) (x y : ℕ) → 0 < length (waiting_bytes G x y) → lives_at G y ≡ true
+waiting_living : (G : Facts) (x y : ℕ) → 0 < length (waiting_in G x y) → lives_at G y ≡ true
 waiting_living G x y = by (lives_at G y)
   where
     by : (b : Bool) → 0 < length (cond b (waiting_of (G.channel x y)) []) → b ≡ true
@@ -128,9 +128,9 @@ waiting_living G x y = by (lives_at G y)
     by false some = absurd (omega (arith, some))
 
 -- as long as all live, bytes wait where something does
-bytes_wait : (G : Facts) (x y : ℕ) → AllLive G → (ltb 0 (length (waiting_bytes G x y)) || end_waits G x y) ≡ true → 0 < length (waiting_bytes G x y)
-bytes_wait G x y all is = elim (or_cases (ltb 0 (length (waiting_bytes G x y))) (end_waits G x y) is) [
-  | inl bytes ↦ ltb-true 0 (length (waiting_bytes G x y)) bytes
+bytes_wait : (G : Facts) (x y : ℕ) → AllLive G → (ltb 0 (length (waiting_in G x y)) || end_waits G x y) ≡ true → 0 < length (waiting_in G x y)
+bytes_wait G x y all is = elim (or_cases (ltb 0 (length (waiting_in G x y))) (end_waits G x y) is) [
+  | inl bytes ↦ ltb-true 0 (length (waiting_in G x y)) bytes
   | inr end ↦ absurd (both_ways (end_waits G x y) (no_end G x y all) end)
 ]
 
@@ -144,7 +144,7 @@ first_waits G x y tree is =
     record { near = first.has; living = waiting_living G x.0 y.0 some; some = some }
 
 -- what a delivery of a settle takes there
-pub rest_waits : (G : Facts) (x y : Enclave) → 0 < length (waiting_bytes G x.0 y.0)
+pub rest_waits : (G : Facts) (x y : Enclave) → 0 < length (waiting_in G x.0 y.0)
     → IsRest (G.channel x.0 y.0).taken (G.channel x.0 y.0).sent (next_rest G x y)
 rest_waits G x y some =
     let channel = G.channel x.0 y.0 in
@@ -160,15 +160,15 @@ no_bytes (byte ∷ bytes) none = let le : length (byte ∷ bytes) ≤ 0 = ltb-fa
 
 -- nothing waits in the channel
 record IsIdle (G : Facts) (x y : ℕ) : Type 0 where
-  bytes : waiting_bytes G x y ≡ []
+  bytes : waiting_in G x y ≡ []
   end : end_waits G x y ≡ false
 
 idle : (G : Facts) (x y : Enclave) → waits G (x, y) ≡ false → IsIdle G x.0 y.0
-idle G x y is = by (ltb 0 (length (waiting_bytes G x.0 y.0))) refl is
+idle G x y is = by (ltb 0 (length (waiting_in G x.0 y.0))) refl is
   where
-    by : (b : Bool) → ltb 0 (length (waiting_bytes G x.0 y.0)) ≡ b → (b || end_waits G x.0 y.0) ≡ false → IsIdle G x.0 y.0
+    by : (b : Bool) → ltb 0 (length (waiting_in G x.0 y.0)) ≡ b → (b || end_waits G x.0 y.0) ≡ false → IsIdle G x.0 y.0
     by true some none = cc
-    by false some none = record { bytes = no_bytes (waiting_bytes G x.0 y.0) some; end = none }
+    by false some none = record { bytes = no_bytes (waiting_in G x.0 y.0) some; end = none }
 
 -- nor in those of a child with its parent
 child_idle : (G : Facts) (c p : ℕ) → IsTree G → first_waiting G ≡ None → is_child_of G c p ≡ true → IsIdle G c p × IsIdle G p c
@@ -217,7 +217,7 @@ first_passed G x y is =
     = first_passes (λ channel. Unit {0}) (waits G) channels (x, y) (any_channels channels) is in
     first.passes
 
-pub first_some : (G : Facts) (x y : Enclave) → AllLive G → first_waiting G ≡ Some (x, y) → 0 < length (waiting_bytes G x.0 y.0)
+pub first_some : (G : Facts) (x y : Enclave) → AllLive G → first_waiting G ≡ Some (x, y) → 0 < length (waiting_in G x.0 y.0)
 first_some G x y all is = bytes_wait G x.0 y.0 all (first_passed G x y is)
 
 pub rests_none : (G : Facts) → IsAtRest G → first_waiting G ≡ None

@@ -19,8 +19,8 @@ pub record NamesNear (Near : Enclave → Type 0) (w : WaysView) : Type 0 where
   pub backs : AllRows Near w.backs
   pub routes : AllRows Near w.routes
 
-abbrev pub AreNear : (ℕ → ℕ → Bool) → (ℕ → WaysView) → Type 0
-AreNear near ways = (e : ℕ) → NamesNear (λ x. near e x.0 ≡ true) (ways e)
+abbrev pub AllNameNear : (ℕ → ℕ → Bool) → (ℕ → WaysView) → Type 0
+AllNameNear near ways = (e : ℕ) → NamesNear (λ x. near e x.0 ≡ true) (ways e)
 
 pub none_near : (Near : Enclave → Type 0) → NamesNear Near no_ways
 none_near Near = record { way = λ x is. cc; askers = All-nil _; backs = All-nil _; routes = All-nil _ }
@@ -41,7 +41,7 @@ pub near_route : (Near : Enclave → Type 0) (d : ℕ) (over : Enclave) (w : Way
     → NamesNear Near (record w { routes = put w.routes d over })
 near_route Near d over w is old = record { way = old.way; askers = old.askers; backs = old.backs; routes = all_put Near w.routes d over old.routes is }
 
-pub ways_near : (G : Facts) → AreNear (is_neighbour G) G.ways → AreWays G
+pub ways_near : (G : Facts) → AllNameNear (is_neighbour G) G.ways → AreWays G
 ways_near G known = record {
   way = λ e. (known e).way;
   askers = λ e k x is. all_at (λ x. is_neighbour G e x.0 ≡ true) (G.ways e).askers k x (known e).askers is;
@@ -50,8 +50,8 @@ ways_near G known = record {
 }
 
 -- who are near stay near
-pub near_more : (near more : ℕ → ℕ → Bool) (ways : ℕ → WaysView) → ((x y : ℕ) → near x y ≡ true → more x y ≡ true) → AreNear near ways
-    → AreNear more ways
+pub near_more : (near more : ℕ → ℕ → Bool) (ways : ℕ → WaysView) → ((x y : ℕ) → near x y ≡ true → more x y ≡ true) → AllNameNear near ways
+    → AllNameNear more ways
 near_more near more ways grows known e = record {
   way = λ x is. grows e x.0 ((known e).way x is);
   askers = λ k d lt. grows e _ ((known e).askers k d lt);

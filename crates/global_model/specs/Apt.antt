@@ -13,9 +13,9 @@ use Rattle.xemem_language.specs.declared.line.Line.TheVariants as lines
 use Rattle.xemem_language.specs.declared.record.Record.{Record}
 use Rattle.xemem_wire.specs.Spelling.{is_valid}
 use Rattle.enclave_rules.specs.Core.{is_guest}
-use Rattle.global_model.specs.Channels.{arriving, is_neighbour, waiting_bytes}
+use Rattle.global_model.specs.Channels.{arriving, is_neighbour, waiting_in}
 use Rattle.global_model.specs.Facts.{Facts, fact_of, after_line, facts_at, is_living_enclave, runs}
-use Rattle.global_model.specs.Space.{frame_of, free_blocks, is_lent_to, unused_frames}
+use Rattle.global_model.specs.Space.{frame_of, blocks_left, is_lent_to, unused_frames}
 use Rattle.enclave_rules.specs.Memory.{ProcessView}
 use Rattle.xm_num.specs.declared.Page.{Page}
 use Rattle.xm_num.specs.Rows.{at}
@@ -29,7 +29,7 @@ pub record IsBirth (G : Facts) (e : Enclave) (kind : Kind) (parent : Enclave) (n
   pub plain : is_guest kind ≡ false
   pub one : (ns && G.server) ≡ false
   pub count : ℕ
-  pub lowest : blocks ≡ take count (free_blocks G)
+  pub lowest : blocks ≡ take count (blocks_left G)
 
 -- a process that lives gets the lowest unused frames of its enclave
 pub record IsOwning (G : Facts) (e : Enclave) (p : Pid) (frames : List Frame) : Type 0 where
@@ -51,7 +51,7 @@ NothingArrives G = (x y : ℕ) → arriving (G.channel x y) ≡ []
 pub record IsTaking (G : Facts) (x y : Enclave) (count : ℕ) : Type 0 where
   pub between : IsNear G y x
   pub some : 1 ≤ count
-  pub wait : count ≤ length (waiting_bytes G x.0 y.0)
+  pub wait : count ≤ length (waiting_in G x.0 y.0)
   pub turn : NothingArrives G
 
 -- a record that is whole at a living neighbour is got

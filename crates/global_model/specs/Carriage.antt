@@ -3,7 +3,7 @@ use Rattle.std.specs.Prelude.{◌≡◌, ◌+◌, ◌<◌, ◌≤◌, List, [], 
 use Rattle.xemem_language.specs.declared.line.Line.{Line}
 use Rattle.xemem_language.specs.declared.line.Line.TheVariants as lines
 use Rattle.xemem_wire.specs.Spelling.{is_valid, spellings_of}
-use Rattle.global_model.specs.Channels.{end_waits, is_neighbour, torn_bytes, waiting_bytes}
+use Rattle.global_model.specs.Channels.{end_waits, is_neighbour, torn_bytes, waiting_in}
 use Rattle.global_model.specs.Facts.{fact_of, facts_at, is_living_enclave}
 use Rattle.global_model.specs.Journals.{Follows}
 
@@ -11,16 +11,16 @@ use Rattle.global_model.specs.Journals.{Follows}
 -- was taken; what is sent goes from a living enclave to a neighbour and is valid. A death cuts off bytes of those that wait on the
 -- way up; its end mark is taken where it waits and no bytes do, and the torn bytes are those after the last whole record.
 abbrev pub CarriedAt : List Line → Line → Type 0
-CarriedAt past (lines.Took x y count) = (1 ≤ count) × (count ≤ length (waiting_bytes (facts_at past) x.0 y.0))
+CarriedAt past (lines.Took x y count) = (1 ≤ count) × (count ≤ length (waiting_in (facts_at past) x.0 y.0))
 CarriedAt past (lines.Got x y) =
     let channel = (facts_at past).channel x.0 y.0 in
     (channel.got < length channel.sent) × (length (spellings_of (take (channel.got + 1) channel.sent)) ≤ channel.taken)
 CarriedAt past (lines.Sent x y r) =
     (is_living_enclave ((facts_at past).enclave x.0) ≡ true) × (is_neighbour (facts_at past) x.0 y.0 ≡ true) × (is_valid r ≡ true)
-CarriedAt past (lines.Killed x cut) = let G = facts_at past in cut ≤ length (waiting_bytes G x.0 (fact_of (G.enclave x.0)).parent.0)
+CarriedAt past (lines.Killed x cut) = let G = facts_at past in cut ≤ length (waiting_in G x.0 (fact_of (G.enclave x.0)).parent.0)
 CarriedAt past (lines.End x y torn) =
     let G = facts_at past in
-    (end_waits G x.0 y.0 ≡ true) × (waiting_bytes G x.0 y.0 ≡ []) × (torn ≡ torn_bytes (G.channel x.0 y.0))
+    (end_waits G x.0 y.0 ≡ true) × (waiting_in G x.0 y.0 ≡ []) × (torn ≡ torn_bytes (G.channel x.0 y.0))
 CarriedAt past line = Unit {0}
 
 -- carried: what goes over the channels arrives in order

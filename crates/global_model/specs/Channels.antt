@@ -22,8 +22,8 @@ waiting_of channel =
     drop channel.taken (take (length bytes - channel.cut) bytes)
 
 -- the bytes that wait: those, where the receiver lives
-abbrev pub waiting_bytes : Facts → ℕ → ℕ → List ℕ
-waiting_bytes G x y = if lives_at G y then waiting_of (G.channel x y) else []
+abbrev pub waiting_in : Facts → ℕ → ℕ → List ℕ
+waiting_in G x y = if lives_at G y then waiting_of (G.channel x y) else []
 
 -- the end mark of a dead child waits at its parent, where that lives, until it is taken
 abbrev pub end_waits : Facts → ℕ → ℕ → Bool

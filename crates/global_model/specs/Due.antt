@@ -11,10 +11,10 @@ use Rattle.xemem_language.specs.declared.line.Line.{Line}
 use Rattle.xemem_language.specs.declared.line.Line.TheVariants as lines
 use Rattle.xemem_language.specs.declared.record.Record.{Record}
 use Rattle.enclave_rules.specs.Steps.{adopt_lines, birth_lines, bytes_lines, host_lines, handled_lines, route_lines, state_lines}
-use Rattle.global_model.specs.Channels.{arriving, end_waits, size_of, waiting_bytes}
+use Rattle.global_model.specs.Channels.{arriving, end_waits, size_of, waiting_in}
 use Rattle.global_model.specs.Facts.{Facts, after_line, after_lines, fact_of, facts_at, no_facts}
 use Rattle.global_model.specs.Refusals.{refusal_of}
-use Rattle.global_model.specs.Space.{Mapping, free_blocks, space_of, unused_frames}
+use Rattle.global_model.specs.Space.{Mapping, blocks_left, space_of, unused_frames}
 use Rattle.global_model.specs.Views.{view_of}
 
 -- the number that the enclave draws for its next process
@@ -42,12 +42,12 @@ took_lines G x y count =
 -- what waits of the bytes is taken; no delivery takes an end mark yet, as no enclave dies
 abbrev pub deliver_lines : Facts → Enclave → Enclave → ℕ → List Line
 deliver_lines G x y count =
-    let waiting = length (waiting_bytes G x.0 y.0) in
+    let waiting = length (waiting_in G x.0 y.0) in
     if waiting == 0 then lines.Idle x y ∷ [] else took_lines G x y (min count waiting)
 
 -- the bytes that wait, 32 a line
 abbrev pub link_lines : Facts → Enclave → Enclave → List Line
-link_lines G x y = let waiting = waiting_bytes G x.0 y.0 in bytes_lines x y (length waiting) 0 waiting
+link_lines G x y = let waiting = waiting_in G x.0 y.0 in bytes_lines x y (length waiting) 0 waiting
 
 -- ---- settling
 
@@ -58,7 +58,7 @@ rest_of_record taken (r ∷ rs) = if nat_le (size_of r) taken then rest_of_recor
 
 -- how many bytes a delivery of a settle takes: that many, or all that wait where that record was cut
 abbrev pub next_rest : Facts → Enclave → Enclave → ℕ
-next_rest G x y = min (rest_of_record (G.channel x.0 y.0).taken (G.channel x.0 y.0).sent) (length (waiting_bytes G x.0 y.0))
+next_rest G x y = min (rest_of_record (G.channel x.0 y.0).taken (G.channel x.0 y.0).sent) (length (waiting_in G x.0 y.0))
 
 -- a child's channel up to its parent, and the one down from it
 abbrev pub channels_of : Facts → ℕ → List (Enclave × Enclave)
@@ -66,7 +66,7 @@ channels_of G c = let parent = (fact_of (G.enclave c)).parent in (record { 0 = c
 
 -- bytes wait in the channel, or an end mark does
 abbrev pub waits : Facts → Enclave × Enclave → Bool
-waits G channel = nat_lt 0 (length (waiting_bytes G channel.0.0 channel.1.0)) || end_waits G channel.0.0 channel.1.0
+waits G channel = nat_lt 0 (length (waiting_in G channel.0.0 channel.1.0)) || end_waits G channel.0.0 channel.1.0
 
 -- the channels in which something waits, by child, up before down
 abbrev pub waiting_channels : Facts → List (Enclave × Enclave)
@@ -94,9 +94,9 @@ next_enclave G = record { 0 = G.born }
 -- the lines of a command that isn't refused, by the facts after its `do` line
 abbrev pub acts_of : Facts → Command → List Line
 acts_of G (commands.Pool blocks) = []
-acts_of G (commands.Host blocks ns) = host_lines (take blocks (free_blocks G)) ns
+acts_of G (commands.Host blocks ns) = host_lines (take blocks (blocks_left G)) ns
 acts_of G (commands.Boot kind parent blocks ns) =
-    birth_lines (next_enclave G) kind parent (take blocks (free_blocks G)) ns (G.heard parent.0) ++ adopt_lines (view_of G parent) (next_enclave G)
+    birth_lines (next_enclave G) kind parent (take blocks (blocks_left G)) ns (G.heard parent.0) ++ adopt_lines (view_of G parent) (next_enclave G)
 acts_of G (commands.Proc e uid gid) = lines.Proc e (next_pid G e) uid gid ∷ []
 acts_of G (commands.Alloc e p at pages) = lines.Alloc e p at (take pages (unused_frames G e.0)) ∷ []
 acts_of G (commands.Touch e p addr want) = touched_lines e p (record { 0 = addr / 4096 }) (space_of G e.0 p.0 (addr / 4096))

@@ -103,8 +103,8 @@ abbrev pub hand_after : ChannelFact → Hand
 hand_after channel = option_map_or (λ r. Reads r) (slice_get channel.sent channel.got) Nothing
 
 -- the blocks are lent to the enclave
-abbrev pub with_lent : List Block → Enclave → (ℕ → BlockState) → ℕ → BlockState
-with_lent blocks e block b = if is_listed blocks b then states.Lent e else block b
+abbrev pub lent_to : List Block → Enclave → (ℕ → BlockState) → ℕ → BlockState
+lent_to blocks e block b = if is_listed blocks b then states.Lent e else block b
 
 abbrev pub as_admitted : Option EnclaveFact → Option EnclaveFact
 as_admitted None = None
@@ -132,7 +132,7 @@ with_memory e line G =
 abbrev pub after_line : Facts → Line → Facts
 after_line G (lines.Do command) = record G { pool = pool_after command G.pool; block = block_after command G.block; hand = hand_of command }
 after_line G (lines.Born e kind parent ns blocks) = record G {
-  block = with_lent blocks e G.block;
+  block = lent_to blocks e G.block;
   born = G.born + 1;
   server = G.server || ns;
   enclave = at_number e.0 (Some (record { kind = kind; parent = parent; blocks = blocks; ns = ns; living = true; admitted = false })) G.enclave;

@@ -23,11 +23,11 @@ use Rattle.global_model.specs.Views.{view_of}
 abbrev pub at_living : Facts → Enclave → List Line → List Line
 at_living G e journal = if lives_at G e.0 then journal else refusal causes.NoEnclave
 
-abbrev pub start_by : Facts → Enclave → ℕ → ℕ → List Line
-start_by G e uid gid = if nat_le 1024 G.starts then refusal causes.TooMany else start_lines (view_of G e) uid gid
+abbrev pub start_asked : Facts → Enclave → ℕ → ℕ → List Line
+start_asked G e uid gid = if nat_le 1024 G.starts then refusal causes.TooMany else start_lines (view_of G e) uid gid
 
-abbrev pub boot_by : Facts → Kind → Enclave → ℕ → Bool → List Line
-boot_by G kind parent blocks ns =
+abbrev pub boot_asked : Facts → Kind → Enclave → ℕ → Bool → List Line
+boot_asked G kind parent blocks ns =
     let free = free_blocks (view_of G host).host.states in
     if nat_le 256 G.born then refusal causes.TooMany
     else (if ns && G.server then refusal causes.NameServerTaken
@@ -37,8 +37,8 @@ boot_by G kind parent blocks ns =
 -- each command's lines follow from which enclaves live, the views of those that it names, how many enclaves were born, and how
 -- many processes were started
 pub record IsAnswered (G : Facts) : Type 0 where
-  pub boot : (kind : Kind) (parent : Enclave) (blocks : ℕ) (ns : Bool) → command_lines G (commands.Boot kind parent blocks ns) ≡ at_living G parent (boot_by G kind parent blocks ns)
-  pub proc : (e : Enclave) (uid gid : ℕ) → command_lines G (commands.Proc e uid gid) ≡ at_living G e (start_by G e uid gid)
+  pub boot : (kind : Kind) (parent : Enclave) (blocks : ℕ) (ns : Bool) → command_lines G (commands.Boot kind parent blocks ns) ≡ at_living G parent (boot_asked G kind parent blocks ns)
+  pub proc : (e : Enclave) (uid gid : ℕ) → command_lines G (commands.Proc e uid gid) ≡ at_living G e (start_asked G e uid gid)
   pub touch : (e : Enclave) (p : Pid) (addr : ℕ) (want : Want) → command_lines G (commands.Touch e p addr want) ≡ at_living G e (answer_lines e p (touch_answer (view_of G e) p addr want))
   pub call : (command : Command) (k : ProcessCall) → call_of command ≡ Some k → command_lines G command ≡ at_living G k.enclave (call_lines (view_of G k.enclave) k.pid k.call)
   pub show : (command : Command) (s : NodeShow) → show_of command ≡ Some s → command_lines G command ≡ at_living G s.enclave (show_lines (view_of G s.enclave) s.show)

@@ -41,7 +41,7 @@ IsQuiet (commands.Touch e p addr want) = ⊥
 IsQuiet command = Unit {0}
 
 -- a command that bears an enclave
-abbrev pub IsBirth : Command → Type 0
-IsBirth (commands.Host blocks ns) = Unit {0}
-IsBirth (commands.Boot kind parent blocks ns) = Unit {0}
-IsBirth command = ⊥
+abbrev pub BearsOne : Command → Type 0
+BearsOne (commands.Host blocks ns) = Unit {0}
+BearsOne (commands.Boot kind parent blocks ns) = Unit {0}
+BearsOne command = ⊥

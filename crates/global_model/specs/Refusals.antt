@@ -12,7 +12,7 @@ use Rattle.xm_num.specs.declared.Want.{Want}
 use Rattle.enclave_rules.specs.Pages.{allows}
 use Rattle.global_model.specs.Channels.{is_neighbour, was_born}
 use Rattle.global_model.specs.Facts.{Facts, is_living_enclave, runs}
-use Rattle.global_model.specs.Space.{Mapping, free_blocks, space_of, unused_frames}
+use Rattle.global_model.specs.Space.{Mapping, blocks_left, space_of, unused_frames}
 
 -- one of so many pages from that one on is mapped
 abbrev pub is_taken : Facts → ℕ → ℕ → ℕ → ℕ → Bool
@@ -52,7 +52,7 @@ conditions_of G (commands.Boot kind parent blocks ns) =
     no_enclave G parent
     ∷ when causes.TooMany (nat_le 256 G.born)
     ∷ when causes.NameServerTaken (ns && G.server)
-    ∷ when causes.NoBlocks (nat_lt (length (free_blocks G)) blocks)
+    ∷ when causes.NoBlocks (nat_lt (length (blocks_left G)) blocks)
     ∷ []
 conditions_of G (commands.Proc e uid gid) = no_enclave G e ∷ when causes.TooMany (nat_le 1024 G.starts) ∷ []
 conditions_of G (commands.Alloc e p at pages) =

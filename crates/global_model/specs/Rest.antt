@@ -3,13 +3,13 @@ use Rattle.std.specs.Prelude.{◌≡◌, ◌≤◌, ℕ, List, [], ◌∷◌, �
 use Rattle.xemem_language.specs.declared.command.Command.TheVariants as commands
 use Rattle.xemem_language.specs.declared.line.Line.{Line}
 use Rattle.xemem_language.specs.declared.line.Line.TheVariants as lines
-use Rattle.global_model.specs.Channels.{end_waits, waiting_bytes}
+use Rattle.global_model.specs.Channels.{end_waits, waiting_in}
 use Rattle.global_model.specs.Facts.{Facts, facts_at}
 use Rattle.global_model.specs.Journals.{Follows, command_at, deliveries_in}
 
 -- nothing waits in any channel, neither bytes nor an end mark
 abbrev pub IsAtRest : Facts → Type 0
-IsAtRest G = (x y : ℕ) → (waiting_bytes G x y ≡ []) × (end_waits G x y ≡ false)
+IsAtRest G = (x y : ℕ) → (waiting_in G x y ≡ []) × (end_waits G x y ≡ false)
 
 -- The lines of a settle of at most so many deliveries, and the facts after them: its last line says `settled` exactly where
 -- nothing waits any more, with the deliveries made, and `waiting` exactly where all were made and something still waits.

@@ -27,12 +27,12 @@ abbrev pub mapping_of : EnclaveFact → Page → Mapping
 mapping_of fact page = record { frame = frame_of fact page; access = page.access }
 
 -- the pages of a process, ascending, as its enclave names frames
-abbrev pub pages_of : Facts → ℕ → ℕ → List (ℕ × Page)
-pages_of G e p = option_map_or (λ process. process.pages) (at (G.memory e).processes p) []
+abbrev pub pages_at : Facts → ℕ → ℕ → List (ℕ × Page)
+pages_at G e p = option_map_or (λ process. process.pages) (at (G.memory e).processes p) []
 
 -- the space of a process: what each page is mapped to
 abbrev pub space_of : Facts → ℕ → ℕ → ℕ → Option Mapping
-space_of G e p page = option_map (mapping_of (fact_of (G.enclave e))) (at (pages_of G e p) page)
+space_of G e p page = option_map (mapping_of (fact_of (G.enclave e))) (at (pages_at G e p) page)
 
 -- some living process maps the frame
 pub record IsMapped (G : Facts) (frame : Frame) : Type 0 where
@@ -69,5 +69,5 @@ abbrev pub unused_frames : Facts → ℕ → List Frame
 unused_frames G e = frame_list (filter (is_unused G e) (range_with_len 0 (64 * G.pool)))
 
 -- the free blocks, ascending
-abbrev pub free_blocks : Facts → List Block
-free_blocks G = map (λ b. record { 0 = b }) (filter (λ b. is_free (G.block b)) (range_with_len 0 G.pool))
+abbrev pub blocks_left : Facts → List Block
+blocks_left G = map (λ b. record { 0 = b }) (filter (λ b. is_free (G.block b)) (range_with_len 0 G.pool))

@@ -22,7 +22,7 @@ ghost use Rattle.global_model.specs.Apt.{AptAt, IsTaking, OwnedAt};
 ghost use Rattle.global_model.specs.Known.{IsAnswered};
 ghost use Rattle.global_model.specs.Due.{deliver_lines, next_rest, first_waiting, acts_of, command_lines, journal_of, step_lines};
 ghost use Rattle.global_model.specs.Refusals.{Condition, when, first_cause};
-ghost use Rattle.global_model.specs.Plain.{ArePlain, AreActs, IsQuiet, IsBirth};
+ghost use Rattle.global_model.specs.Plain.{ArePlain, AreActs, IsQuiet, BearsOne};
 ghost use Rattle.global_model.specs.Flow.{IsFlowing, IsTree};
 ghost use Rattle.global_model.specs.Tree.{IsRooted, AreNear, IsPath, IsToward, is_above, path, hop, distance, parent_of};
 ghost use Rattle.global_model.specs.Journals.{do_commands, onto, Follows};
@@ -55,7 +55,7 @@ pub fn pasts_grow()
 pub fn acts_are_plain()
     ensures acts { (G : Facts) (command : Commands) → AreActs (command_lines G command) }
     ensures quiet { (G : Facts) (command : Commands) → IsQuiet command → ArePlain (acts_of G command) }
-    ensures behind { (G : Facts) (command : Commands) → IsBirth command → ArePlain (drop 1 (acts_of G command)) }
+    ensures behind { (G : Facts) (command : Commands) → BearsOne command → ArePlain (drop 1 (acts_of G command)) }
 {}
 
 /// A command that isn't refused meets none of its conditions.

@@ -15,7 +15,7 @@ use Rattle.enclave_rules.specs.Memory.{ProcessView, MemoryView, new_process, wit
 use Rattle.global_model.specs.Facts.{facts_at, at_number, fact_of, is_living_enclave}
 use Rattle.enclave_rules.specs.Core.{local_frame}
 use Rattle.global_model.specs.Refusals.{first_cause, when}
-use Rattle.global_model.specs.Space.{free_blocks}
+use Rattle.global_model.specs.Space.{blocks_left}
 use Rattle.history_laws.specs.Counts.{LimitedAt, LimitedBoot, LimitedStart, IsLimited, births_in, starts_in, starts_by, starts_at, has_server}
 use Rattle.history_laws.specs.History.{IsLegal}
 use Rattle.history_laws.specs.Lawful.{IsLegalAt}
@@ -122,16 +122,16 @@ limited_boot : (past : List Line) (kind : Kind) (parent : Enclave) (blocks : ℕ
     → IsLegalAt (lines.Do (commands.Boot kind parent blocks ns) ∷ past) line → LimitedBoot past ns line
 limited_boot past kind parent blocks ns (lines.Refused causes.TooMany) legal =
     let G = facts_at past in
-    let many = boot_many (not (is_living_enclave (G.enclave parent.0))) (leb 256 G.born) (ns && G.server) (ltb (length (free_blocks G)) blocks) legal.refusal in
+    let many = boot_many (not (is_living_enclave (G.enclave parent.0))) (leb 256 G.born) (ns && G.server) (ltb (length (blocks_left G)) blocks) legal.refusal in
     subst (λ n. 256 ≤ n) (births_counted past) (leb-true 256 G.born many)
 limited_boot past kind parent blocks ns (lines.Refused causes.NameServerTaken) legal =
     let G = facts_at past in
-    let taken = boot_taken (not (is_living_enclave (G.enclave parent.0))) (leb 256 G.born) (ns && G.server) (ltb (length (free_blocks G)) blocks) legal.refusal in
+    let taken = boot_taken (not (is_living_enclave (G.enclave parent.0))) (leb 256 G.born) (ns && G.server) (ltb (length (blocks_left G)) blocks) legal.refusal in
     let both = and_parts ns G.server taken in
     (both.0, sym (server_counted past) ∙ both.1)
 limited_boot past kind parent blocks ns (lines.Born e of under mark lent) legal =
     let G = facts_at past in
-    let free = boot_free (not (is_living_enclave (G.enclave parent.0))) (leb 256 G.born) (ns && G.server) (ltb (length (free_blocks G)) blocks) legal.refusal in
+    let free = boot_free (not (is_living_enclave (G.enclave parent.0))) (leb 256 G.born) (ns && G.server) (ltb (length (blocks_left G)) blocks) legal.refusal in
     (subst (λ n. n < 256) (births_counted past) (leb-false 256 G.born free.0), ap (λ held. ns && held) (sym (server_counted past)) ∙ free.1)
 limited_boot past kind parent blocks ns _ legal = tt
 

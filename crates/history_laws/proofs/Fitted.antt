@@ -41,14 +41,14 @@ use Rattle.enclave_rules.specs.Sending.{knows_way}
 use Rattle.enclave_rules.specs.Steps.{child_lines, told_lines, adopt_lines, query_of, route_lines, bytes_lines, state_line, state_lines}
 use Rattle.global_model.specs.Apt.{AreOwned}
 use Rattle.global_model.specs.Facts.{EnclaveFact, Facts, after_line, facts_at, fact_of, with_sent, with_taken, with_got, is_living_enclave, lives_at, runs}
-use Rattle.global_model.specs.Space.{Mapping, frame_of, mapping_of, space_of, is_lent_to, is_unused, unused_frames, free_blocks}
-use Rattle.global_model.specs.Channels.{is_neighbour, was_born, waiting_of, waiting_bytes}
+use Rattle.global_model.specs.Space.{Mapping, frame_of, mapping_of, space_of, is_lent_to, is_unused, unused_frames, blocks_left}
+use Rattle.global_model.specs.Channels.{is_neighbour, was_born, waiting_of, waiting_in}
 use Rattle.global_model.specs.Views.{view_of}
 use Rattle.global_model.specs.Refusals.{when, is_taken, refusal_of}
 use Rattle.global_model.specs.Due.{next_enclave, next_pid, touched_lines, acts_of, step_lines}
 use Rattle.global_model.specs.Journals.{onto}
 use Rattle.history_laws.specs.Fitting.{IsCountable}
-use Rattle.history_laws.specs.Laws.{Laws}
+use Rattle.history_laws.specs.Laws.{HistoryLaws}
 use Rattle.history_laws.proofs.Lending.{All-range}
 use Rattle.history_laws.proofs.Fit.{IsNumber, AllNumbers, IsLow, IsFitState, IsFitProcess, IsFitMemory, IsFit, IsSteady, AreSteady, fit_do, fit_line, at_number_fits}
 use Rattle.history_laws.proofs.Steady.{steady_append, steady_either, valid_query, valid_numbers, at_has}
@@ -138,7 +138,7 @@ pub living_number : (G : Facts) (e : Enclave) → IsFit G → not (is_living_enc
 living_number G e fit lives = fit.tree.number e.0 (living_some (G.enclave e.0) (not_false _ lives))
 
 -- both ends of a channel
-pub channel_numbers : Laws → (G : Facts) (x y : Enclave) → IsFit G
+pub channel_numbers : HistoryLaws → (G : Facts) (x y : Enclave) → IsFit G
     → refusal_of G (commands.ShowLink x y) ≡ None → IsNumber x × IsNumber y
 channel_numbers laws G x y fit none =
     let there = and_parts _ _ (not_false _ (laws.act.unmet causes.NoEnclave (not (is_living_enclave (G.enclave y.0) && was_born G x.0)) (when causes.NoLink (not (is_neighbour G x.0 y.0)) ∷ []) none).0) in
@@ -146,11 +146,11 @@ channel_numbers laws G x y fit none =
 
 -- ---- births
 
-blocks_fit : (G : Facts) (n : ℕ) → IsFit G → All (λ b. Is16 b.0) (take n (free_blocks G))
+blocks_fit : (G : Facts) (n : ℕ) → IsFit G → All (λ b. Is16 b.0) (take n (blocks_left G))
 blocks_fit G n fit =
     let most = fit.pool.most in
     let low = All-weaker (λ b. (0 ≤ b) × (b < 0 + G.pool)) Is16 (λ b h. omega (arith, h.1, most)) (range_with_len 0 G.pool) (All-range 0 G.pool) in
-    All-take (λ b. Is16 b.0) n (free_blocks G) (All-map (λ (b : Block). Is16 b.0) (λ b. record { 0 = b }) _ (All-filter _ Is16 (range_with_len 0 G.pool) low))
+    All-take (λ b. Is16 b.0) n (blocks_left G) (All-map (λ (b : Block). Is16 b.0) (λ b. record { 0 = b }) _ (All-filter _ Is16 (range_with_len 0 G.pool) low))
 
 listed_fits : (blocks : List Block) (k : ℕ) → All (λ b. Is16 b.0) blocks → is_listed blocks k ≡ true → Is16 k
 listed_fits [] k all is = cc
@@ -184,9 +184,9 @@ fit_born G e kind parent ns blocks fit room number above lent =
 
 fitted_born : (few : Type 0) (G : Facts) (past : List Line) (e : Enclave) (kind : Kind) (parent : Enclave) (ns : Bool) (blocks : ℕ) (more : List Line)
     → G ≡ facts_at past → IsFit G → G.born ≤ 255 → IsNumber e → IsNumber parent → AreSteady more
-    → IsFittedUpTo few past (lines.Born e kind parent ns (take blocks (free_blocks G)) ∷ more)
+    → IsFittedUpTo few past (lines.Born e kind parent ns (take blocks (blocks_left G)) ∷ more)
 fitted_born few G past e kind parent ns blocks more is fit room number above steady =
-    let line = lines.Born e kind parent ns (take blocks (free_blocks G)) in
+    let line = lines.Born e kind parent ns (take blocks (blocks_left G)) in
     let lent = blocks_fit G blocks fit in
     let after : IsFit (facts_at (line ∷ past)) = subst (λ H. IsFit (after_line H line)) is (fit_born G e kind parent ns _ fit room number above lent) in
     fitted_cons few line more past (wide e number, wide parent above, lent) (fitted_steady few more (line ∷ past) after steady)
@@ -203,7 +203,7 @@ fitted_host blocks ns past fit range none =
     (λ met after. fitted_born (IsCountable past) (facts_at (lines.Do c ∷ past)) (lines.Do c ∷ past) host kinds.Host host ns blocks (if ns then lines.Admitted host ∷ [] else []) refl after (omega (arith, none)) (omega arith) (omega arith)
     (steady_either ns (lines.Admitted host ∷ []) [] (omega arith, tt) tt))
 
-pub fitted_boot : Laws → (kind : Kind) (parent : Enclave) (blocks : ℕ) (ns : Bool) (past : List Line) → IsFit (facts_at past) → IsInRange (commands.Boot kind parent blocks ns)
+pub fitted_boot : HistoryLaws → (kind : Kind) (parent : Enclave) (blocks : ℕ) (ns : Bool) (past : List Line) → IsFit (facts_at past) → IsInRange (commands.Boot kind parent blocks ns)
     → IsFittedUpTo (IsCountable past) past (step_lines (facts_at past) (commands.Boot kind parent blocks ns))
 fitted_boot laws kind parent blocks ns past fit range = with_refusal c past fit range acts
   where
@@ -214,7 +214,7 @@ fitted_boot laws kind parent blocks ns past fit range = with_refusal c past fit 
         → IsFittedUpTo (IsCountable past) (lines.Do (commands.Boot kind parent blocks ns) ∷ past) (acts_of (facts_at (lines.Do (commands.Boot kind parent blocks ns) ∷ past)) (commands.Boot kind parent blocks ns))
     acts none after =
         let H = facts_at (lines.Do (commands.Boot kind parent blocks ns) ∷ past) in
-        let fourth = when causes.NoBlocks (ltb (length (free_blocks H)) blocks) ∷ [] in
+        let fourth = when causes.NoBlocks (ltb (length (blocks_left H)) blocks) ∷ [] in
         let third = when causes.NameServerTaken (ns && H.server) ∷ fourth in
         let second = when causes.TooMany (leb 256 H.born) ∷ third in
         let one = laws.act.unmet causes.NoEnclave (not (is_living_enclave (H.enclave parent.0))) second none in
@@ -244,7 +244,7 @@ new_fits : (uid gid : ℕ) → IsFitProcess (new_process uid gid)
 unfolding at
 new_fits uid gid v page is = cc
 
-pub fitted_proc : Laws → (e : Enclave) (uid gid : ℕ) (past : List Line) → IsFit (facts_at past) → IsInRange (commands.Proc e uid gid)
+pub fitted_proc : HistoryLaws → (e : Enclave) (uid gid : ℕ) (past : List Line) → IsFit (facts_at past) → IsInRange (commands.Proc e uid gid)
     → IsFittedUpTo (IsCountable past) past (step_lines (facts_at past) (commands.Proc e uid gid))
 fitted_proc laws e uid gid past fit range = with_refusal (commands.Proc e uid gid) past fit range (λ none after.
     let G = facts_at past in
@@ -273,7 +273,7 @@ frames_fit G e n fit =
     All-take (λ f. Is32 f.0) n (unused_frames G e) (All-map (λ (f : Frame). Is32 f.0) (λ f. record { 0 = f }) _ (All-filter (is_unused G e) Is32 (range_with_len 0 (64 * G.pool)) low))
 
 -- a page whose number fits, and several
-put_fits : Laws → (rows : List (ℕ × Page)) (k : ℕ) (page : Page) → Is32 k → ((v : ℕ) (x : Page) → at rows v ≡ Some x → Is32 v)
+put_fits : HistoryLaws → (rows : List (ℕ × Page)) (k : ℕ) (page : Page) → Is32 k → ((v : ℕ) (x : Page) → at rows v ≡ Some x → Is32 v)
     → (v : ℕ) (x : Page) → at (put rows k page) v ≡ Some x → Is32 v
 put_fits laws rows k page low fits v x is = by (eqb k v) refl (sym (laws.row.pages rows k v page) ∙ is)
   where
@@ -281,12 +281,12 @@ put_fits laws rows k page low fits v x is = by (eqb k v) refl (sym (laws.row.pag
     by true same found = subst Is32 (eqb-true k v same) low
     by false same found = fits v x found
 
-put_all_fits : Laws → (rows : List (ℕ × Page)) (k : ℕ) (pages : List Page) → k + length pages ≤ 16777216 → ((v : ℕ) (x : Page) → at rows v ≡ Some x → Is32 v)
+put_all_fits : HistoryLaws → (rows : List (ℕ × Page)) (k : ℕ) (pages : List Page) → k + length pages ≤ 16777216 → ((v : ℕ) (x : Page) → at rows v ≡ Some x → Is32 v)
     → (v : ℕ) (x : Page) → at (put_all rows k pages) v ≡ Some x → Is32 v
 put_all_fits laws rows k [] within fits = fits
 put_all_fits laws rows k (page ∷ pages) within fits = put_all_fits laws (put rows k page) (k + 1) pages (omega (arith, within)) (put_fits laws rows k page (omega (arith, within)) fits)
 
-pages_fit : Laws → (starts : ℕ) (m : MemoryView) (p page : ℕ) (frames : List Frame) → IsFitMemory starts m → page + length frames ≤ 16777216
+pages_fit : HistoryLaws → (starts : ℕ) (m : MemoryView) (p page : ℕ) (frames : List Frame) → IsFitMemory starts m → page + length frames ≤ 16777216
     → IsFitMemory starts (with_process p (with_pages page frames) m)
 pages_fit laws starts m p page frames fit within = by (at m.processes p) refl
   where
@@ -298,7 +298,7 @@ pages_fit laws starts m p page frames fit within = by (at m.processes p) refl
         let new : IsFitProcess (with_pages page frames process) = put_all_fits laws process.pages page (map own_page frames) (omega (arith, count, within)) old in
         record { started = fit.started; pages = put_processes m.processes p (with_pages page frames process) fit.pages new }
 
-pub fitted_alloc : Laws → (e : Enclave) (p : Pid) (at : Vpn) (pages : ℕ) (past : List Line) → IsFit (facts_at past) → IsInRange (commands.Alloc e p at pages)
+pub fitted_alloc : HistoryLaws → (e : Enclave) (p : Pid) (at : Vpn) (pages : ℕ) (past : List Line) → IsFit (facts_at past) → IsInRange (commands.Alloc e p at pages)
     → IsFittedUpTo (IsCountable past) past (step_lines (facts_at past) (commands.Alloc e p at pages))
 fitted_alloc laws e p at pages past fit range = with_refusal (commands.Alloc e p at pages) past fit range (λ none after.
     let G = facts_at past in
@@ -385,7 +385,7 @@ steady_states b (s ∷ ss) within all = (by s (All-head IsFitState s ss all), st
     by (states.Held e) fits = (omega (arith, within), fits)
 
 -- bytes are spelled of valid records
-bytes_fit : Laws → (rs : List Record) → AreValid rs → All Is8 (spellings_of rs)
+bytes_fit : HistoryLaws → (rs : List Record) → AreValid rs → All Is8 (spellings_of rs)
 bytes_fit laws [] valid = All-nil Is8
 bytes_fit laws (r ∷ rs) valid = All-append Is8 (spelling_of r) (spellings_of rs) (below (spelling_of r) (laws.wire.bytes r valid.0)) (bytes_fit laws rs valid.1)
   where
@@ -417,7 +417,7 @@ sent_bytes (lines.Got a b ∷ past) x y =
     cond_both (eqb x a.0 && eqb y b.0) (with_got (G.channel x y)) (G.channel x y) (λ c. length (spellings_of c.sent) ≤ 4 * words_in (lines.Got a b ∷ past)) (λ is. omega (arith, old)) (λ other. omega (arith, old))
 sent_bytes (line ∷ past) x y = let old = sent_bytes past x y in omega (arith, old)
 
-waiting_few : (past : List Line) (x y : ℕ) → IsCountable past → length (waiting_bytes (facts_at past) x y) ≤ 4294967295
+waiting_few : (past : List Line) (x y : ℕ) → IsCountable past → length (waiting_in (facts_at past) x y) ≤ 4294967295
 waiting_few past x y few =
     let G = facts_at past in
     let channel = G.channel x y in
@@ -442,19 +442,19 @@ fitted_bytes few all x y (suc most) at (byte ∷ bytes) past low fit from to wit
       fit = more.fit;
     }
 
-bytes_wait : Laws → (G : Facts) (x y : ℕ) → IsFit G → All Is8 (waiting_bytes G x y)
+bytes_wait : HistoryLaws → (G : Facts) (x y : ℕ) → IsFit G → All Is8 (waiting_in G x y)
 bytes_wait laws G x y fit =
     let channel = G.channel x y in
     let bytes = spellings_of channel.sent in
     let whole = All-take Is8 (length bytes - channel.cut) bytes (bytes_fit laws channel.sent (fit.channels x y)) in
     cond_both (lives_at G y) (waiting_of channel) [] (All Is8) (λ is. All-drop Is8 channel.taken (take (length bytes - channel.cut) bytes) whole) (λ other. All-nil Is8)
 
-pub fitted_link : Laws → (x y : Enclave) (past : List Line) → IsFit (facts_at past) → IsInRange (commands.ShowLink x y)
+pub fitted_link : HistoryLaws → (x y : Enclave) (past : List Line) → IsFit (facts_at past) → IsInRange (commands.ShowLink x y)
     → IsFittedUpTo (IsCountable past) past (step_lines (facts_at past) (commands.ShowLink x y))
 fitted_link laws x y past fit range = with_refusal (commands.ShowLink x y) past fit range (λ none after.
     let G = facts_at past in
     let ends = channel_numbers laws G x y fit none in
-    let waiting = waiting_bytes G x.0 y.0 in
+    let waiting = waiting_in G x.0 y.0 in
     fitted_bytes (IsCountable past) (length waiting) x y (length waiting) 0 waiting (lines.Do (commands.ShowLink x y) ∷ past) (waiting_few past x.0 y.0) after (wide x ends.0) (wide y ends.1)
     (omega arith)
     (bytes_wait laws G x.0 y.0 fit))

@@ -20,7 +20,7 @@ use Rattle.global_model.specs.Place.{may_stand, IsPlacedAfter, IsPlaced}
 use Rattle.global_model.specs.Due.{acts_of, step_lines, journal_from, journal_of}
 use Rattle.global_model.specs.Journals.{Follows, onto}
 use Rattle.history_laws.specs.Fitting.{IsCountable}
-use Rattle.history_laws.specs.Laws.{Laws}
+use Rattle.history_laws.specs.Laws.{HistoryLaws}
 use Rattle.history_laws.proofs.Follow.{Follows-behind}
 use Rattle.history_laws.proofs.Fit.{IsNumber, IsLow, IsFitState, IsFitProcess, IsFit, AreSteady, fit_do}
 use Rattle.history_laws.proofs.Steady.{steady_deliver, steady_settle}
@@ -35,11 +35,11 @@ fitted_acts c past fit range steady =
     with_refusal c past fit range (λ none after. fitted_steady (IsCountable past) (acts_of (facts_at (lines.Do c ∷ past)) c) (lines.Do c ∷ past) after (steady none after))
 
 -- what is kept along commands, of which there were so many: none is born after the first
-record IsReady (before : ℕ) (past : List Line) : Type 0 where
+record IsFitAfter (before : ℕ) (past : List Line) : Type 0 where
   fit : IsFit (facts_at past)
   fresh : before ≤ 1 → (facts_at past).born ≡ 0
 
-fitted_step : Laws → (before : ℕ) (c : Command) (past : List Line) → IsReady before past → AreOwned (facts_at past) → may_stand before c ≡ true → IsInRange c
+fitted_step : HistoryLaws → (before : ℕ) (c : Command) (past : List Line) → IsFitAfter before past → AreOwned (facts_at past) → may_stand before c ≡ true → IsInRange c
     → IsFittedUpTo (IsCountable past) past (step_lines (facts_at past) c)
 fitted_step laws before (commands.Host blocks ns) past ready owned may range =
     let second : before ≡ 1 = eqb-true before 1 (and_parts _ _ may).0 in
@@ -66,7 +66,7 @@ fitted_step laws before commands.ShowPool past ready owned may range =
     fitted_acts commands.ShowPool past ready.fit range (λ none after. steady_states 0 (map G.block (range_with_len 0 G.pool)) (omega (arith, count, most)) (All-map IsFitState G.block (range_with_len 0 G.pool) (λ k d lt. pool.state _)))
 fitted_step laws before c past ready owned may range = fitted_one (IsCountable past) (lines.Do c) past tt (fit_do (facts_at past) ready.fit c range)
 
-fresh_step : (before : ℕ) (c : Command) (past : List Line) → IsReady before past → may_stand before c ≡ true → before + 1 ≤ 1
+fresh_step : (before : ℕ) (c : Command) (past : List Line) → IsFitAfter before past → may_stand before c ≡ true → before + 1 ≤ 1
     → (facts_at (onto (step_lines (facts_at past) c) past)).born ≡ 0
 fresh_step before (commands.Pool blocks) past ready may few = ready.fresh (omega (arith, few))
 fresh_step before (commands.Host blocks ns) past ready may few = let second = eqb-true before 1 (and_parts _ _ may).0 in absurd (omega (arith, few, second))
@@ -93,21 +93,21 @@ words_in-onto : (ls past : List Line) → words_in (onto ls past) ≡ words_in l
 words_in-onto [] past = omega arith
 words_in-onto (l ∷ ls) past = let more = words_in-onto ls (l ∷ past) in omega (arith, more)
 
-next_ready : Laws → (before : ℕ) (c : Command) (G : Facts) (past : List Line) → G ≡ facts_at past → IsReady before past → AreOwned (facts_at past)
-    → may_stand before c ≡ true → IsInRange c → IsReady (before + 1) (onto (step_lines G c) past)
+next_ready : HistoryLaws → (before : ℕ) (c : Command) (G : Facts) (past : List Line) → G ≡ facts_at past → IsFitAfter before past → AreOwned (facts_at past)
+    → may_stand before c ≡ true → IsInRange c → IsFitAfter (before + 1) (onto (step_lines G c) past)
 next_ready laws before c G past is ready owned may range =
     record { fit = rw is (fitted_step laws before c past ready owned may range).fit; fresh = rw is (fresh_step before c past ready may) }
 
-next_facts : Laws → (ls : List Line) (G : Facts) (past : List Line) → G ≡ facts_at past → after_lines G ls ≡ facts_at (onto ls past)
+next_facts : HistoryLaws → (ls : List Line) (G : Facts) (past : List Line) → G ≡ facts_at past → after_lines G ls ≡ facts_at (onto ls past)
 next_facts laws ls G past is = ap (λ H. after_lines H ls) is ∙ sym (laws.past.facts ls past)
 
-typed_step : Laws → (before : ℕ) (c : Command) (G : Facts) (past : List Line) → G ≡ facts_at past → IsReady before past → AreOwned (facts_at past)
+typed_step : HistoryLaws → (before : ℕ) (c : Command) (G : Facts) (past : List Line) → G ≡ facts_at past → IsFitAfter before past → AreOwned (facts_at past)
     → may_stand before c ≡ true → IsInRange c → IsCountable past → All IsTyped (step_lines G c)
 typed_step laws before c G past is ready owned may range few =
     subst (λ H. All IsTyped (step_lines H c)) (sym is) ((fitted_step laws before c past ready owned may range).typed few)
 
 -- the lines of commands, and of one more where there is one, where few words stand before that one
-typed_from : Laws → (cs last : List Command) (before : ℕ) (G : Facts) (past : List Line) → G ≡ facts_at past → IsReady before past
+typed_from : HistoryLaws → (cs last : List Command) (before : ℕ) (G : Facts) (past : List Line) → G ≡ facts_at past → IsFitAfter before past
     → Follows OwnedAt past (journal_from G (cs ++ last)) → IsPlacedAfter before (cs ++ last) → length last ≤ 1
     → words_in past + words_in (journal_from G cs) < 2 ^ 30 → All IsTyped (journal_from G (cs ++ last))
 typed_from laws [] [] before G past is ready owned placed one few = All-nil IsTyped
@@ -123,15 +123,15 @@ typed_from laws (c ∷ cs) last before G past is ready owned placed one few =
     All-append IsTyped ls (journal_from H (cs ++ last)) (typed_step laws before c G past is ready owned.0 placed.0 placed.1 (omega (arith, few)))
     (typed_from laws cs last (before + 1) H (onto ls past) (next_facts laws ls G past is) (next_ready laws before c G past is ready owned.0 placed.0 placed.1) later placed.2 one (omega (arith, few, sum, turned)))
 
-start_ready : IsReady 0 []
+start_ready : IsFitAfter 0 []
 start_ready = record { fit = no_facts-fit; fresh = λ few. refl }
 
-pub journal_of-typed : Laws → (cs : List Command) → IsPlaced cs → IsCountable (journal_of cs) → All IsTyped (journal_of cs)
+pub journal_of-typed : HistoryLaws → (cs : List Command) → IsPlaced cs → IsCountable (journal_of cs) → All IsTyped (journal_of cs)
 journal_of-typed laws cs placed few =
     let same = append-nil cs in
     subst (λ ds. All IsTyped (journal_of ds)) same
     (typed_from laws cs [] 0 no_facts [] refl start_ready (subst (λ ds. Follows OwnedAt [] (journal_of ds)) (sym same) (laws.journal.owned cs placed)) (subst IsPlaced (sym same) placed) (omega arith) (omega (arith, few)))
 
-pub journal_of-typed_more : Laws → (cs : List Command) (c : Command) → IsPlaced (cs ++ c ∷ []) → IsCountable (journal_of cs) → All IsTyped (journal_of (cs ++ c ∷ []))
+pub journal_of-typed_more : HistoryLaws → (cs : List Command) (c : Command) → IsPlaced (cs ++ c ∷ []) → IsCountable (journal_of cs) → All IsTyped (journal_of (cs ++ c ∷ []))
 journal_of-typed_more laws cs c placed few =
     typed_from laws cs (c ∷ []) 0 no_facts [] refl start_ready (laws.journal.owned (cs ++ c ∷ []) placed) placed (omega arith) (omega (arith, few))

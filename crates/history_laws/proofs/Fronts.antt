@@ -10,7 +10,7 @@ use Rattle.global_model.specs.Journals.{do_commands}
 use Rattle.global_model.specs.Place.{IsPlaced, IsPlacedAfter}
 use Rattle.discovery_laws.specs.Known.{AreAdmitted}
 use Rattle.history_laws.specs.History.{IsDueAt, IsFound, IsHistory, IsTold}
-use Rattle.history_laws.specs.Laws.{Laws}
+use Rattle.history_laws.specs.Laws.{HistoryLaws}
 use Rattle.history_laws.specs.Lawful.{IsLegalAt}
 use Rattle.history_laws.proofs.Follow.{Follows-front}
 use Rattle.history_laws.proofs.Told.{only_journal}
@@ -30,7 +30,7 @@ placed_front before [] ds placed = tt
 placed_front before (c ∷ cs) ds placed = (placed.0, placed.1, placed_front (before + 1) cs ds placed.2)
 
 -- what holds at rest after commands holds at each whole front of their journal, which is that of the first ones
-module _ (laws : Laws) (rests : (commands : List Command) → IsPlaced commands → IsAtRest (facts_after (journal_of commands))
+module _ (laws : HistoryLaws) (rests : (commands : List Command) → IsPlaced commands → IsAtRest (facts_after (journal_of commands))
     → (facts_after (journal_of commands)).server ≡ true → AreAdmitted (facts_after (journal_of commands))) where
   pub found_journal : (commands : List Command) → IsPlaced commands → IsTold (journal_of commands) → IsFound (journal_of commands)
   found_journal commands placed told front rest is whole still server =

@@ -6,7 +6,7 @@ use Rattle.std.proofs.lemmas.Bool.Decides.{nat_tests}
 use Rattle.xm_num.specs.declared.Enclave.{Enclave}
 use Rattle.xm_num.specs.Rows.{at, IsAscending}
 use Rattle.enclave_rules.specs.Ways.{WaysView, place_among}
-use Rattle.history_laws.specs.Laws.{Laws}
+use Rattle.history_laws.specs.Laws.{HistoryLaws}
 use Rattle.xemem_language.specs.declared.line.Line.{Line}
 use Rattle.xemem_language.specs.declared.line.Line.TheVariants as lines
 use Rattle.global_model.specs.Facts.{facts_at, fact_of, at_number}
@@ -44,7 +44,7 @@ module _ (ways : ℕ → WaysView) (of : ℕ) (w : WaysView) (e : ℕ) where
 AreAscending : WaysView → Type 0
 AreAscending w = IsAscending w.backs × IsAscending w.routes
 
-rows_ascend : Laws → (e : ℕ) (past : List Line) → AreAscending ((facts_at past).ways e)
+rows_ascend : HistoryLaws → (e : ℕ) (past : List Line) → AreAscending ((facts_at past).ways e)
 unfolding AreAscending IsStrictlySortedBy
 rows_ascend laws e [] = (tt, tt)
 rows_ascend laws e (lines.Asked of by ∷ past) = changed_has (facts_at past).ways of.0 _ e AreAscending (rows_ascend laws of.0 past) (rows_ascend laws e past)
@@ -77,7 +77,7 @@ way_is_heard e (lines.Route of to over ∷ past) = stays_here (facts_at past).wa
 way_is_heard e (lines.Heard of dead ∷ past) = stays_here (facts_at past).ways of.0 _ e (λ w. w.way) refl ∙ way_is_heard e past
 way_is_heard e (_ ∷ past) = way_is_heard e past
 
-module _ (laws : Laws) (e d : ℕ) where
+module _ (laws : HistoryLaws) (e d : ℕ) where
   back_at : WaysView → Option Enclave
   back_at w = at w.backs d
 

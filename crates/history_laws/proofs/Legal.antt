@@ -7,7 +7,7 @@ use Rattle.global_model.specs.Journals.{Follows}
 use Rattle.global_model.specs.Place.{IsPlaced}
 use Rattle.global_model.specs.Due.{journal_of}
 use Rattle.history_laws.specs.Lawful.{IsLegalAt}
-use Rattle.history_laws.specs.Laws.{Laws}
+use Rattle.history_laws.specs.Laws.{HistoryLaws}
 use Rattle.history_laws.proofs.Lending.{lawful_lending}
 use Rattle.history_laws.proofs.Ruled.{IsRuledAt, ruled_journal}
 
@@ -18,6 +18,6 @@ legal_lines (l ∷ ls) past apt owned ruled = (
   legal_lines ls (l ∷ past) apt.1 owned.1 ruled.1,
 )
 
-pub journal_of-legal : Laws → (cs : List Command) → IsPlaced cs → Follows IsLegalAt [] (journal_of cs)
+pub journal_of-legal : HistoryLaws → (cs : List Command) → IsPlaced cs → Follows IsLegalAt [] (journal_of cs)
 journal_of-legal laws cs placed =
     legal_lines (journal_of cs) [] (laws.journal.apt cs placed) (laws.journal.owned cs placed) (ruled_journal laws cs [] (λ line h. h))

@@ -21,7 +21,7 @@ use Rattle.enclave_rules.specs.Memory.{ProcessView}
 use Rattle.enclave_rules.specs.Pages.{block_frames}
 use Rattle.global_model.specs.Apt.{AptAt, AreOwned, OwnedAt}
 use Rattle.global_model.specs.Facts.{Facts, fact_of, facts_at}
-use Rattle.global_model.specs.Space.{Mapping, IsMapped, IsUnmapped, mapping_of, frame_of, owns, is_own_frame, is_lent_to, is_unused, unused_frames, free_blocks}
+use Rattle.global_model.specs.Space.{Mapping, IsMapped, IsUnmapped, mapping_of, frame_of, owns, is_own_frame, is_lent_to, is_unused, unused_frames, blocks_left}
 use Rattle.history_laws.specs.Lawful.{LawfulLending}
 
 -- ---- rows
@@ -119,7 +119,7 @@ All-range a (suc n) =
 frames_unused : (G : Facts) (e : ℕ) → All (λ f. is_unused G e f.0 ≡ true) (unused_frames G e)
 frames_unused G e = All-map (λ (f : Frame). is_unused G e f.0 ≡ true) (λ n. record { 0 = n }) _ (filter_passes (is_unused G e) (range_with_len 0 (64 * G.pool)))
 
-blocks_free : (G : Facts) → All (λ b. is_free (G.block b.0) ≡ true) (free_blocks G)
+blocks_free : (G : Facts) → All (λ b. is_free (G.block b.0) ≡ true) (blocks_left G)
 blocks_free G = All-map (λ (b : Block). is_free (G.block b.0) ≡ true) (λ n. record { 0 = n }) _ (filter_passes (λ b. is_free (G.block b)) (range_with_len 0 G.pool))
 
 -- the frames of a block lie in it
@@ -145,10 +145,10 @@ lawful_lending past (lines.Alloc e p page frames) apt owned =
     )
 lawful_lending past (lines.Born e kind parent ns blocks) apt owned =
     let G = facts_at past in
-    let P = λ (bs : List Block). (bs ≡ take (length bs) (free_blocks G)) × All (λ block. All (IsUnmapped G) (block_frames block)) bs in
+    let P = λ (bs : List Block). (bs ≡ take (length bs) (blocks_left G)) × All (λ block. All (IsUnmapped G) (block_frames block)) bs in
     subst P (sym apt.lowest) (
-      take-length-take apt.count (free_blocks G),
-      All-take (λ block. All (IsUnmapped G) (block_frames block)) apt.count (free_blocks G)
-          (All-weaker (λ b. is_free (G.block b.0) ≡ true) (λ block. All (IsUnmapped G) (block_frames block)) (block_unmapped G owned) (free_blocks G) (blocks_free G)),
+      take-length-take apt.count (blocks_left G),
+      All-take (λ block. All (IsUnmapped G) (block_frames block)) apt.count (blocks_left G)
+          (All-weaker (λ b. is_free (G.block b.0) ≡ true) (λ block. All (IsUnmapped G) (block_frames block)) (block_unmapped G owned) (blocks_left G) (blocks_free G)),
     )
 lawful_lending past _ apt owned = tt

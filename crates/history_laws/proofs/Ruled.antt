@@ -19,7 +19,7 @@ use Rattle.global_model.specs.Due.{touched_lines, acts_of, step_lines, journal_f
 use Rattle.global_model.specs.Journals.{Follows, onto}
 use Rattle.global_model.specs.Plain.{IsPlain, ArePlain}
 use Rattle.history_laws.specs.Lawful.{LawfulAct, LawfulRefusal, cause_of}
-use Rattle.history_laws.specs.Laws.{Laws}
+use Rattle.history_laws.specs.Laws.{HistoryLaws}
 use Rattle.history_laws.proofs.Follow.{Follows-append}
 
 -- ---- one command
@@ -85,7 +85,7 @@ not_false true is = refl
 not_false false is = cc
 
 -- the mapping of a touched page allows what was wanted
-touch_allowed : Laws → (G : Facts) (e : Enclave) (p : Pid) (addr : ℕ) (want : Want) (m : Mapping)
+touch_allowed : HistoryLaws → (G : Facts) (e : Enclave) (p : Pid) (addr : ℕ) (want : Want) (m : Mapping)
     → refusal_of G (commands.Touch e p addr want) ≡ None → space_of G e.0 p.0 (addr / 4096) ≡ Some m → allows m.access want ≡ true
 touch_allowed laws G e p addr want m none is =
     let found = space_of G e.0 p.0 (addr / 4096) in
@@ -98,7 +98,7 @@ touch_allowed laws G e p addr want m none is =
     let four = laws.act.unmet causes.Denied (denies want found) [] three.1 in
     not_false (allows m.access want) (ap (denies want) (sym is) ∙ four.0)
 
-ruled_touch : Laws → (e : Enclave) (p : Pid) (addr : ℕ) (want : Want) (past : List Line) → IsClosed past
+ruled_touch : HistoryLaws → (e : Enclave) (p : Pid) (addr : ℕ) (want : Want) (past : List Line) → IsClosed past
     → IsRuledUpTo past (step_lines (facts_at past) (commands.Touch e p addr want))
 ruled_touch laws e p addr want past closed =
     with_refusal (commands.Touch e p addr want) past closed (λ none. by none (space_of (facts_at past) e.0 p.0 (addr / 4096)) refl)
@@ -112,7 +112,7 @@ ruled_touch laws e p addr want past closed =
       closed = λ line h. h;
     }
 
-ruled_step : Laws → (c : Command) (past : List Line) → IsClosed past → IsRuledUpTo past (step_lines (facts_at past) c)
+ruled_step : HistoryLaws → (c : Command) (past : List Line) → IsClosed past → IsRuledUpTo past (step_lines (facts_at past) c)
 ruled_step laws (commands.Host blocks ns) past closed =
     let c = commands.Host blocks ns in
     with_refusal c past closed (λ none. ruled_first c past _ _ none refl tt (λ line h. h) (laws.act.behind (facts_at (lines.Do c ∷ past)) c tt))
@@ -124,7 +124,7 @@ ruled_step laws (commands.Alloc e p at pages) past closed =
 ruled_step laws (commands.Touch e p addr want) past closed = ruled_touch laws e p addr want past closed
 ruled_step laws c past closed = ruled_quiet c past closed (laws.act.quiet (facts_at (lines.Do c ∷ past)) c tt)
 
-pub ruled_journal : Laws → (cs : List Command) (past : List Line) → IsClosed past → Follows IsRuledAt past (journal_from (facts_at past) cs)
+pub ruled_journal : HistoryLaws → (cs : List Command) (past : List Line) → IsClosed past → Follows IsRuledAt past (journal_from (facts_at past) cs)
 ruled_journal laws [] past closed = tt
 ruled_journal laws (c ∷ cs) past closed =
     let G = facts_at past in

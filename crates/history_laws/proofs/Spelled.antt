@@ -15,7 +15,7 @@ use Rattle.xemem_language.specs.declared.line.Line.TheVariants as lines
 use Rattle.global_model.specs.Facts.{Facts, after_lines, no_facts}
 use Rattle.xemem_language.specs.Ranges.{IsPlainOption, IsSpelledBody, IsSpelled}
 use Rattle.global_model.specs.Plain.{IsTellable, IsAct}
-use Rattle.history_laws.specs.Laws.{Laws}
+use Rattle.history_laws.specs.Laws.{HistoryLaws}
 use Rattle.global_model.specs.Place.{IsPlacedAfter, IsPlaced}
 use Rattle.global_model.specs.Due.{command_lines, step_lines, journal_from, journal_of}
 use Rattle.global_model.specs.Carriage.{CarriedAt}
@@ -55,7 +55,7 @@ tellable_acts : (ls ms : List Line) → AllByRecursion IsAct ls → AllByRecursi
 tellable_acts [] ms acts more = more
 tellable_acts (l ∷ ls) ms acts more = (tellable_act l acts.0, tellable_acts ls ms acts.1 more)
 
-tellable_journal : Laws → (cs : List Command) (before : ℕ) (G : Facts) → IsPlacedAfter before cs → AllByRecursion IsTellable (journal_from G cs)
+tellable_journal : HistoryLaws → (cs : List Command) (before : ℕ) (G : Facts) → IsPlacedAfter before cs → AllByRecursion IsTellable (journal_from G cs)
 tellable_journal laws [] before G placed = tt
 tellable_journal laws (c ∷ cs) before G placed =
     let H = after_lines G (step_lines G c) in
@@ -71,5 +71,5 @@ spelled_lines (l ∷ ls) past tellable carried =
     All-cons IsSpelled l ls (spelled_line past l tellable.0 carried.0) (spelled_lines ls (l ∷ past) tellable.1 carried.1)
 
 -- the records that are sent are valid, as the journal is carried
-pub journal_of-spelled : Laws → (cs : List Command) → IsPlaced cs → All IsSpelled (journal_of cs)
+pub journal_of-spelled : HistoryLaws → (cs : List Command) → IsPlaced cs → All IsSpelled (journal_of cs)
 journal_of-spelled laws cs placed = spelled_lines (journal_of cs) [] (tellable_journal laws cs 0 no_facts placed) (laws.journal.carried cs placed)

@@ -24,10 +24,10 @@ use Rattle.enclave_rules.specs.Ways.{place_among}
 use Rattle.enclave_rules.specs.Sending.{Server, knows_way, way_to, drop_lines, over_lines}
 use Rattle.enclave_rules.specs.Steps.{query_of, here_of, register_of, admit_of, is_stray, query_lines, told_askers, here_lines, register_lines, admit_over, admit_to, body_lines, record_lines, handled_lines}
 use Rattle.global_model.specs.Facts.{Facts, ChannelFact, after_line, after_lines, fact_of}
-use Rattle.global_model.specs.Channels.{size_of, waiting_bytes, whole_records, arriving}
+use Rattle.global_model.specs.Channels.{size_of, waiting_in, whole_records, arriving}
 use Rattle.global_model.specs.Views.{view_of}
 use Rattle.global_model.specs.Due.{got_lines, took_lines, deliver_lines, next_rest, rest_of_record, channels_of, waits, waiting_channels, first_waiting, settle_end, settle_from}
-use Rattle.history_laws.specs.Laws.{Laws}
+use Rattle.history_laws.specs.Laws.{HistoryLaws}
 use Rattle.history_laws.proofs.Fit.{IsNumber, AllNumbers, IsFitWays, IsFit, IsSteady, AreSteady, fit_line, fit_lines}
 use Rattle.history_laws.proofs.Lending.{All-range}
 
@@ -223,17 +223,17 @@ steady_took G x y count fit from to few =
 
 pub steady_deliver : (G : Facts) (x y : Enclave) (count : ℕ) → IsFit G → IsNumber x → IsNumber y → Is32 count → AreSteady (deliver_lines G x y count)
 steady_deliver G x y count fit from to few =
-    let waiting = length (waiting_bytes G x.0 y.0) in
+    let waiting = length (waiting_in G x.0 y.0) in
     steady_either (waiting == 0) (lines.Idle x y ∷ []) (took_lines G x y (min count waiting)) ((from, to), tt) (steady_took G x y (min count waiting) fit from to (omega (arith, few)))
 
 -- ---- settles
 
 -- both ends of a channel
-abbrev AreNumbers : Enclave × Enclave → Type 0
-AreNumbers ends = IsNumber ends.0 × IsNumber ends.1
+abbrev AreBothNumbers : Enclave × Enclave → Type 0
+AreBothNumbers ends = IsNumber ends.0 × IsNumber ends.1
 
-channels_fit : (G : Facts) → IsFit G → (cs : List ℕ) → All (λ c. c ≤ 255) cs → All AreNumbers (flat_map (channels_of G) cs)
-channels_fit G fit [] low = All-nil AreNumbers
+channels_fit : (G : Facts) → IsFit G → (cs : List ℕ) → All (λ c. c ≤ 255) cs → All AreBothNumbers (flat_map (channels_of G) cs)
+channels_fit G fit [] low = All-nil AreBothNumbers
 channels_fit G fit (c ∷ cs) low =
     let child : c ≤ 255 = All-head (λ n. n ≤ 255) c cs low in
     let parent : Enclave = (fact_of (G.enclave c)).parent in
@@ -241,21 +241,21 @@ channels_fit G fit (c ∷ cs) low =
     let up : Enclave × Enclave = (record { 0 = c }, parent) in
     let down : Enclave × Enclave = (parent, record { 0 = c }) in
     let more = flat_map (channels_of G) cs in
-    All-cons AreNumbers up (down ∷ more) (child, above) (All-cons AreNumbers down more (above, child) (channels_fit G fit cs (All-tail (λ n. n ≤ 255) c cs low)))
+    All-cons AreBothNumbers up (down ∷ more) (child, above) (All-cons AreBothNumbers down more (above, child) (channels_fit G fit cs (All-tail (λ n. n ≤ 255) c cs low)))
 
 first_has : {X : Type 0} (P : X → Type 0) (xs : List X) (x : X) → All P xs → slice_get xs 0 ≡ Some x → P x
 first_has P [] x all is = cc
 first_has P (y ∷ ys) x all is = let same : y ≡ x = cc in subst P same (All-head P y ys all)
 
-first_fits : (G : Facts) (channel : Enclave × Enclave) → IsFit G → first_waiting G ≡ Some channel → AreNumbers channel
+first_fits : (G : Facts) (channel : Enclave × Enclave) → IsFit G → first_waiting G ≡ Some channel → AreBothNumbers channel
 first_fits G channel fit is =
     let most = fit.tree.most in
     let low = All-weaker (λ k. (1 ≤ k) × (k < 1 + (G.born - 1))) (λ k. k ≤ 255) (λ k h. omega (arith, h.0, h.1, most)) (range_with_len 1 (G.born - 1)) (All-range 1 (G.born - 1)) in
     let all = channels_fit G fit (range_with_len 1 (G.born - 1)) low in
-    first_has AreNumbers (waiting_channels G) channel (All-filter (waits G) AreNumbers (flat_map (channels_of G) (range_with_len 1 (G.born - 1))) all) is
+    first_has AreBothNumbers (waiting_channels G) channel (All-filter (waits G) AreBothNumbers (flat_map (channels_of G) (range_with_len 1 (G.born - 1))) all) is
 
 -- a delivery of a settle takes no more than a record
-rest_few : Laws → (taken : ℕ) (rs : List Record) → AreValid rs → rest_of_record taken rs ≤ 16404
+rest_few : HistoryLaws → (taken : ℕ) (rs : List Record) → AreValid rs → rest_of_record taken rs ≤ 16404
 rest_few laws taken [] valid = omega arith
 rest_few laws taken (r ∷ rs) valid =
     let most = laws.wire.most r valid.0 in
@@ -274,7 +274,7 @@ abbrev settle_at : ℕ → ℕ → Facts → Option (Enclave × Enclave) → Lis
 settle_at left made G first =
     option_map_or (λ channel. let own = deliver_lines G channel.0 channel.1 (next_rest G channel.0 channel.1) in own ++ settle_from left (made + 1) (after_lines G own)) first (settle_end G made ∷ [])
 
-pub steady_settle : Laws → (left made : ℕ) (G : Facts) → IsFit G → Is32 (made + left) → AreSteady (settle_from left made G)
+pub steady_settle : HistoryLaws → (left made : ℕ) (G : Facts) → IsFit G → Is32 (made + left) → AreSteady (settle_from left made G)
 steady_settle laws zero made G fit few = steady_end G made (omega (arith, few))
 steady_settle laws (suc left) made G fit few = by (first_waiting G) refl (λ H after. steady_settle laws left (made + 1) H after (omega (arith, few)))
   where

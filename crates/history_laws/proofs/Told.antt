@@ -9,7 +9,7 @@ use Rattle.global_model.specs.Due.{command_lines, step_lines, journal_from, jour
 use Rattle.global_model.specs.Plain.{IsAct, AreActs}
 use Rattle.global_model.specs.Journals.{Follows, onto, do_commands}
 use Rattle.history_laws.specs.History.{IsDueAt, IsTold, IsWhole}
-use Rattle.history_laws.specs.Laws.{Laws}
+use Rattle.history_laws.specs.Laws.{HistoryLaws}
 use Rattle.history_laws.proofs.Follow.{Follows-append}
 
 -- ---- lines that begin no command
@@ -103,12 +103,12 @@ told_acts (line ∷ journal) past rest acts =
 nothing_due : (past : List Line) → rest_of past ≡ [] → due_line past ≡ None
 nothing_due past none = due_line-first past ∙ ap (λ ls. slice_get ls 0) none
 
-told_step : Laws → (command : Command) (past : List Line) → rest_of past ≡ [] → IsToldUpTo past (step_lines (facts_at past) command)
+told_step : HistoryLaws → (command : Command) (past : List Line) → rest_of past ≡ [] → IsToldUpTo past (step_lines (facts_at past) command)
 told_step laws command past none =
     let more = told_acts (command_lines (facts_at past) command) (lines.Do command ∷ past) (rest_of-do command past) (laws.act.acts (facts_at past) command) in
     record { told = (nothing_due past none, more.told); whole = more.whole }
 
-pub told_journal : Laws → (cs : List Command) (G : Facts) (past : List Line) → G ≡ facts_at past → rest_of past ≡ []
+pub told_journal : HistoryLaws → (cs : List Command) (G : Facts) (past : List Line) → G ≡ facts_at past → rest_of past ≡ []
     → IsToldUpTo past (journal_from G cs)
 told_journal laws [] G past is none = record { told = tt; whole = none }
 told_journal laws (c ∷ cs) G past is none =
@@ -125,10 +125,10 @@ rest_of-nil : rest_of [] ≡ []
 unfolding rest_of rest_since
 rest_of-nil = refl
 
-pub journal_of-told : Laws → (cs : List Command) → IsToldUpTo [] (journal_of cs)
+pub journal_of-told : HistoryLaws → (cs : List Command) → IsToldUpTo [] (journal_of cs)
 journal_of-told laws cs = told_journal laws cs no_facts [] refl rest_of-nil
 
-pub journal_of-whole : Laws → (cs : List Command) → IsWhole (journal_of cs)
+pub journal_of-whole : HistoryLaws → (cs : List Command) → IsWhole (journal_of cs)
 journal_of-whole laws cs = nothing_due _ (journal_of-told laws cs).whole
 
 -- ---- no other journal is told and whole
@@ -145,7 +145,7 @@ first_some : (ls : List Line) (line : Line) → slice_get ls 0 ≡ Some line →
 first_some [] line some = cc
 first_some (l ∷ ls) line some = let same : l ≡ line = cc in ap (λ x. x ∷ ls) same
 
-so_far-do : Laws → (front : List Line) (c : Command) → IsSoFar front → IsDueAt (onto front []) (lines.Do c) → IsSoFar (front ++ lines.Do c ∷ [])
+so_far-do : HistoryLaws → (front : List Line) (c : Command) → IsSoFar front → IsDueAt (onto front []) (lines.Do c) → IsSoFar (front ++ lines.Do c ∷ [])
 unfolding IsSoFar
 so_far-do laws front c is due =
     let past = onto front [] in
@@ -157,7 +157,7 @@ so_far-do laws front c is due =
     let journal : journal_of (do_commands (front ++ lines.Do c ∷ [])) ≡ front ++ step (after_lines no_facts front) = ap journal_of (laws.past.commands front (lines.Do c ∷ [])) ∙ laws.journal.more (do_commands front) c ∙ ap (λ ls. ls ++ step (after_lines no_facts ls)) whole in
     journal ∙ sym (append_assoc front (lines.Do c ∷ []) (command_lines (after_lines no_facts front) c)) ∙ ap (λ ls. (front ++ lines.Do c ∷ []) ++ ls) (sym rest)
 
-so_far-act : Laws → (front : List Line) (line : Line) → is_do line ≡ false → IsSoFar front → IsDueAt (onto front []) line
+so_far-act : HistoryLaws → (front : List Line) (line : Line) → is_do line ≡ false → IsSoFar front → IsDueAt (onto front []) line
     → IsSoFar (front ++ line ∷ [])
 unfolding IsSoFar
 so_far-act laws front line act is due =
@@ -167,12 +167,12 @@ so_far-act laws front line act is due =
     let commands : do_commands (front ++ line ∷ []) ≡ do_commands front = laws.past.commands front (line ∷ []) ∙ ap (λ cs. do_commands front ++ cs) (do_commands-act line [] act) ∙ append-nil (do_commands front) in
     ap journal_of commands ∙ is ∙ ap (λ ls. front ++ ls) first ∙ sym (append_assoc front (line ∷ []) (drop 1 (rest_of past))) ∙ ap (λ ls. (front ++ line ∷ []) ++ ls) (sym rest)
 
-so_far-line : Laws → (front : List Line) (line : Line) → IsSoFar front → IsDueAt (onto front []) line → IsSoFar (front ++ line ∷ [])
+so_far-line : HistoryLaws → (front : List Line) (line : Line) → IsSoFar front → IsDueAt (onto front []) line → IsSoFar (front ++ line ∷ [])
 unfolding is_do
 so_far-line laws front (lines.Do c) is due = so_far-do laws front c is due
 so_far-line laws front line is due = so_far-act laws front line refl is due
 
-so_far-journal : Laws → (back front : List Line) → Follows IsDueAt (onto front []) back → IsSoFar front → IsSoFar (front ++ back)
+so_far-journal : HistoryLaws → (back front : List Line) → Follows IsDueAt (onto front []) back → IsSoFar front → IsSoFar (front ++ back)
 so_far-journal laws [] front told is = subst IsSoFar (sym (append-nil front)) is
 so_far-journal laws (line ∷ back) front told is =
     let past : onto (front ++ line ∷ []) [] ≡ line ∷ onto front [] = laws.past.pasts front (line ∷ []) [] in
@@ -184,11 +184,11 @@ unfolding IsSoFar
 so_far-nil = sym rest_of-nil
 
 -- what is told is a front of the journal of its commands
-pub told_front : Laws → (journal : List Line) → IsTold journal → journal_of (do_commands journal) ≡ journal ++ rest_of (onto journal [])
+pub told_front : HistoryLaws → (journal : List Line) → IsTold journal → journal_of (do_commands journal) ≡ journal ++ rest_of (onto journal [])
 unfolding IsSoFar
 told_front laws journal told = so_far-journal laws journal [] told so_far-nil
 
-pub only_journal : Laws → (journal : List Line) → IsTold journal → IsWhole journal → journal ≡ journal_of (do_commands journal)
+pub only_journal : HistoryLaws → (journal : List Line) → IsTold journal → IsWhole journal → journal ≡ journal_of (do_commands journal)
 only_journal laws journal told whole =
     let none : rest_of (onto journal []) ≡ [] = first_none _ (sym (due_line-first (onto journal [])) ∙ whole) in
     sym (told_front laws journal told ∙ ap (λ ls. journal ++ ls) none ∙ append-nil journal)

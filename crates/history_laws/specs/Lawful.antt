@@ -10,12 +10,12 @@ use Rattle.enclave_rules.specs.Pages.{allows, block_frames}
 use Rattle.global_model.specs.Facts.{facts_at}
 use Rattle.global_model.specs.Journals.{command_at}
 use Rattle.global_model.specs.Refusals.{refusal_of}
-use Rattle.global_model.specs.Space.{IsUnmapped, free_blocks, space_of, unused_frames}
+use Rattle.global_model.specs.Space.{IsUnmapped, blocks_left, space_of, unused_frames}
 
 -- lending: what is allocated or lent are the lowest unused frames and the lowest free blocks, and none of it is mapped
 abbrev pub LawfulLending : List Line → Line → Type 0
 LawfulLending past (lines.Alloc e p at frames) = (frames ≡ take (length frames) (unused_frames (facts_at past) e.0)) × All (IsUnmapped (facts_at past)) frames
-LawfulLending past (lines.Born e kind parent ns blocks) = (blocks ≡ take (length blocks) (free_blocks (facts_at past))) × All (λ block. All (IsUnmapped (facts_at past)) (block_frames block)) blocks
+LawfulLending past (lines.Born e kind parent ns blocks) = (blocks ≡ take (length blocks) (blocks_left (facts_at past))) × All (λ block. All (IsUnmapped (facts_at past)) (block_frames block)) blocks
 LawfulLending past line = Unit {0}
 
 -- the mapping allows what the command at hand wants

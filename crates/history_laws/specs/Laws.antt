@@ -14,7 +14,7 @@ use Rattle.global_model.specs.Facts.{Facts, facts_after, after_lines, facts_at}
 use Rattle.global_model.specs.Journals.{Follows, do_commands, onto}
 use Rattle.global_model.specs.Apt.{AptAt, OwnedAt}
 use Rattle.global_model.specs.Carriage.{IsCarried}
-use Rattle.global_model.specs.Plain.{ArePlain, AreActs, IsQuiet, IsBirth}
+use Rattle.global_model.specs.Plain.{ArePlain, AreActs, IsQuiet, BearsOne}
 use Rattle.global_model.specs.Place.{IsPlaced}
 use Rattle.global_model.specs.Refusals.{Condition, when, first_cause}
 use Rattle.global_model.specs.Due.{acts_of, command_lines, step_lines, journal_of}
@@ -37,22 +37,22 @@ pub record JournalLaws : Type 0 where
 pub record ActLaws : Type 0 where
   pub acts : (G : Facts) (command : Command) → AreActs (command_lines G command)
   pub quiet : (G : Facts) (command : Command) → IsQuiet command → ArePlain (acts_of G command)
-  pub behind : (G : Facts) (command : Command) → IsBirth command → ArePlain (drop 1 (acts_of G command))
+  pub behind : (G : Facts) (command : Command) → BearsOne command → ArePlain (drop 1 (acts_of G command))
   pub unmet : (cause : Cause) (holds : Bool) (others : List Condition) → first_cause (when cause holds ∷ others) ≡ None → (holds ≡ false) × (first_cause others ≡ None)
 
 -- what a table of pages has at a number after a change
-pub record RowLaws : Type 0 where
+pub record PutLaws : Type 0 where
   pub pages : (table : List (ℕ × Page)) (k q : ℕ) (v : Page) → at (put table k v) q ≡ (if k == q then Some v else at table q)
 
 -- the spelling of a record
-pub record WireLaws : Type 0 where
+pub record SpellingLaws : Type 0 where
   pub most : (r : Record) → is_valid r ≡ true → length (spelling_of r) ≤ 16404
   pub bytes : (r : Record) → is_valid r ≡ true → AllByRecursion (λ byte. byte < 256) (spelling_of r)
 
-pub record Laws : Type 0 where
+pub record HistoryLaws : Type 0 where
   pub past : PastLaws
   pub journal : JournalLaws
   pub act : ActLaws
-  pub row : RowLaws
+  pub row : PutLaws
   pub table : TableLaws Enclave
-  pub wire : WireLaws
+  pub wire : SpellingLaws

@@ -13,7 +13,7 @@ ghost use Rattle.history_laws.specs.History.{IsHistory, IsLegal, IsTold, IsWhole
 ghost use Rattle.history_laws.specs.Fitting.{IsCountable};
 ghost use Rattle.history_laws.specs.Ways.{way_heard, back_heard, route_heard, asker_heard};
 ghost use Rattle.history_laws.specs.Counts.{IsLimited, births_in, starts_in, starts_by, has_server};
-ghost use Rattle.history_laws.specs.Laws.{Laws};
+ghost use Rattle.history_laws.specs.Laws.{HistoryLaws};
 
 use discovery_laws::rest_is_admitted;
 use global_model::{
@@ -26,7 +26,7 @@ use xm_num::{Enclave, Page};
 
 // The laws of the crates below, all at once.
 fn laws()
-    ensures { Laws }
+    ensures { HistoryLaws }
 {
     pasts_grow();
     journals_grow();

@@ -10,15 +10,15 @@ use Rattle.xemem_wire.specs.Stream.{first_bad}
 use Rattle.xemem_wire.specs.Decoding.{Decoding, after_piece}
 use Rattle.xm_num.specs.declared.Neighbour.{Neighbour}
 use Rattle.enclave_node.specs.Nodes.{NodeView, number_of, feed_at, fed}
-use Rattle.node_machine.specs.Links.{IsFlowing}
+use Rattle.node_machine.specs.Links.{IsLinkFlowing}
 use Rattle.node_machine.specs.declared.pair.Hop.TheVariants as hops
-use Rattle.node_machine.specs.Machine.{MachineView, are_known, enclave, has_node, hop_in, node_at, pair_at}
+use Rattle.node_machine.specs.Machine.{MachineView, are_known, enclave_numbered, has_node, hop_in, node_at, pair_at}
 use Rattle.node_machine.specs.Ready.{CanTake, IsReady}
-use Rattle.node_machine.specs.Laws.{Laws}
+use Rattle.node_machine.specs.Laws.{MachineLaws}
 use Rattle.node_machine.proofs.Hops.{up_is, down_is, is_known}
 
 -- no field of the first n waiting bytes is bad: with what the decoder has they are a front of what comes
-pub never_bad : Laws → (link : Channel) (d : Decoding) → IsFlowing link d → (n : ℕ) → (bad : BadField) → (after_piece d (take n (waiting_bytes link))).bad ≡ Some bad → ⊥
+pub never_bad : MachineLaws → (link : Channel) (d : Decoding) → IsLinkFlowing link d → (n : ℕ) → (bad : BadField) → (after_piece d (take n (waiting_bytes link))).bad ≡ Some bad → ⊥
 unfolding after_piece
 never_bad laws link d f n bad is =
     let waiting = waiting_bytes link in
@@ -32,7 +32,7 @@ never_bad laws link d f n bad is =
     cc
 
 -- nor is one that the node takes over the channel from its neighbour on that side
-pub never_refused : Laws → (link : Channel) (node old : NodeView) (side : Neighbour) (from : Enclave) (n : ℕ) (piece : List ℕ) (bad : BadField) → node ≡ old → IsFlowing link (feed_at old.feeds from)
+pub never_refused : MachineLaws → (link : Channel) (node old : NodeView) (side : Neighbour) (from : Enclave) (n : ℕ) (piece : List ℕ) (bad : BadField) → node ≡ old → IsLinkFlowing link (feed_at old.feeds from)
     → number_of old.view side ≡ from → n ≤ length (waiting_bytes link) → piece ≡ take n (waiting_bytes link) → (fed node (number_of node.view side) piece).bad ≡ Some bad → ⊥
 never_refused laws link node old side from n piece bad is flows side_is fits piece_is refused =
     never_bad laws link (feed_at old.feeds from) flows n bad (
@@ -48,8 +48,8 @@ take_up m x y i ready hop =
     let k = up_is m.pairs known x y i hop in
     let h = ready.links i k.within in
     let parent = k.parent_is in
-    subst (λ c. CanTake (pair_at m.pairs i).up (node_at m.nodes y.0) (enclave c)) (sym k.child_is)
-    (subst (λ e. CanTake (pair_at m.pairs i).up (node_at m.nodes e) (enclave (i + 1))) parent (h.up (ap (has_node m.nodes) parent ∙ both.0)))
+    subst (λ c. CanTake (pair_at m.pairs i).up (node_at m.nodes y.0) (enclave_numbered c)) (sym k.child_is)
+    (subst (λ e. CanTake (pair_at m.pairs i).up (node_at m.nodes e) (enclave_numbered (i + 1))) parent (h.up (ap (has_node m.nodes) parent ∙ both.0)))
 
 pub take_down : (m : MachineView) (x y : Enclave) (i : ℕ) → IsReady m → hop_in m x y ≡ hops.Down i → CanTake (pair_at m.pairs i).down (node_at m.nodes y.0) x × ((node_at m.nodes y.0).view.core.parent ≡ x)
 take_down m x y i ready hop =
@@ -57,7 +57,7 @@ take_down m x y i ready hop =
     let both = and_parts _ _ (is_known m.pairs known x y (λ none. let no : hops.Down i ≡ hops.NoEnclave = sym hop ∙ none in cc)) in
     let k = down_is m.pairs known x y i hop in
     let h = ready.links i k.within in
-    let parent : (pair_at m.pairs i).parent ≡ x = ap enclave k.parent_is in
+    let parent : (pair_at m.pairs i).parent ≡ x = ap enclave_numbered k.parent_is in
     let child = sym k.child_is in
     let lives : has_node m.nodes (i + 1) ≡ true = ap (has_node m.nodes) child ∙ both.0 in (
       subst (λ c. CanTake (pair_at m.pairs i).down (node_at m.nodes c) x) child (subst (CanTake (pair_at m.pairs i).down (node_at m.nodes (i + 1))) parent (h.down lives)),

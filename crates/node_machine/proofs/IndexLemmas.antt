@@ -12,7 +12,7 @@ use Rattle.node_machine.specs.declared.pair.Pair.{Pair}
 use Rattle.node_machine.specs.declared.pair.Hop.TheVariants as hops
 use Rattle.node_machine.specs.Machine.{no_pair, pair_at, is_idle, waiting_hops_of, waiting_hops, first_hop}
 use Rattle.node_machine.specs.Index.{has, IsIndex, IsNoted, SameBut, up_number, down_number}
-use Rattle.node_machine.specs.Laws.{Laws}
+use Rattle.node_machine.specs.Laws.{MachineLaws}
 use Rattle.node_machine.proofs.Lists.{set_case, set_field}
 
 pub busy_is : (link : Channel) → 0 < length (waiting_bytes link) → is_idle link ≡ false
@@ -177,7 +177,7 @@ on_err (Ok value) fails holds = cc
 on_err (Err fault) fails holds = holds
 
 -- a record is sent over the link, and its number is there
-pub noted_sent : Laws → (keys : List ℕ) (n : ℕ) (old new : Channel) (r : Record) → has keys n ≡ true → new ≡ sent old (spelling_of r) → IsNoted keys n new
+pub noted_sent : MachineLaws → (keys : List ℕ) (n : ℕ) (old new : Channel) (r : Record) → has keys n ≡ true → new ≡ sent old (spelling_of r) → IsNoted keys n new
 noted_sent laws keys n old new r here is =
     let size = ap (λ link. length (waiting_bytes link)) is ∙ ap length (laws.send old (spelling_of r)) ∙ length-append (waiting_bytes old) (spelling_of r) in
     noted_some keys n new here (omega (arith, size, laws.least r))
@@ -187,7 +187,7 @@ pub noted_kept : (keys : List ℕ) (n : ℕ) (old new : Channel) → IsNoted key
 noted_kept keys n old new noted is = subst (IsNoted keys n) (sym is) noted
 
 -- bytes are taken out of the link, in which something still waits
-pub noted_taken : Laws → (keys : List ℕ) (n count : ℕ) (old new : Channel) → IsNoted keys n old → new ≡ taken old count → 0 < length (waiting_bytes new) → IsNoted keys n new
+pub noted_taken : MachineLaws → (keys : List ℕ) (n count : ℕ) (old new : Channel) → IsNoted keys n old → new ≡ taken old count → 0 < length (waiting_bytes new) → IsNoted keys n new
 noted_taken laws keys n count old new noted is left =
     let size = ap (λ link. length (waiting_bytes link)) is ∙ ap length (laws.take old count) ∙ length-drop count (waiting_bytes old) in
     noted_still keys n old new noted (omega (arith, size, left)) left

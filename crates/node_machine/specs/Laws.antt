@@ -5,7 +5,7 @@ use Rattle.xemem_language.specs.declared.record.Record.{Record}
 use Rattle.xemem_wire.specs.Spelling.{spelling_of, spellings_of, AreValid}
 use Rattle.xemem_wire.specs.Stream.{first_bad}
 
-pub record Laws : Type 0 where
+pub record MachineLaws : Type 0 where
   -- a front of what valid records spell has no bad field
   pub fine : (rs : List Record) (bytes more : List ℕ) → AreValid rs → bytes ++ more ≡ spellings_of rs → first_bad bytes ≡ None
   pub least : (r : Record) → 16 ≤ length (spelling_of r)

@@ -9,7 +9,7 @@ use Rattle.xemem_wire.specs.Decoding.{Decoding}
 
 -- What isn't decoded yet are the spellings of valid records, less what was cut off at the end; no field is bad, and every whole
 -- record was given.
-pub record IsFlowing (link : Channel) (d : Decoding) : Type 0 where
+pub record IsLinkFlowing (link : Channel) (d : Decoding) : Type 0 where
   pub coming : List Record
   pub off : List ℕ
   pub valid : AreValid coming

@@ -54,8 +54,8 @@ abbrev pub node_at : List NodeView → ℕ → NodeView
 node_at nodes e = slice_index_or nodes e (unborn_node 0 host [])
 
 -- the enclave of that number
-abbrev pub enclave : ℕ → Enclave
-enclave e = record { 0 = e }
+abbrev pub enclave_numbered : ℕ → Enclave
+enclave_numbered e = record { 0 = e }
 
 abbrev pub no_pair : Pair
 no_pair = record { parent = host; up = fresh; down = fresh }
@@ -146,8 +146,8 @@ abbrev pub at_node : MachineView → Enclave → List Line → List Line
 at_node m e journal = if has_node m.nodes e.0 then journal else refusal causes.NoEnclave
 
 -- the number of the next enclave
-abbrev pub next_enclave : MachineView → Enclave
-next_enclave m = record { 0 = length m.nodes }
+abbrev pub next_born : MachineView → Enclave
+next_born m = record { 0 = length m.nodes }
 
 -- the free blocks, by what the host keeps
 abbrev pub free_of : MachineView → List Block
@@ -161,7 +161,7 @@ is_short m blocks = nat_lt (length (free_of m)) blocks
 
 abbrev pub booted_lines : MachineView → Kind → Enclave → ℕ → Bool → List Line
 booted_lines m kind parent blocks ns =
-    birth_lines (next_enclave m) kind parent (take blocks (free_of m)) ns (node_at m.nodes parent.0).view.core.heard ++ adopt_lines (node_at m.nodes parent.0).view (next_enclave m)
+    birth_lines (next_born m) kind parent (take blocks (free_of m)) ns (node_at m.nodes parent.0).view.core.heard ++ adopt_lines (node_at m.nodes parent.0).view (next_born m)
 
 abbrev pub boot_by : MachineView → Kind → Enclave → ℕ → Bool → List Line
 boot_by m kind parent blocks ns =
@@ -193,7 +193,7 @@ after_birth m child kind parent blocks ns =
 -- the nodes once the host lent these blocks, the parent took the child, and the child is born
 abbrev pub booted_nodes : MachineView → Kind → Enclave → ℕ → Bool → List NodeView
 booted_nodes m kind parent blocks ns =
-    let child = next_enclave m in
+    let child = next_born m in
     let lending = slice_set m.nodes 0 (lent (node_at m.nodes 0) child parent (take blocks (free_of m))) in
     let taking = adopted (node_at lending parent.0) child kind in
     slice_set lending parent.0 (wrote Nothing taking (adopt_lines (node_at m.nodes parent.0).view child))
@@ -242,8 +242,8 @@ abbrev pub is_idle : Channel → Bool
 is_idle link = length (waiting_bytes link) == 0
 
 -- a delivery over a channel: its lines, and the machine after it
-abbrev pub over_lines : MachineView → Enclave → Enclave → ℕ → Hop → List Line
-over_lines m x y count hop =
+abbrev pub lines_over : MachineView → Enclave → Enclave → ℕ → Hop → List Line
+lines_over m x y count hop =
     let link = link_of m.pairs hop in
     if is_idle link then lines.Idle x y ∷ []
     else lines.Took x y (taken_by link count) ∷ fed_lines (node_at m.nodes y.0) x (take (taken_by link count) (waiting_bytes link))
@@ -259,7 +259,7 @@ over_machine m x y count hop =
 abbrev pub deliver_by : MachineView → Enclave → Enclave → ℕ → Hop → List Line
 deliver_by m x y count hops.NoEnclave = refusal causes.NoEnclave
 deliver_by m x y count hops.NoLink = refusal causes.NoLink
-deliver_by m x y count hop = over_lines m x y count hop
+deliver_by m x y count hop = lines_over m x y count hop
 
 abbrev pub after_deliver : MachineView → Enclave → Enclave → ℕ → Hop → MachineView
 after_deliver m x y count hops.NoEnclave = m

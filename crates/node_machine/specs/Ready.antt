@@ -10,23 +10,23 @@ use Rattle.xemem_language.specs.Ranges.{IsInRange}
 use Rattle.enclave_rules.specs.Built.{is_built}
 use Rattle.enclave_node.specs.Nodes.{NodeView, feed_at}
 use Rattle.node_machine.specs.declared.pair.Pair.{Pair}
-use Rattle.node_machine.specs.Links.{IsFlowing}
-use Rattle.node_machine.specs.Machine.{MachineView, enclave, has_node, node_at, pair_at}
+use Rattle.node_machine.specs.Links.{IsLinkFlowing}
+use Rattle.node_machine.specs.Machine.{MachineView, enclave_numbered, has_node, node_at, pair_at}
 
 pub record IsNodeReady (e : ℕ) (node : NodeView) : Type 0 where
-  pub me : node.view.me ≡ enclave e
+  pub me : node.view.me ≡ enclave_numbered e
   pub going : node.failed ≡ false
 
 -- the node may take what waits in the link from x: it flows into a decoder of the node
 pub record CanTake (link : Channel) (node : NodeView) (x : Enclave) : Type 0 where
-  pub flows : IsFlowing link (feed_at node.feeds x)
+  pub flows : IsLinkFlowing link (feed_at node.feeds x)
   pub open_end : IsSome (at node.feeds x.0)
 
 -- child c lies below its parent, and each of the two that lives may take what the other sent
 pub record IsPairReady (m : MachineView) (c : ℕ) (pair : Pair) : Type 0 where
   pub above : pair.parent.0 < c
   pub parent : has_node m.nodes c ≡ true → (node_at m.nodes c).view.core.parent ≡ pair.parent
-  pub up : has_node m.nodes pair.parent.0 ≡ true → CanTake pair.up (node_at m.nodes pair.parent.0) (enclave c)
+  pub up : has_node m.nodes pair.parent.0 ≡ true → CanTake pair.up (node_at m.nodes pair.parent.0) (enclave_numbered c)
   pub down : has_node m.nodes c ≡ true → CanTake pair.down (node_at m.nodes c) pair.parent
 
 pub record IsReady (m : MachineView) : Type 0 where

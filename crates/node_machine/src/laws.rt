@@ -3,7 +3,7 @@ ghost use Rattle.std.specs.Prelude.{◌≡◌, ℕ, List, Bool, true};
 ghost use Rattle.xm_num.specs.declared.Enclave.{Enclave as Enclaves};
 ghost use Rattle.node_machine.specs.declared.pair.Hop.TheVariants as hops;
 ghost use Rattle.node_machine.specs.declared.pair.Pair.{Pair as Pairs};
-ghost use Rattle.node_machine.specs.Laws.{Laws};
+ghost use Rattle.node_machine.specs.Laws.{MachineLaws};
 ghost use Rattle.node_machine.specs.Machine.{AreAbove, IsPairAt, hop_of};
 
 use byte_link::bytes_follow_calls;
@@ -11,7 +11,7 @@ use xemem_wire::laws::{front_of_spellings, spelling_length};
 
 /// All laws of the crates below.
 pub fn laws()
-    ensures { Laws }
+    ensures { MachineLaws }
 {
     front_of_spellings();
     spelling_length();

@@ -11,8 +11,8 @@ use Rattle.node_world.specs.Links.{feed_of}
 use Rattle.node_machine.specs.Machine.{MachineView, has_node, node_at, pair_at, with_carried, carried}
 use Rattle.node_world.specs.Shown.{IsNodeOf, IsPairOf, IsShown}
 use Rattle.node_world.proofs.Flows.{feed_is}
-use Rattle.node_world.proofs.Carriage.{IsLinked, AreLinked, ArePlain, AreWithin, feed_by, carried-parent, carried-length, linked_lines, fed_lines, counted_lines}
-use Rattle.node_world.specs.Laws.{Laws}
+use Rattle.node_world.proofs.Carriage.{IsLinked, LinksFollow, AreUncounted, TakenWithin, feed_by, carried-parent, carried-length, linked_lines, fed_lines, counted_lines}
+use Rattle.node_world.specs.Laws.{WorldLaws}
 
 -- the decoder of the node for the channel from enclave a to enclave b has what was sent and taken
 abbrev pub HasFeed : (ℕ → ℕ → ChannelFact) → List NodeView → ℕ → ℕ → Type 0
@@ -23,7 +23,7 @@ pub record IsFedPair (G : Facts) (nodes : List NodeView) (i : ℕ) (pair : Pair)
   pub up : lives_at G pair.parent.0 ≡ true → HasFeed G.channel nodes (i + 1) pair.parent.0
   pub down : lives_at G (i + 1) ≡ true → HasFeed G.channel nodes pair.parent.0 (i + 1)
 
--- The machine shows by its counts, links and decoders the facts G, behind which only plain lines come, and by its nodes the
+-- The machine shows by its counts, links and decoders the facts G, behind which only uncounted lines come, and by its nodes the
 -- facts H after these.
 pub record IsActed (G H : Facts) (m : MachineView) : Type 0 where
   pub pool : m.pool ≡ G.pool
@@ -33,12 +33,12 @@ pub record IsActed (G H : Facts) (m : MachineView) : Type 0 where
   pub pairs : length m.pairs ≡ G.born - 1
   pub living : (e : ℕ) → has_node m.nodes e ≡ lives_at G e
   pub nodes : (e : ℕ) → lives_at G e ≡ true → IsNodeOf H e (node_at m.nodes e)
-  pub links : AreLinked G.enclave G.channel m.pairs
-  pub within : AreWithin G.channel
+  pub links : LinksFollow G.enclave G.channel m.pairs
+  pub within : TakenWithin G.channel
   pub feeds : (i : ℕ) → i < length m.pairs → IsFedPair G m.nodes i (pair_at m.pairs i)
   pub strangers : (e c : ℕ) → G.born ≤ c → at (node_at m.nodes e).feeds c ≡ None
 
-pub shown_of : Laws → (G : Facts) (ls : List Line) (m : MachineView) → ArePlain ls → IsFlowing (after_lines G ls) → IsActed G (after_lines G ls) m → IsShown (after_lines G ls) (with_carried m ls)
+pub shown_of : WorldLaws → (G : Facts) (ls : List Line) (m : MachineView) → AreUncounted ls → IsFlowing (after_lines G ls) → IsActed G (after_lines G ls) m → IsShown (after_lines G ls) (with_carried m ls)
 shown_of laws G ls m plain flowing h =
     let H = after_lines G ls in
     let count = counted_lines ls G plain in
@@ -85,19 +85,19 @@ shown_of laws G ls m plain flowing h =
         }
 
 -- the same, with the facts after the lines by a name of their own
-pub shown_by : Laws → (G H : Facts) (ls : List Line) (m : MachineView) → H ≡ after_lines G ls → ArePlain ls → IsFlowing H → IsActed G H m → IsShown H (with_carried m ls)
+pub shown_by : WorldLaws → (G H : Facts) (ls : List Line) (m : MachineView) → H ≡ after_lines G ls → AreUncounted ls → IsFlowing H → IsActed G H m → IsShown H (with_carried m ls)
 shown_by laws G H ls m is plain = subst (λ F. IsFlowing F → IsActed G F m → IsShown F (with_carried m ls)) (sym is) (shown_of laws G ls m plain)
 
 -- ---- before a command
 
 module _ (G : Facts) (m : MachineView) (flowing : IsFlowing G) (h : IsShown G m) where
-  pub linked_of : AreLinked G.enclave G.channel m.pairs
+  pub linked_of : LinksFollow G.enclave G.channel m.pairs
   linked_of i within =
       let k = h.links i within in
       let p = (pair_at m.pairs i).parent.0 in
       record { parent = k.parent; above = k.above; up = λ lives. (k.up lives).bytes; down = λ lives. (k.down lives).bytes }
 
-  pub within_of : AreWithin G.channel
+  pub within_of : TakenWithin G.channel
   within_of a b = let few = (flowing.flows a b).taken in omega (arith, few)
 
   pub fed_of : (i : ℕ) → i < length m.pairs → IsFedPair G m.nodes i (pair_at m.pairs i)

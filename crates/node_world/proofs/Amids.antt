@@ -9,7 +9,7 @@ use Rattle.xemem_language.specs.declared.line.Line.{Line}
 use Rattle.xemem_language.specs.declared.line.Line.TheVariants as lines
 use Rattle.global_model.specs.Facts.{Facts, facts_after, after_line, after_lines}
 use Rattle.enclave_rules.specs.Hand.{Hand, Nothing}
-use Rattle.global_model.specs.Channels.{waiting_bytes}
+use Rattle.global_model.specs.Channels.{waiting_in}
 use Rattle.global_model.specs.Flow.{IsFlowing}
 use Rattle.xemem_language.specs.Spelling.{words_in}
 use Rattle.global_model.specs.Due.{command_lines, deliver_lines, took_lines, next_rest, first_waiting, settle_from, step_lines, journal_of}
@@ -17,13 +17,13 @@ use Rattle.global_model.specs.Journals.{onto, command_at}
 use Rattle.global_model.specs.Place.{IsPlaced}
 use Rattle.node_world.specs.declared.world.Which.{Which}
 use Rattle.node_world.specs.Appended.{is_by}
-use Rattle.node_world.specs.Laws.{Laws}
+use Rattle.node_world.specs.Laws.{WorldLaws}
 use Rattle.node_machine.specs.Links.{sent_in}
 use Rattle.node_machine.specs.Machine.{MachineView, lines_by, after_command, next_delivery}
 use Rattle.node_machine.specs.Ready.{IsReady, IsNoSettle, CanStep}
 use Rattle.node_world.specs.Shown.{IsShown}
 use Rattle.node_world.specs.World.{most_words, holding, IsAlong, IsShort, IsStopped}
-use Rattle.node_world.proofs.Counts.{AreCounted, counted_line, counted_delivery, hand_delivery}
+use Rattle.node_world.proofs.Counts.{AreOwnWords, counted_line, counted_delivery, hand_delivery}
 use Rattle.node_world.proofs.Nexts.{IsDue, none_next, some_next}
 use Rattle.node_world.proofs.Stills.{shown_hand}
 use Rattle.node_world.proofs.Steps.{stepped, ready, can_step, sent_valid}
@@ -49,7 +49,7 @@ left_end G d left made none due =
 -- ---- what is at hand
 
 -- the same facts, but for what is at hand
-record IsSame (F G : Facts) : Type 0 where
+record IsSameButHand (F G : Facts) : Type 0 where
   hand : Hand
   same : F ≡ holding hand G
 
@@ -64,16 +64,16 @@ flowing_holding hand G h = record {
 
 -- a delivery asks nothing of the hand, and bytes that are taken leave nothing in it
 after_delivery : (G : Facts) (one other : Hand) (x y : Enclave) (n : ℕ)
-    → IsSame (after_lines (holding one G) (deliver_lines G x y n)) (after_lines (holding other G) (deliver_lines G x y n))
-after_delivery G one other x y n = by (length (waiting_bytes G x.0 y.0) == 0) refl
+    → IsSameButHand (after_lines (holding one G) (deliver_lines G x y n)) (after_lines (holding other G) (deliver_lines G x y n))
+after_delivery G one other x y n = by (length (waiting_in G x.0 y.0) == 0) refl
   where
-    by : (b : Bool) → (length (waiting_bytes G x.0 y.0) == 0) ≡ b → IsSame (after_lines (holding one G) (deliver_lines G x y n)) (after_lines (holding other G) (deliver_lines G x y n))
+    by : (b : Bool) → (length (waiting_in G x.0 y.0) == 0) ≡ b → IsSameButHand (after_lines (holding one G) (deliver_lines G x y n)) (after_lines (holding other G) (deliver_lines G x y n))
     by true none = rw none (record { hand = one; same = refl })
-    by false some = rw some (let F = after_lines (holding other G) (took_lines G x y (min n (length (waiting_bytes G x.0 y.0)))) in record { hand = F.hand; same = refl })
+    by false some = rw some (let F = after_lines (holding other G) (took_lines G x y (min n (length (waiting_in G x.0 y.0)))) in record { hand = F.hand; same = refl })
 
 -- ---- one delivery
 
-module _ (laws : Laws) (m : MachineView) (journal : List Line) (along : IsAlong m journal) where
+module _ (laws : WorldLaws) (m : MachineView) (journal : List Line) (along : IsAlong m journal) where
   pub flowing_along : IsFlowing (facts_after journal)
   flowing_along = subst IsFlowing (sym along.facts) (flowing_holding along.hand (facts_after (journal_of along.played)) (laws.flowing along.played along.placed))
 
@@ -124,7 +124,7 @@ module _ (laws : Laws) (m : MachineView) (journal : List Line) (along : IsAlong 
         ∙ ap (λ F. deliver_lines F due.from due.to (next_rest F due.from due.to)) (sym along.facts)
 
     -- a `do` line of the delivery would change only what is at hand
-    facts_next : IsSame (facts_after (journal ++ lines_by m d)) (facts_after (journal_of (along.played ++ d ∷ [])))
+    facts_next : IsSameButHand (facts_after (journal ++ lines_by m d)) (facts_after (journal_of (along.played ++ d ∷ [])))
     facts_next =
         let begun : after_line H (lines.Do d) ≡ holding Nothing H = ap (λ c. after_line H (lines.Do c)) due.is in
         let ls : List Line = deliver_lines H due.from due.to (next_rest H due.from due.to) in
@@ -149,7 +149,7 @@ module _ (laws : Laws) (m : MachineView) (journal : List Line) (along : IsAlong 
       facts = facts_next.same;
       shown = subst (λ F. IsShown F (after_command m d)) (sym facts_next.same)
           (shown_hand (facts_after (journal_of (along.played ++ d ∷ []))) facts_next.hand (after_command m d) (stepped laws along.played d m no_settle placed_next shown_played).1);
-      appended = subst (λ c. words_in (journal ++ lines_by m c) ≤ most_words → AreCounted (after_command m c) (journal ++ lines_by m c)) (sym due.is)
+      appended = subst (λ c. words_in (journal ++ lines_by m c) ≤ most_words → AreOwnWords (after_command m c) (journal ++ lines_by m c)) (sym due.is)
           (counted_delivery laws m due.from due.to (next_rest (facts_after journal) due.from due.to) most journal ready_next hand along.appended) few;
     }
 
@@ -170,7 +170,7 @@ pub record IsAmid (most made : ℕ) (before : List Line) (m : MachineView) (jour
 pub amid_start : (most : ℕ) (m : MachineView) (journal : List Line) → IsAlong m journal → command_at (onto journal []) ≡ Some (commands.Settle most) → IsAmid most 0 journal m journal
 amid_start most m journal along hand = record { along = along; hand = hand; written = []; grown = sym (append-nil journal); left = ap (λ n. settle_from n 0 (facts_after journal)) (omega arith) }
 
-module _ (laws : Laws) (most made : ℕ) (before : List Line) (m : MachineView) (journal : List Line) (amid : IsAmid most made before m journal) where
+module _ (laws : WorldLaws) (most made : ℕ) (before : List Line) (m : MachineView) (journal : List Line) (amid : IsAmid most made before m journal) where
   pub due_now : (d : Command) → next_delivery m ≡ Some d → IsDue (facts_after journal) d
   due_now d is = some_next (facts_after journal) m (flowing_along laws m journal amid.along) amid.along.shown d is
 
@@ -217,10 +217,10 @@ module _ (laws : Laws) (most made : ℕ) (before : List Line) (m : MachineView) 
   last_waiting all d is = left_end (facts_after journal) d (most - made) made (omega (arith, all)) (due_now d is)
 
 -- and the machine goes on after it
-pub along_settled : Laws → (m : MachineView) (journal : List Line) (made : ℕ) (after : List Line) → IsAlong m journal → after ≡ journal ++ lines.Settled made ∷ [] → IsAlong m after
+pub along_settled : WorldLaws → (m : MachineView) (journal : List Line) (made : ℕ) (after : List Line) → IsAlong m journal → after ≡ journal ++ lines.Settled made ∷ [] → IsAlong m after
 along_settled laws m journal made after along out = subst (IsAlong m) (sym out) (along_line laws m journal along (lines.Settled made) (λ G. refl) (λ e past. refl))
 
-pub along_waiting : Laws → (m : MachineView) (journal : List Line) (made : ℕ) (after : List Line) → IsAlong m journal → after ≡ journal ++ lines.Waiting made ∷ [] → IsAlong m after
+pub along_waiting : WorldLaws → (m : MachineView) (journal : List Line) (made : ℕ) (after : List Line) → IsAlong m journal → after ≡ journal ++ lines.Waiting made ∷ [] → IsAlong m after
 along_waiting laws m journal made after along out = subst (IsAlong m) (sym out) (along_line laws m journal along (lines.Waiting made) (λ G. refl) (λ e past. refl))
 
 pub amid_all : (most made : ℕ) (before : List Line) (m : MachineView) (journal : List Line) → made ≤ most → most ≤ made → IsAmid most made before m journal → IsAmid most most before m journal

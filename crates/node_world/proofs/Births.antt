@@ -19,7 +19,7 @@ use Rattle.enclave_node.specs.Nodes.{new_host}
 use Rattle.node_machine.specs.Machine.{MachineView, has_node, node_at, lines_by, acted, with_carried, after_command}
 use Rattle.node_world.specs.Shown.{IsNodeOf, IsShown}
 use Rattle.node_world.proofs.Lists.{node_within}
-use Rattle.node_world.proofs.Carriage.{ArePlain, counted_lines}
+use Rattle.node_world.proofs.Carriage.{AreUncounted, counted_lines}
 use Rattle.node_world.proofs.Acted.{IsActed, shown_by, within_of}
 use Rattle.node_world.proofs.Stills.{IsStep, IsTied, AreStill, tied_still}
 
@@ -50,9 +50,9 @@ tied_pool G H m blocks step h none =
 abbrev host_rest : Bool → List Line
 host_rest ns = cond ns (lines.Admitted host ∷ []) []
 
-plain_rest : (ns : Bool) → ArePlain (host_rest ns)
-plain_rest true = (tt, tt)
-plain_rest false = tt
+uncounted_rest : (ns : Bool) → AreUncounted (host_rest ns)
+uncounted_rest true = (tt, tt)
+uncounted_rest false = tt
 
 -- the host sees all lines of its birth
 host_seen : (G : Facts) (pool blocks : ℕ) (ns : Bool) → seen_lines G (unborn_view pool host) (host_lines (first_blocks blocks) ns) ≡ own_lines Nothing (unborn_view pool host) (host_lines (first_blocks blocks) ns)
@@ -130,7 +130,7 @@ tied_host G H m blocks ns step h none first rule = by (ltb G.pool blocks) refl
         let B = after_line G (lines.Do c) in
         let K = after_line B (lines.Born host kinds.Host host ns (first_blocks blocks)) in
         let facts : H ≡ after_lines K (host_rest ns) = step.after ∙ ap (after_lines B) made in
-        let lives : lives_at H 0 ≡ true = ap (λ F. lives_at F 0) facts ∙ (counted_lines (host_rest ns) K (plain_rest ns)).living 0 in
-        let shown = shown_by step.laws K H (host_rest ns) w facts (plain_rest ns) step.flowing (host_acted G H m blocks ns step h none first made lives) in
+        let lives : lives_at H 0 ≡ true = ap (λ F. lives_at F 0) facts ∙ (counted_lines (host_rest ns) K (uncounted_rest ns)).living 0 in
+        let shown = shown_by step.laws K H (host_rest ns) w facts (uncounted_rest ns) step.flowing (host_acted G H m blocks ns step h none first made lives) in
         let after : after_command m c ≡ with_carried w (host_rest ns) = ap (λ n. with_carried n (lines_by m c)) machine ∙ ap (with_carried w) (ls ∙ made) in
         (ls, subst (IsShown H) (sym after) shown)

@@ -31,13 +31,13 @@ use Rattle.enclave_rules.specs.Steps.{refusal, query_of, told_lines, child_lines
 use Rattle.global_model.specs.Due.{command_lines}
 use Rattle.enclave_node.specs.Nodes.{NodeView, unborn_node, wrote, new_node, lent, adopted}
 use Rattle.node_machine.specs.declared.pair.Pair.{Pair}
-use Rattle.node_machine.specs.Machine.{MachineView, has_node, no_pair, node_at, pair_at, at_node, lines_by, acted, next_enclave, free_of, is_short, booted_lines, booted_nodes, with_carried, after_command}
-use Rattle.node_machine.specs.Machine.{enclave}
+use Rattle.node_machine.specs.Machine.{MachineView, has_node, no_pair, node_at, pair_at, at_node, lines_by, acted, next_born, free_of, is_short, booted_lines, booted_nodes, with_carried, after_command}
+use Rattle.node_machine.specs.Machine.{enclave_numbered}
 use Rattle.node_world.specs.Shown.{IsNodeOf, IsShown}
 use Rattle.node_world.proofs.Lists.{cond_case, has-before, has-last, has-set, node_within, push_case, set_case, set_field}
 use Rattle.node_world.specs.Links.{IsLinkOf}
 use Rattle.node_world.proofs.Flows.{fresh_link}
-use Rattle.node_world.proofs.Carriage.{IsLinked, AreLinked, ArePlain, plain_append, feed_by, counted_lines}
+use Rattle.node_world.proofs.Carriage.{IsLinked, LinksFollow, AreUncounted, uncounted_append, feed_by, counted_lines}
 use Rattle.node_world.proofs.Acted.{IsActed, HasFeed, IsFedPair, shown_by, linked_of, within_of, fed_of}
 use Rattle.node_world.proofs.Stills.{IsStep, IsTied, AreStill, tied_still, at_is}
 use Rattle.node_world.proofs.Births.{at_nil}
@@ -56,13 +56,13 @@ about_child : (child parent : Enclave) (ns : Bool) → AreAbout child (child_lin
 about_child child parent true = (refl, tt)
 about_child child parent false = (tt, tt)
 
-plain_told : (child : Enclave) (heard : List Enclave) → ArePlain (told_lines child heard)
-plain_told child [] = tt
-plain_told child (dead ∷ heard) = (tt, plain_told child heard)
+uncounted_told : (child : Enclave) (heard : List Enclave) → AreUncounted (told_lines child heard)
+uncounted_told child [] = tt
+uncounted_told child (dead ∷ heard) = (tt, uncounted_told child heard)
 
-plain_child : (child parent : Enclave) (ns : Bool) → ArePlain (child_lines child parent ns)
-plain_child child parent true = (tt, tt)
-plain_child child parent false = (tt, tt)
+uncounted_child : (child parent : Enclave) (ns : Bool) → AreUncounted (child_lines child parent ns)
+uncounted_child child parent true = (tt, tt)
+uncounted_child child parent false = (tt, tt)
 
 own_append : (v : View) (ls ms : List Line) → own_lines Nothing v (ls ++ ms) ≡ own_lines Nothing (own_lines Nothing v ls) ms
 own_append v [] ms = refl
@@ -165,7 +165,7 @@ module _ (G : Facts) (flowing : IsFlowing G) (e p : ℕ) (later : G.born ≤ e) 
 
 module _ (G H : Facts) (m : MachineView) (kind : Kind) (parent : Enclave) (blocks : ℕ) (ns : Bool) (step : IsStep G H (commands.Boot kind parent blocks ns)) (h : IsShown G m) (plain_kind : is_guest kind ≡ false) (alive : lives_at G parent.0 ≡ true) (lives : parent.0 < G.born) where
   abbrev child : Enclave
-  child = next_enclave m
+  child = next_born m
 
   abbrev node : NodeView
   node = node_at m.nodes parent.0
@@ -196,9 +196,9 @@ module _ (G H : Facts) (m : MachineView) (kind : Kind) (parent : Enclave) (block
   about = about_append child own (adopt_lines node.view child) (about_append child (told_lines child node.view.core.heard) (child_lines child parent ns) (about_told child node.view.core.heard) (about_child child parent ns))
       (cond_case (knows_way node.view) [] (lines.Sent node.view.me child (query_of node.view.me) ∷ []) (AreAbout child) tt (tt, tt))
 
-  plain : ArePlain ls
-  plain = plain_append own (adopt_lines node.view child) (plain_append (told_lines child node.view.core.heard) (child_lines child parent ns) (plain_told child node.view.core.heard) (plain_child child parent ns))
-      (cond_case (knows_way node.view) [] (lines.Sent node.view.me child (query_of node.view.me) ∷ []) ArePlain tt (tt, tt))
+  plain : AreUncounted ls
+  plain = uncounted_append own (adopt_lines node.view child) (uncounted_append (told_lines child node.view.core.heard) (child_lines child parent ns) (uncounted_told child node.view.core.heard) (uncounted_child child parent ns))
+      (cond_case (knows_way node.view) [] (lines.Sent node.view.me child (query_of node.view.me) ∷ []) AreUncounted tt (tt, tt))
 
   -- the host, the parent and the child then
   abbrev host_node : NodeView
@@ -274,14 +274,14 @@ module _ (G H : Facts) (m : MachineView) (kind : Kind) (parent : Enclave) (block
           has-before old child_node e (λ last. other (last ∙ long)) ∙ has-set lent_nodes parent.0 e (taking base) ∙ has-set m.nodes 0 e host_node ∙ h.living e ∙ sym (before e other)
 
   module _ (is : command_lines G (commands.Boot kind parent blocks ns) ≡ booted_lines m kind parent blocks ns) (living : (e : ℕ) → lives_at H e ≡ lives_at K e) where
-    seen : (e : ℕ) → lives_at K e ≡ true → view_of H (enclave e) ≡ seen_lines B (view_of G (enclave e)) (birth ∷ ls)
-    seen e there = step.views e (living e ∙ there) ∙ ap (seen_lines B (view_of G (enclave e))) is
+    seen : (e : ℕ) → lives_at K e ≡ true → view_of H (enclave_numbered e) ≡ seen_lines B (view_of G (enclave_numbered e)) (birth ∷ ls)
+    seen e there = step.views e (living e ∙ there) ∙ ap (seen_lines B (view_of G (enclave_numbered e))) is
 
     -- what an enclave sees that was born before
-    seen_then : (e : ℕ) → e < length m.nodes → lives_at G e ≡ true → view_of H (enclave e) ≡ after_birth child kind parent lending (eqb parent.0 e) (eqb e 0) (view_of G (enclave e))
+    seen_then : (e : ℕ) → e < length m.nodes → lives_at G e ≡ true → view_of H (enclave_numbered e) ≡ after_birth child kind parent lending (eqb parent.0 e) (eqb e 0) (view_of G (enclave_numbered e))
     seen_then e within there =
         let count = h.born in
-        let v = view_of G (enclave e) in
+        let v = view_of G (enclave_numbered e) in
         let u = after_birth child kind parent lending (eqb parent.0 e) (eqb e 0) v in
         let me : u.me.0 ≡ e = ap (λ (e : Enclave). e.0) (birth_me child kind parent lending (eqb parent.0 e) (eqb e 0) v) in
         seen e (before e (λ same. omega (arith, same, within)) ∙ there) ∙ ap (λ v. seen_lines K v ls) (other_born B child kind parent lending ns v (λ same. omega (arith, same, within)))
@@ -319,7 +319,7 @@ module _ (G H : Facts) (m : MachineView) (kind : Kind) (parent : Enclave) (block
         let old = h.nodes e there in
         let not_parent = ne_eqb parent.0 e (λ same. apart (sym same)) in
         let not_first = ne_eqb e 0 far in
-        let view : view_of H (enclave e) ≡ view_of G (enclave e) = seen_then e within there ∙ rw (not_parent, not_first) refl in
+        let view : view_of H (enclave_numbered e) ≡ view_of G (enclave_numbered e) = seen_then e within there ∙ rw (not_parent, not_first) refl in
         record { view = old.view ∙ sym view; going = old.going }
 
     child_then : IsNodeOf H (length m.nodes) child_node
@@ -374,7 +374,7 @@ module _ (G H : Facts) (m : MachineView) (kind : Kind) (parent : Enclave) (block
         down = λ there. subst (λ dead. IsLinkOf dead (G.channel parent.0 (i + 1)) fresh) (sym (ap not (before parent.0 (λ same. omega (arith, same, count, lives)) ∙ alive))) (subst (λ f. IsLinkOf false f fresh) (sym quiet.1) fresh_link);
       }
 
-  linked_then : AreLinked K.enclave K.channel w.pairs
+  linked_then : LinksFollow K.enclave K.channel w.pairs
   linked_then i within = push_case m.pairs i new_pair no_pair (IsLinked K.enclave K.channel i) within (old_linked i) (new_linked i)
 
   -- ---- decoders
@@ -478,7 +478,7 @@ tied_boot G H m kind parent blocks ns plain step h = by (lives_at G parent.0) (l
         if leb 256 n then refusal causes.TooMany
         else (if ns && server then refusal causes.NameServerTaken
         else (if ltb (length (free_blocks first.host.states)) blocks then refusal causes.NoBlocks
-        else birth_lines (enclave n) kind parent (take blocks (free_blocks first.host.states)) ns v.core.heard ++ adopt_lines v (enclave n)))
+        else birth_lines (enclave_numbered n) kind parent (take blocks (free_blocks first.host.states)) ns v.core.heard ++ adopt_lines v (enclave_numbered n)))
 
     -- a parent that lives was born
     below : lives_at G parent.0 ≡ true → parent.0 < G.born

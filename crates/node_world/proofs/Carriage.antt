@@ -20,7 +20,7 @@ use Rattle.node_world.proofs.Lists.{cond_case, set_case, set_field}
 use Rattle.node_world.proofs.Flows.{link_sent, feed_from, feed_sent}
 use Rattle.node_world.proofs.Fronts.{spellings-length}
 use Rattle.node_machine.specs.Machine.{AreAbove, IsPairAt}
-use Rattle.node_world.specs.Laws.{Laws}
+use Rattle.node_world.specs.Laws.{WorldLaws}
 
 -- ---- a channel changes
 
@@ -52,8 +52,8 @@ pub record IsLinked (enclaves : ℕ → Option EnclaveFact) (channels : ℕ → 
   pub up : is_living_enclave (enclaves pair.parent.0) ≡ true → IsLinkOf (not (is_living_enclave (enclaves (i + 1)))) (channels (i + 1) pair.parent.0) pair.up
   pub down : is_living_enclave (enclaves (i + 1)) ≡ true → IsLinkOf (not (is_living_enclave (enclaves pair.parent.0))) (channels pair.parent.0 (i + 1)) pair.down
 
-abbrev pub AreLinked : (ℕ → Option EnclaveFact) → (ℕ → ℕ → ChannelFact) → List Pair → Type 0
-AreLinked enclaves channels pairs = (i : ℕ) → i < length pairs → IsLinked enclaves channels i (pair_at pairs i)
+abbrev pub LinksFollow : (ℕ → Option EnclaveFact) → (ℕ → ℕ → ChannelFact) → List Pair → Type 0
+LinksFollow enclaves channels pairs = (i : ℕ) → i < length pairs → IsLinked enclaves channels i (pair_at pairs i)
 
 -- who is admitted lives as before
 pub admitted_lives : (enclaves : ℕ → Option EnclaveFact) (e d : ℕ) → is_living_enclave (at_number e (as_admitted (enclaves e)) enclaves d) ≡ is_living_enclave (enclaves d)
@@ -67,7 +67,7 @@ admitted_lives enclaves e d = by (eqb d e) refl
     by true is = same (enclaves e) ∙ ap (λ n. is_living_enclave (enclaves n)) (sym (eqb-true d e is))
     by false is = refl
 
-module _ (laws : Laws) (enclaves : ℕ → Option EnclaveFact) (channels : ℕ → ℕ → ChannelFact) (pairs : List Pair) (all : AreLinked enclaves channels pairs) where
+module _ (laws : WorldLaws) (enclaves : ℕ → Option EnclaveFact) (channels : ℕ → ℕ → ChannelFact) (pairs : List Pair) (all : LinksFollow enclaves channels pairs) where
   -- the enclave is dead
   abbrev gone : ℕ → Bool
   gone e = not (is_living_enclave (enclaves e))
@@ -87,7 +87,7 @@ module _ (laws : Laws) (enclaves : ℕ → Option EnclaveFact) (channels : ℕ �
   }
 
   over_up : (x y : Enclave) (h : ChannelFact → ChannelFact) (link : Channel) (j : ℕ) → IsPairAt pairs j x.0 y.0 → ((dead : Bool) → IsLinkOf dead (channels x.0 y.0) (pair_at pairs j).up → IsLinkOf dead (h (channels x.0 y.0)) link)
-      → AreLinked enclaves (at_pair x.0 y.0 h channels) (with_link pairs (hops.Up j) link)
+      → LinksFollow enclaves (at_pair x.0 y.0 h channels) (with_link pairs (hops.Up j) link)
   over_up x y h link j is new i within =
       let size = length-set pairs j (record (pair_at pairs j) { up = link }) in
       let k = all j is.within in
@@ -105,7 +105,7 @@ module _ (laws : Laws) (enclaves : ℕ → Option EnclaveFact) (channels : ℕ �
       linked_other x.0 y.0 h i (pair_at pairs i) q (λ lives a b. apart (omega (arith, a, one))) (λ lives a b. omega (arith, a, b, one, two, high, low)))
 
   over_down : (x y : Enclave) (h : ChannelFact → ChannelFact) (link : Channel) (j : ℕ) → IsPairAt pairs j y.0 x.0 → ((dead : Bool) → IsLinkOf dead (channels x.0 y.0) (pair_at pairs j).down → IsLinkOf dead (h (channels x.0 y.0)) link)
-      → AreLinked enclaves (at_pair x.0 y.0 h channels) (with_link pairs (hops.Down j) link)
+      → LinksFollow enclaves (at_pair x.0 y.0 h channels) (with_link pairs (hops.Down j) link)
   over_down x y h link j is new i within =
       let size = length-set pairs j (record (pair_at pairs j) { down = link }) in
       let k = all j is.within in
@@ -129,7 +129,7 @@ module _ (laws : Laws) (enclaves : ℕ → Option EnclaveFact) (channels : ℕ �
 
     -- nothing goes from x to y, where these are neighbours and y lives
     over_none : (x y : Enclave) (h : ChannelFact → ChannelFact) → ((j : ℕ) → hop_of pairs (are_known nodes x y) x y ≡ hops.Up j → ⊥) → ((j : ℕ) → hop_of pairs (are_known nodes x y) x y ≡ hops.Down j → ⊥)
-        → AreLinked enclaves (at_pair x.0 y.0 h channels) pairs
+        → LinksFollow enclaves (at_pair x.0 y.0 h channels) pairs
     over_none x y h not_up not_down i within =
         let q = all i within in let low = q.above in
         linked_other x.0 y.0 h i (pair_at pairs i) q
@@ -142,7 +142,7 @@ module _ (laws : Laws) (enclaves : ℕ → Option EnclaveFact) (channels : ℕ �
 
     -- the channel from x to y changes, and its link with it
     pub over : (x y : Enclave) (h : ChannelFact → ChannelFact) (link : Channel) (hop : Hop) → hop_of pairs (are_known nodes x y) x y ≡ hop
-        → ((dead : Bool) → IsLinkOf dead (channels x.0 y.0) (link_of pairs hop) → IsLinkOf dead (h (channels x.0 y.0)) link) → AreLinked enclaves (at_pair x.0 y.0 h channels) (with_link pairs hop link)
+        → ((dead : Bool) → IsLinkOf dead (channels x.0 y.0) (link_of pairs hop) → IsLinkOf dead (h (channels x.0 y.0)) link) → LinksFollow enclaves (at_pair x.0 y.0 h channels) (with_link pairs hop link)
     over x y h link hops.NoEnclave is new = over_none x y h (λ j up. let no : hops.NoEnclave ≡ hops.Up j = sym is ∙ up in cc) (λ j down. let no : hops.NoEnclave ≡ hops.Down j = sym is ∙ down in cc)
     over x y h link hops.NoLink is new = over_none x y h (λ j up. let no : hops.NoLink ≡ hops.Up j = sym is ∙ up in cc) (λ j down. let no : hops.NoLink ≡ hops.Down j = sym is ∙ down in cc)
     over x y h link (hops.Up j) is new = over_up x y h link j (laws.hops.up pairs (are_known nodes x y) x y j is) new
@@ -163,7 +163,7 @@ module _ (laws : Laws) (enclaves : ℕ → Option EnclaveFact) (channels : ℕ �
       (k.down (alive (j + 1) (omega (arith, count, within)))).ended ∙ ap not (alive (pair_at pairs j).parent.0 (omega (arith, low, count, within)))
 
   -- a record is got, and an enclave is admitted
-  got_linked : (x y : ℕ) → AreLinked enclaves (at_pair x y with_got channels) pairs
+  got_linked : (x y : ℕ) → LinksFollow enclaves (at_pair x y with_got channels) pairs
   got_linked x y i within =
       let k = all i within in
       record {
@@ -177,7 +177,7 @@ module _ (laws : Laws) (enclaves : ℕ → Option EnclaveFact) (channels : ℕ �
       got true f link k = record { within = k.within; waiting = k.waiting; pieces = k.pieces; ended = k.ended; end_taken = k.end_taken; uncut = k.uncut }
       got false f link k = k
 
-  admitted_linked : (e : ℕ) → AreLinked (at_number e (as_admitted (enclaves e)) enclaves) channels pairs
+  admitted_linked : (e : ℕ) → LinksFollow (at_number e (as_admitted (enclaves e)) enclaves) channels pairs
   admitted_linked e i within =
       let k = all i within in
       let p = (pair_at pairs i).parent.0 in
@@ -194,20 +194,20 @@ module _ (laws : Laws) (enclaves : ℕ → Option EnclaveFact) (channels : ℕ �
 -- ---- lines
 
 -- lines that tell no command, no birth, no process and no bytes that were taken
-abbrev pub IsPlain : Line → Type 0
-IsPlain (lines.Do command) = ⊥
-IsPlain (lines.Born child kind parent ns blocks) = ⊥
-IsPlain (lines.Proc e p uid gid) = ⊥
-IsPlain (lines.Took x y count) = ⊥
-IsPlain line = Unit {0}
+abbrev pub IsUncounted : Line → Type 0
+IsUncounted (lines.Do command) = ⊥
+IsUncounted (lines.Born child kind parent ns blocks) = ⊥
+IsUncounted (lines.Proc e p uid gid) = ⊥
+IsUncounted (lines.Took x y count) = ⊥
+IsUncounted line = Unit {0}
 
-abbrev pub ArePlain : List Line → Type 0
-ArePlain [] = Unit {0}
-ArePlain (line ∷ journal) = IsPlain line × ArePlain journal
+abbrev pub AreUncounted : List Line → Type 0
+AreUncounted [] = Unit {0}
+AreUncounted (line ∷ journal) = IsUncounted line × AreUncounted journal
 
-pub plain_append : (ls ms : List Line) → ArePlain ls → ArePlain ms → ArePlain (ls ++ ms)
-plain_append [] ms first more = more
-plain_append (line ∷ ls) ms first more = (first.0, plain_append ls ms first.1 more)
+pub uncounted_append : (ls ms : List Line) → AreUncounted ls → AreUncounted ms → AreUncounted (ls ++ ms)
+uncounted_append [] ms first more = more
+uncounted_append (line ∷ ls) ms first more = (first.0, uncounted_append ls ms first.1 more)
 
 -- the pairs are as many as before, and of the same parents
 pub with_link-parent : (pairs : List Pair) (hop : Hop) (link : Channel) (i : ℕ) → (pair_at (with_link pairs hop link) i).parent ≡ (pair_at pairs i).parent
@@ -244,16 +244,16 @@ carried-length nodes (lines.Sent x y r ∷ ls) pairs =
     carried-length nodes ls (carried_over pairs hop r) ∙ carried_over-length pairs hop r
 carried-length nodes (_ ∷ ls) pairs = carried-length nodes ls pairs
 
--- the channels show the facts after plain lines, once what they send is carried
-pub linked_lines : Laws → (nodes : List NodeView) (ls : List Line) (G : Facts) (pairs : List Pair) → length pairs ≡ length nodes - 1 → ((e : ℕ) → has_node nodes e ≡ lives_at G e) → ((e : ℕ) → e < length nodes → lives_at G e ≡ true) → ArePlain ls → AreLinked G.enclave G.channel pairs
-    → AreLinked (after_lines G ls).enclave (after_lines G ls).channel (carried nodes pairs ls)
+-- the channels show the facts after uncounted lines, once what they send is carried
+pub linked_lines : WorldLaws → (nodes : List NodeView) (ls : List Line) (G : Facts) (pairs : List Pair) → length pairs ≡ length nodes - 1 → ((e : ℕ) → has_node nodes e ≡ lives_at G e) → ((e : ℕ) → e < length nodes → lives_at G e ≡ true) → AreUncounted ls → LinksFollow G.enclave G.channel pairs
+    → LinksFollow (after_lines G ls).enclave (after_lines G ls).channel (carried nodes pairs ls)
 linked_lines laws nodes [] G pairs count living alive plain all = all
 linked_lines laws nodes (lines.Sent x y r ∷ ls) G pairs count living alive plain all =
     let hop = hop_of pairs (are_known nodes x y) x y in
     let link = sent (link_of pairs hop) (spelling_of r) in
     let goes : carried_over pairs hop r ≡ with_link pairs hop link = ap (λ b. cond b pairs (with_link pairs hop link)) (never_ended laws G.enclave G.channel pairs all nodes count alive x y hop refl) in
     linked_lines laws nodes ls (after_line G (lines.Sent x y r)) (carried_over pairs hop r) (carried_over-length pairs hop r ∙ count) living alive plain.1
-    (subst (AreLinked G.enclave (at_pair x.0 y.0 (with_sent r) G.channel)) (sym goes)
+    (subst (LinksFollow G.enclave (at_pair x.0 y.0 (with_sent r) G.channel)) (sym goes)
     (over laws G.enclave G.channel pairs all nodes count living x y (with_sent r) link hop refl (λ dead k. link_sent laws.links dead (G.channel x.0 y.0) (link_of pairs hop) r k)))
 linked_lines laws nodes (lines.Got x y ∷ ls) G pairs count living alive plain all = linked_lines laws nodes ls (after_line G (lines.Got x y)) pairs count living alive plain.1 (got_linked laws G.enclave G.channel pairs all x.0 y.0)
 linked_lines laws nodes (lines.Admitted e ∷ ls) G pairs count living alive plain all =
@@ -271,24 +271,24 @@ abbrev pub feed_by : ChannelFact → Decoding
 feed_by f = feed_from f.sent f.taken
 
 -- no more bytes were taken than were sent
-abbrev pub AreWithin : (ℕ → ℕ → ChannelFact) → Type 0
-AreWithin channels = (a b : ℕ) → (channels a b).taken ≤ length (spellings_of (channels a b).sent)
+abbrev pub TakenWithin : (ℕ → ℕ → ChannelFact) → Type 0
+TakenWithin channels = (a b : ℕ) → (channels a b).taken ≤ length (spellings_of (channels a b).sent)
 
-sent_within : (x y : ℕ) (r : Record) (channels : ℕ → ℕ → ChannelFact) → AreWithin channels → AreWithin (at_pair x y (with_sent r) channels)
+sent_within : (x y : ℕ) (r : Record) (channels : ℕ → ℕ → ChannelFact) → TakenWithin channels → TakenWithin (at_pair x y (with_sent r) channels)
 sent_within x y r channels all a b = by (eqb a x && eqb b y) (channels a b) (all a b)
   where
     by : (t : Bool) (f : ChannelFact) → f.taken ≤ length (spellings_of f.sent) → (cond t (with_sent r f) f).taken ≤ length (spellings_of (cond t (with_sent r f) f).sent)
     by true f fits = let size = spellings-length f.sent (r ∷ []) in omega (arith, size, fits)
     by false f fits = fits
 
-sent_feed : (x y : ℕ) (r : Record) (channels : ℕ → ℕ → ChannelFact) → AreWithin channels → (a b : ℕ) → feed_by (at_pair x y (with_sent r) channels a b) ≡ feed_by (channels a b)
+sent_feed : (x y : ℕ) (r : Record) (channels : ℕ → ℕ → ChannelFact) → TakenWithin channels → (a b : ℕ) → feed_by (at_pair x y (with_sent r) channels a b) ≡ feed_by (channels a b)
 sent_feed x y r channels all a b = by (eqb a x && eqb b y) (channels a b) (all a b)
   where
     by : (t : Bool) (f : ChannelFact) → f.taken ≤ length (spellings_of f.sent) → feed_by (cond t (with_sent r f) f) ≡ feed_by f
     by true f fits = feed_sent f.sent f.taken r fits
     by false f fits = refl
 
-got_within : (x y : ℕ) (channels : ℕ → ℕ → ChannelFact) → AreWithin channels → AreWithin (at_pair x y with_got channels)
+got_within : (x y : ℕ) (channels : ℕ → ℕ → ChannelFact) → TakenWithin channels → TakenWithin (at_pair x y with_got channels)
 got_within x y channels all a b = by (eqb a x && eqb b y) (channels a b) (all a b)
   where
     by : (t : Bool) (f : ChannelFact) → f.taken ≤ length (spellings_of f.sent) → (cond t (with_got f) f).taken ≤ length (spellings_of (cond t (with_got f) f).sent)
@@ -302,8 +302,8 @@ got_feed x y channels a b = by (eqb a x && eqb b y) (channels a b)
     by true f = refl
     by false f = refl
 
--- plain lines leave what each decoder has
-pub fed_lines : (ls : List Line) (G : Facts) → ArePlain ls → AreWithin G.channel → (a b : ℕ) → feed_by ((after_lines G ls).channel a b) ≡ feed_by (G.channel a b)
+-- uncounted lines leave what each decoder has
+pub fed_lines : (ls : List Line) (G : Facts) → AreUncounted ls → TakenWithin G.channel → (a b : ℕ) → feed_by ((after_lines G ls).channel a b) ≡ feed_by (G.channel a b)
 fed_lines [] G plain all a b = refl
 fed_lines (lines.Sent x y r ∷ ls) G plain all a b = fed_lines ls (after_line G (lines.Sent x y r)) plain.1 (sent_within x.0 y.0 r G.channel all) a b ∙ sent_feed x.0 y.0 r G.channel all a b
 fed_lines (lines.Got x y ∷ ls) G plain all a b = fed_lines ls (after_line G (lines.Got x y)) plain.1 (got_within x.0 y.0 G.channel all) a b ∙ got_feed x.0 y.0 G.channel a b
@@ -313,15 +313,15 @@ fed_lines (line ∷ ls) G plain all a b = fed_lines ls (after_line G line) plain
 
 -- ---- numbers
 
--- plain lines leave what is counted, and who lives
-pub record AreCounted (G H : Facts) : Type 0 where
+-- uncounted lines leave what is counted, and who lives
+pub record CountsStay (G H : Facts) : Type 0 where
   pub pool : H.pool ≡ G.pool
   pub born : H.born ≡ G.born
   pub starts : H.starts ≡ G.starts
   pub server : H.server ≡ G.server
   pub living : (e : ℕ) → lives_at H e ≡ lives_at G e
 
-pub counted_lines : (ls : List Line) (G : Facts) → ArePlain ls → AreCounted G (after_lines G ls)
+pub counted_lines : (ls : List Line) (G : Facts) → AreUncounted ls → CountsStay G (after_lines G ls)
 counted_lines [] G plain = record { pool = refl; born = refl; starts = refl; server = refl; living = λ e. refl }
 counted_lines (lines.Do command ∷ ls) G plain = absurd plain.0
 counted_lines (lines.Born child kind parent ns blocks ∷ ls) G plain = absurd plain.0

@@ -30,14 +30,14 @@ use Rattle.enclave_node.specs.Nodes.{NodeView, unborn_node, raised, wrote, new_h
 use Rattle.node_machine.specs.declared.pair.Hop.{Hop}
 use Rattle.node_machine.specs.declared.pair.Hop.TheVariants as hops
 use Rattle.node_world.specs.Appended.{refuses, is_by, words_by}
-use Rattle.node_machine.specs.Machine.{MachineView, has_node, node_at, with_node, hop_in, link_of, with_link, taken_by, is_idle, next_enclave, free_of, is_full, is_short, booted_lines, booted_nodes, touch_by, over_lines, over_machine, deliver_by, after_deliver, shown_by, lines_by, acted, after_command, call_by, node_shown}
+use Rattle.node_machine.specs.Machine.{MachineView, has_node, node_at, with_node, hop_in, link_of, with_link, taken_by, is_idle, next_born, free_of, is_full, is_short, booted_lines, booted_nodes, touch_by, lines_over, over_machine, deliver_by, after_deliver, shown_by, lines_by, acted, after_command, call_by, node_shown}
 use Rattle.node_machine.specs.Ready.{IsReady, Stands}
 use Rattle.node_world.specs.World.{most_words}
 use Rattle.node_world.proofs.Lists.{cond_case, node_within, set_field}
 use Rattle.node_world.proofs.Stills.{AreStill, still_answer, still_shown, show_no_call, show_stays, shown_lines, still_bytes}
 use Rattle.node_world.proofs.Appends.{AreBy, nobody, only, Adds, share, adds_append, adds_by, few_by, by_still, by_birth, by_host, by_adopt, by_records, by_call}
 use Rattle.node_world.proofs.Words.{onto-append}
-use Rattle.node_world.specs.Laws.{Laws}
+use Rattle.node_world.specs.Laws.{WorldLaws}
 
 abbrev count_at : List NodeView → ℕ → ℕ
 count_at nodes e = (node_at nodes e).appended
@@ -148,7 +148,7 @@ module _ (m : MachineView) (kind : Kind) (parent : Enclave) (blocks : ℕ) (ns :
   boot = commands.Boot kind parent blocks ns
 
   abbrev child : Enclave
-  child = next_enclave m
+  child = next_born m
 
   abbrev birth : List Line
   birth = birth_lines child kind parent (take blocks (free_of m)) ns (node_at m.nodes parent.0).view.core.heard
@@ -228,7 +228,7 @@ counts_start m e uid gid me = by (has_node m.nodes e.0) (leb 1024 m.starts) refl
         let lt = node_within m.nodes e.0 is in
         counts_one c m.nodes e (wrote Nothing (node_at m.nodes e.0) ls) ls lt refl (λ k. ap (λ a. only a k) (me is), tt)
 
-counts_call : Laws → (m : MachineView) (c : Command) (k : ProcessCall) → call_of c ≡ Some k → (has_node m.nodes k.enclave.0 ≡ true → (node_at m.nodes k.enclave.0).view.me ≡ k.enclave)
+counts_call : WorldLaws → (m : MachineView) (c : Command) (k : ProcessCall) → call_of c ≡ Some k → (has_node m.nodes k.enclave.0 ≡ true → (node_at m.nodes k.enclave.0).view.me ≡ k.enclave)
     → Counts c (lines_by m c) m.nodes (acted m c).nodes
 counts_call laws m c k is me = rw is (by (has_node m.nodes k.enclave.0) refl)
   where
@@ -254,12 +254,12 @@ counts_call laws m c k is me = rw is (by (has_node m.nodes k.enclave.0) refl)
 -- ---- deliveries
 
 -- The command at hand is the delivery's own, or a settle.
-module _ (laws : Laws) (hand : Command) (quiet : (e : ℕ) (cause : Cause) → refuses e (Some hand) cause ≡ false) (m : MachineView) (x y : Enclave) (count : ℕ) (me : has_node m.nodes y.0 ≡ true → (node_at m.nodes y.0).view.me ≡ y) where
+module _ (laws : WorldLaws) (hand : Command) (quiet : (e : ℕ) (cause : Cause) → refuses e (Some hand) cause ≡ false) (m : MachineView) (x y : Enclave) (count : ℕ) (me : has_node m.nodes y.0 ≡ true → (node_at m.nodes y.0).view.me ≡ y) where
   -- nothing goes to an enclave that doesn't live
   gone_hop : has_node m.nodes y.0 ≡ false → hop_in m x y ≡ hops.NoEnclave
   gone_hop is = rw is refl
 
-  counts_over : has_node m.nodes y.0 ≡ true → (hop : Hop) → Counts hand (over_lines m x y count hop) m.nodes (over_machine m x y count hop).nodes
+  counts_over : has_node m.nodes y.0 ≡ true → (hop : Hop) → Counts hand (lines_over m x y count hop) m.nodes (over_machine m x y count hop).nodes
   counts_over has hop = by (is_idle (link_of m.pairs hop))
     where
       n : ℕ
@@ -329,7 +329,7 @@ counts_show_link m x y = counts_still (commands.ShowLink x y) (λ e cause. refl)
     by (hops.Up i) = still_bytes x y _ 0 _
     by (hops.Down i) = still_bytes x y _ 0 _
 
-counts_show : Laws → (m : MachineView) (c : Command) (s : NodeShow) → show_of c ≡ Some s → Counts c (lines_by m c) m.nodes (acted m c).nodes
+counts_show : WorldLaws → (m : MachineView) (c : Command) (s : NodeShow) → show_of c ≡ Some s → Counts c (lines_by m c) m.nodes (acted m c).nodes
 counts_show laws m c s is = subst (λ (w : MachineView). Counts c (lines_by m c) m.nodes w.nodes) (sym (show_stays m c s is))
     (counts_still c (λ e cause. let none = show_no_call c s is in rw none refl) (lines_by m c) m.nodes
     (subst AreStill (sym (shown_lines m c s is))
@@ -338,7 +338,7 @@ counts_show laws m c s is = subst (λ (w : MachineView). Counts c (lines_by m c)
 
 -- ---- any command
 
-counted_other : Laws → (m : MachineView) (c : Command) → call_of c ≡ None → show_of c ≡ None → IsReady m → Stands m c → Counts c (lines_by m c) m.nodes (acted m c).nodes
+counted_other : WorldLaws → (m : MachineView) (c : Command) → call_of c ≡ None → show_of c ≡ None → IsReady m → Stands m c → Counts c (lines_by m c) m.nodes (acted m c).nodes
 counted_other laws m (commands.Pool blocks) no_call no_show ready stands = counts_none (commands.Pool blocks) [] m.nodes tt
 counted_other laws m (commands.Host blocks ns) no_call no_show ready stands = counts_host m blocks ns stands.0
 counted_other laws m (commands.Boot kind parent blocks ns) no_call no_show ready stands = counts_boot m kind parent blocks ns (λ within. (ready.nodes parent.0 within).me)
@@ -352,7 +352,7 @@ counted_other laws m (commands.ShowRoutes e) no_call no_show ready stands = cc
 counted_other laws m commands.ShowPool no_call no_show ready stands = cc
 counted_other laws m c no_call no_show ready stands = counts_none c [] m.nodes tt
 
-pub counted : Laws → (m : MachineView) (c : Command) → IsReady m → Stands m c → Counts c (lines_by m c) m.nodes (acted m c).nodes
+pub counted : WorldLaws → (m : MachineView) (c : Command) → IsReady m → Stands m c → Counts c (lines_by m c) m.nodes (acted m c).nodes
 counted laws m c ready stands = by (call_of c) refl (show_of c) refl
   where
     by : (call : Option ProcessCall) → call_of c ≡ call → (show : Option NodeShow) → show_of c ≡ show → Counts c (lines_by m c) m.nodes (acted m c).nodes
@@ -363,16 +363,16 @@ counted laws m c ready stands = by (call_of c) refl (show_of c) refl
 -- ---- a journal
 
 -- what each node appended are its own words of the journal
-abbrev pub AreCounted : MachineView → List Line → Type 0
-AreCounted m journal = (e : ℕ) → count_at m.nodes e ≡ words_by e (onto journal [])
+abbrev pub AreOwnWords : MachineView → List Line → Type 0
+AreOwnWords m journal = (e : ℕ) → count_at m.nodes e ≡ words_by e (onto journal [])
 
 -- a line by no node
-pub counted_line : (m : MachineView) (journal : List Line) (line : Line) → ((e : ℕ) (past : List Line) → is_by e past line ≡ false) → AreCounted m journal → AreCounted m (journal ++ line ∷ [])
+pub counted_line : (m : MachineView) (journal : List Line) (line : Line) → ((e : ℕ) (past : List Line) → is_by e past line ≡ false) → AreOwnWords m journal → AreOwnWords m (journal ++ line ∷ [])
 counted_line m journal line quiet counted e =
     counted e ∙ sym (ap (words_by e) (onto-append journal (line ∷ []) []) ∙ ap (λ b. cond b (length (line_words line)) 0 + words_by e (onto journal [])) (quiet e (onto journal [])) ∙ omega arith)
 
 -- the lines of a command raise the counts, as long as the journal is short
-counted_more : (hand : Command) (m : MachineView) (ls journal : List Line) (after : List NodeView) → Counts hand ls m.nodes after → command_at (onto journal []) ≡ Some hand → AreCounted m journal → words_in (journal ++ ls) ≤ most_words
+counted_more : (hand : Command) (m : MachineView) (ls journal : List Line) (after : List NodeView) → Counts hand ls m.nodes after → command_at (onto journal []) ≡ Some hand → AreOwnWords m journal → words_in (journal ++ ls) ≤ most_words
     → (e : ℕ) → count_at after e ≡ words_by e (onto (journal ++ ls) [])
 counted_more hand m ls journal after k at old short e =
     let all = ap (words_by e) (onto-append journal ls []) in
@@ -382,19 +382,19 @@ counted_more hand m ls journal after k at old short e =
     k.raises e (omega (arith, sum, few, short)) ∙ sum
 
 -- those of a command at hand
-pub counted_after : Laws → (m : MachineView) (c : Command) (journal : List Line) → IsReady m → Stands m c → command_at (onto journal []) ≡ Some c → AreCounted m journal → words_in (journal ++ lines_by m c) ≤ most_words
-    → AreCounted (after_command m c) (journal ++ lines_by m c)
+pub counted_after : WorldLaws → (m : MachineView) (c : Command) (journal : List Line) → IsReady m → Stands m c → command_at (onto journal []) ≡ Some c → AreOwnWords m journal → words_in (journal ++ lines_by m c) ≤ most_words
+    → AreOwnWords (after_command m c) (journal ++ lines_by m c)
 counted_after laws m c journal ready stands at old short = counted_more c m (lines_by m c) journal (acted m c).nodes (counted laws m c ready stands) at old short
 
 -- those of a delivery, while a settle is at hand, which stays so
-module _ (laws : Laws) (m : MachineView) (x y : Enclave) (count most : ℕ) (journal : List Line) (ready : IsReady m) (at : command_at (onto journal []) ≡ Some (commands.Settle most)) where
+module _ (laws : WorldLaws) (m : MachineView) (x y : Enclave) (count most : ℕ) (journal : List Line) (ready : IsReady m) (at : command_at (onto journal []) ≡ Some (commands.Settle most)) where
   abbrev ls : List Line
   ls = lines_by m (commands.Deliver x y count)
 
   made : Counts (commands.Settle most) ls m.nodes (acted m (commands.Deliver x y count)).nodes
   made = counts_deliver laws (commands.Settle most) (λ e cause. refl) m x y count (λ within. (ready.nodes y.0 within).me)
 
-  pub counted_delivery : AreCounted m journal → words_in (journal ++ ls) ≤ most_words → AreCounted (after_command m (commands.Deliver x y count)) (journal ++ ls)
+  pub counted_delivery : AreOwnWords m journal → words_in (journal ++ ls) ≤ most_words → AreOwnWords (after_command m (commands.Deliver x y count)) (journal ++ ls)
   counted_delivery old short = counted_more (commands.Settle most) m ls journal (acted m (commands.Deliver x y count)).nodes made at old short
 
   pub hand_delivery : command_at (onto (journal ++ ls) []) ≡ Some (commands.Settle most)

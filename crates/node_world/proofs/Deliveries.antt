@@ -26,30 +26,30 @@ use Rattle.global_model.specs.Due.{command_lines, got_lines, took_lines, deliver
 use Rattle.enclave_node.specs.Nodes.{NodeView, unborn_node, feed_at, fed, fed_lines, after_feed}
 use Rattle.node_machine.specs.declared.pair.Hop.{Hop}
 use Rattle.node_machine.specs.declared.pair.Hop.TheVariants as hops
-use Rattle.node_machine.specs.Machine.{MachineView, node_at, pair_at, with_node, hop_in, link_of, with_link, taken_by, is_idle, over_lines, over_machine, deliver_by, after_deliver, lines_by, acted, with_carried, after_command}
-use Rattle.node_machine.specs.Machine.{enclave}
+use Rattle.node_machine.specs.Machine.{MachineView, node_at, pair_at, with_node, hop_in, link_of, with_link, taken_by, is_idle, lines_over, over_machine, deliver_by, after_deliver, lines_by, acted, with_carried, after_command}
+use Rattle.node_machine.specs.Machine.{enclave_numbered}
 use Rattle.node_world.specs.Shown.{IsNodeOf, IsShown}
 use Rattle.node_world.specs.Laws.{WireLaws, ViewLaws}
 use Rattle.node_world.proofs.Lists.{has-set, node_within, same_either, set_case}
-use Rattle.node_world.proofs.Flows.{waiting-length, link_taken, uncut_waiting, got_is, IsFed, feed_from, feed_fed}
-use Rattle.node_world.proofs.Carriage.{AreWithin, ArePlain, feed_by, pair_here, pair_other, pair_case, over, with_link-parent, with_link-length, counted_lines}
+use Rattle.node_world.proofs.Flows.{waiting-length, link_taken, uncut_waiting, got_is, IsFedOn, feed_from, feed_fed}
+use Rattle.node_world.proofs.Carriage.{TakenWithin, AreUncounted, feed_by, pair_here, pair_other, pair_case, over, with_link-parent, with_link-length, counted_lines}
 use Rattle.node_world.proofs.Acted.{IsActed, HasFeed, IsFedPair, shown_by, linked_of, fed_of}
 use Rattle.node_world.proofs.Stills.{IsStep, IsTied, AreStill, tied_still}
 use Rattle.node_world.proofs.Neighbours.{IsOver, cause_of, refused_is, over_up, over_down, over_waits}
 
--- ---- the lines of records are plain
+-- ---- the lines of records are uncounted
 
-plain_of : (y : Enclave) (ls : List Line) → AreOf y ls → ArePlain ls
-plain_of y [] of = tt
-plain_of y (lines.Admitted e ∷ ls) of = (tt, plain_of y ls of.1)
-plain_of y (lines.Asked e by ∷ ls) of = (tt, plain_of y ls of.1)
-plain_of y (lines.Way e over ∷ ls) of = (tt, plain_of y ls of.1)
-plain_of y (lines.Sent a b r ∷ ls) of = (tt, plain_of y ls of.1)
-plain_of y (lines.Got a b ∷ ls) of = (tt, plain_of y ls of.1)
-plain_of y (lines.Dropped e ∷ ls) of = (tt, plain_of y ls of.1)
-plain_of y (lines.Back e d over ∷ ls) of = (tt, plain_of y ls of.1)
-plain_of y (lines.Route e d over ∷ ls) of = (tt, plain_of y ls of.1)
-plain_of y (_ ∷ ls) of = absurd of.0
+uncounted_of : (y : Enclave) (ls : List Line) → AreOf y ls → AreUncounted ls
+uncounted_of y [] of = tt
+uncounted_of y (lines.Admitted e ∷ ls) of = (tt, uncounted_of y ls of.1)
+uncounted_of y (lines.Asked e by ∷ ls) of = (tt, uncounted_of y ls of.1)
+uncounted_of y (lines.Way e over ∷ ls) of = (tt, uncounted_of y ls of.1)
+uncounted_of y (lines.Sent a b r ∷ ls) of = (tt, uncounted_of y ls of.1)
+uncounted_of y (lines.Got a b ∷ ls) of = (tt, uncounted_of y ls of.1)
+uncounted_of y (lines.Dropped e ∷ ls) of = (tt, uncounted_of y ls of.1)
+uncounted_of y (lines.Back e d over ∷ ls) of = (tt, uncounted_of y ls of.1)
+uncounted_of y (lines.Route e d over ∷ ls) of = (tt, uncounted_of y ls of.1)
+uncounted_of y (_ ∷ ls) of = absurd of.0
 
 -- ---- a delivery over a channel
 
@@ -83,13 +83,13 @@ module _ (wire : WireLaws) (views : ViewLaws) (G H : Facts) (m : MachineView) (x
   fits : n ≤ length (waiting_bytes link)
   fits = omega arith
 
-  is_fed : IsFed f.sent f.taken n d
+  is_fed : IsFedOn f.sent f.taken n d
   is_fed =
       let size = waiting-length _ f link k.link in
       let feed : feed_at node.feeds x ≡ feed_from f.sent f.taken = ap (λ (o : Option Decoding). option_map_or (λ d. d) o nothing_taken) k.feed in
       let piece : piece_of m count hop ≡ take n (drop f.taken (spellings_of f.sent)) = ap (take n) (k.link.waiting ∙ uncut_waiting f k.link.uncut) in
       let same : after_piece (feed_from f.sent f.taken) (take n (drop f.taken (spellings_of f.sent))) ≡ d = sym (ap (λ d. after_piece d (piece_of m count hop)) feed ∙ ap (after_piece (feed_from f.sent f.taken)) piece) in
-      subst (IsFed f.sent f.taken n) same (feed_fed wire f.sent f.taken n (step.before.flows x.0 y.0).valid (omega (arith, size, fits)))
+      subst (IsFedOn f.sent f.taken n) same (feed_fed wire f.sent f.taken n (step.before.flows x.0 y.0).valid (omega (arith, size, fits)))
 
   -- the facts once the bytes are taken
   abbrev T : Facts
@@ -117,7 +117,7 @@ module _ (wire : WireLaws) (views : ViewLaws) (G H : Facts) (m : MachineView) (x
   got_are : is_idle link ≡ false → got_lines T x y (arriving (T.channel x.0 y.0)) ≡ busy_lines m x y count hop
   got_are busy = (handled busy).lines ∙ ap (lines_of_records (view_of G y) x) came ∙ ap (λ v. lines_of_records v x d.records) is_view
 
-  lines_are : deliver_lines G x y count ≡ over_lines m x y count hop
+  lines_are : deliver_lines G x y count ≡ lines_over m x y count hop
   lines_are = ap (λ bytes. cond (eqb (length bytes) 0) (lines.Idle x y ∷ []) (took_lines G x y (min count (length bytes)))) (over_waits G m x y hop k) ∙ by (is_idle link) refl
     where
       by : (b : Bool) → is_idle link ≡ b → cond b (lines.Idle x y ∷ []) (took_lines G x y n) ≡ cond b (lines.Idle x y ∷ []) (lines.Took x y n ∷ busy_lines m x y count hop)
@@ -140,19 +140,19 @@ module _ (wire : WireLaws) (views : ViewLaws) (G H : Facts) (m : MachineView) (x
   node_after : is_idle link ≡ false → command_lines G (commands.Deliver x y count) ≡ lines.Took x y n ∷ ls → ((e : ℕ) → lives_at H e ≡ lives_at G e) → (e : ℕ) → lives_at G e ≡ true → IsNodeOf H e (node_at w.nodes e)
   node_after busy is living e lives =
       let B = after_line G (lines.Do (commands.Deliver x y count)) in
-      let v = view_of G (enclave e) in
+      let v = view_of G (enclave_numbered e) in
       let all = handled busy in
-      let view : view_of H (enclave e) ≡ seen_lines T v ls
+      let view : view_of H (enclave_numbered e) ≡ seen_lines T v ls
       = step.views e (living e ∙ lives) ∙ ap (seen_lines B v) is ∙ ap (λ u. seen_lines T u ls) (same_either (eqb y.0 e) v) in
       let old = h.nodes e lives in
       set_case m.nodes y.0 e after (unborn_node 0 host []) (IsNodeOf H e) inside
       (λ same.
-      let mine : v ≡ view_of G y = ap (λ k. view_of G (enclave k)) same in
-      let here : view_of H (enclave e) ≡ after_records node.view x d.records
+      let mine : v ≡ view_of G y = ap (λ k. view_of G (enclave_numbered k)) same in
+      let here : view_of H (enclave_numbered e) ≡ after_records node.view x d.records
       = view ∙ ap (λ u. seen_lines T u ls) mine ∙ ap (seen_lines T (view_of G y)) (sym (got_are busy)) ∙ all.own ∙ ap (after_records (view_of G y) x) came ∙ ap (λ u. after_records u x d.records) is_view in
       record { view = sym here; going = (h.nodes y.0 k.yours).going })
       (λ apart.
-      let there : view_of H (enclave e) ≡ v = view ∙ ap (seen_lines T v) (sym (got_are busy)) ∙ all.others v apart in
+      let there : view_of H (enclave_numbered e) ≡ v = view ∙ ap (seen_lines T v) (sym (got_are busy)) ∙ all.others v apart in
       record { view = old.view ∙ sym there; going = old.going })
 
   feed_after : (a b : ℕ) → HasFeed G.channel m.nodes a b → HasFeed T.channel w.nodes a b
@@ -177,7 +177,7 @@ module _ (wire : WireLaws) (views : ViewLaws) (G H : Facts) (m : MachineView) (x
       step.laws.put node.feeds x.0 c (record d { records = [] }) ∙ ap (λ b. cond b (Some (record d { records = [] })) (at node.feeds c)) apart ∙ h.strangers y.0 c far)
       (λ apart. h.strangers e c far)
 
-  within_after : AreWithin T.channel
+  within_after : TakenWithin T.channel
   within_after a b =
       let size = waiting-length _ f link k.link in
       let few = (step.before.flows a b).taken in
@@ -211,11 +211,11 @@ module _ (wire : WireLaws) (views : ViewLaws) (G H : Facts) (m : MachineView) (x
           }
 
   -- so the delivery is tied, where the machine makes this of it
-  pub tied_over : command_lines G (commands.Deliver x y count) ≡ deliver_lines G x y count → lines_by m (commands.Deliver x y count) ≡ over_lines m x y count hop → acted m (commands.Deliver x y count) ≡ over_machine m x y count hop
+  pub tied_over : command_lines G (commands.Deliver x y count) ≡ deliver_lines G x y count → lines_by m (commands.Deliver x y count) ≡ lines_over m x y count hop → acted m (commands.Deliver x y count) ≡ over_machine m x y count hop
       → IsTied G H (commands.Deliver x y count) m
   tied_over fine made machine = by (is_idle link) refl
     where
-      all : command_lines G (commands.Deliver x y count) ≡ over_lines m x y count hop
+      all : command_lines G (commands.Deliver x y count) ≡ lines_over m x y count hop
       all = fine ∙ lines_are
 
       by : (b : Bool) → is_idle link ≡ b → IsTied G H (commands.Deliver x y count) m
@@ -224,7 +224,7 @@ module _ (wire : WireLaws) (views : ViewLaws) (G H : Facts) (m : MachineView) (x
           tied_still G H (commands.Deliver x y count) m step h tt (machine ∙ ap (λ b. cond b m w) is) (made ∙ sym all) (subst AreStill (sym idle) (tt, tt))
       by false is =
           let busy : command_lines G (commands.Deliver x y count) ≡ lines.Took x y n ∷ ls = all ∙ ap (λ b. cond b (lines.Idle x y ∷ []) (lines.Took x y n ∷ ls)) is in
-          let plain : ArePlain ls = plain_of node.view.me ls (views.of node.view x d.records) in
+          let plain : AreUncounted ls = uncounted_of node.view.me ls (views.of node.view x d.records) in
           let facts : H ≡ after_lines T ls = step.after ∙ ap (after_lines (after_line G (lines.Do (commands.Deliver x y count)))) busy in
           let living : (e : ℕ) → lives_at H e ≡ lives_at G e = λ e. ap (λ F. lives_at F e) facts ∙ (counted_lines ls T plain).living e in
           let shown = shown_by step.laws T H ls w facts plain step.flowing (busy_acted is busy living) in

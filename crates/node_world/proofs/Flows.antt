@@ -12,10 +12,10 @@ use Rattle.xemem_wire.specs.Decoding.{Decoding, after_piece}
 use Rattle.global_model.specs.Facts.{ChannelFact, no_channel, with_sent, with_taken}
 use Rattle.global_model.specs.Channels.{whole_records, arriving, waiting_of}
 use Rattle.global_model.specs.Flow.{IsFlow}
-use Rattle.node_machine.specs.Links.{IsFlowing}
-use Rattle.node_world.specs.Links.{IsLinkOf, got_bytes, feed_of, rows_of}
+use Rattle.node_machine.specs.Links.{IsLinkFlowing}
+use Rattle.node_world.specs.Links.{IsLinkOf, got_bytes, feed_of, rows_sent}
 use Rattle.node_world.specs.Laws.{LinkLaws, WireLaws}
-use Rattle.node_world.proofs.Fronts.{spelling_of-length, IsFront, front_of, spellings-append, spellings-length, whole-after, whole-take, whole-bytes, whole-more}
+use Rattle.node_world.proofs.Fronts.{spelling_of-length, IsReadFront, front_of, spellings-append, spellings-length, whole-after, whole-take, whole-bytes, whole-more}
 
 -- ---- what waits in a link
 
@@ -31,7 +31,7 @@ all_rows (row ∷ rows) n fits =
     let size = length-append row (concat rows) in
     ap (λ first. first ∷ first_bytes (n - length row) rows) (take_all n row (omega (arith, size, fits))) ∙ ap (λ more. row ∷ more) (all_rows rows (n - length row) (omega (arith, size, fits)))
 
-pub uncut_rows : (f : ChannelFact) → f.cut ≡ 0 → rows_of f ≡ map spelling_of f.sent
+pub uncut_rows : (f : ChannelFact) → f.cut ≡ 0 → rows_sent f ≡ map spelling_of f.sent
 uncut_rows f uncut =
     let all = ap length (spellings-concat f.sent) in
     all_rows (map spelling_of f.sent) (length (spellings_of f.sent) - f.cut) (omega (arith, all, uncut))
@@ -74,7 +74,7 @@ pub link_taken : LinkLaws → (dead : Bool) (f : ChannelFact) (link : Channel) (
 link_taken laws dead f link n fits h = record {
   within = let size = waiting-length dead f link h in omega (arith, size, fits, h.uncut);
   waiting = laws.take link n ∙ ap (drop n) h.waiting ∙ drop-more f.taken n (take (length (spellings_of f.sent) - f.cut) (spellings_of f.sent));
-  pieces = laws.taken link (rows_of f) f.taken n h.pieces;
+  pieces = laws.taken link (rows_sent f) f.taken n h.pieces;
   ended = h.ended;
   end_taken = h.end_taken;
   uncut = h.uncut;
@@ -88,7 +88,7 @@ later-valid (suc n) [] valid = tt
 later-valid (suc n) (r ∷ rs) valid = later-valid n rs valid.1
 
 -- what isn't decoded yet are the records that weren't got
-pub flowing_of : (dead : Bool) (f : ChannelFact) (link : Channel) → IsFlow f → IsLinkOf dead f link → IsFlowing link (feed_of f)
+pub flowing_of : (dead : Bool) (f : ChannelFact) (link : Channel) → IsFlow f → IsLinkOf dead f link → IsLinkFlowing link (feed_of f)
 flowing_of dead f link flow h =
     let S = spellings_of f.sent in
     let D = spellings_of (take f.got f.sent) in
@@ -146,12 +146,12 @@ read_feed d ws tail before rs n made all rest =
     ∙ ap (λ (xs : List ℕ). record { records = []; rest = xs; before = length (spellings_of (whole_records n rs)); bad = None }) (sym rest)
 
 -- the next n bytes are fed to it
-pub record IsFed (rs : List Record) (n m : ℕ) (d : Decoding) : Type 0 where
+pub record IsFedOn (rs : List Record) (n m : ℕ) (d : Decoding) : Type 0 where
   pub came : d.records ≡ drop (length (whole_records n rs)) (whole_records (n + m) rs)
   pub feed : record d { records = [] } ≡ feed_from rs (n + m)
 
-fed_front : WireLaws → (rs : List Record) (n m : ℕ) → n + m ≤ length (spellings_of rs) → (f : IsFront rs n (whole_records n rs)) → IsFront f.more (length f.tail + m) (whole_records (length f.tail + m) f.more)
-    → IsFed rs n m (after_piece (feed_from rs n) (take m (drop n (spellings_of rs))))
+fed_front : WireLaws → (rs : List Record) (n m : ℕ) → n + m ≤ length (spellings_of rs) → (f : IsReadFront rs n (whole_records n rs)) → IsReadFront f.more (length f.tail + m) (whole_records (length f.tail + m) f.more)
+    → IsFedOn rs n m (after_piece (feed_from rs n) (take m (drop n (spellings_of rs))))
 fed_front laws rs n m fits f g =
     let S = spellings_of rs in
     let ws = whole_records n rs in
@@ -179,7 +179,7 @@ pub more-valid : (ws more : List Record) → AreValid (ws ++ more) → AreValid 
 more-valid [] more valid = valid
 more-valid (w ∷ ws) more valid = more-valid ws more valid.1
 
-pub feed_fed : WireLaws → (rs : List Record) (n m : ℕ) → AreValid rs → n + m ≤ length (spellings_of rs) → IsFed rs n m (after_piece (feed_from rs n) (take m (drop n (spellings_of rs))))
+pub feed_fed : WireLaws → (rs : List Record) (n m : ℕ) → AreValid rs → n + m ≤ length (spellings_of rs) → IsFedOn rs n m (after_piece (feed_from rs n) (take m (drop n (spellings_of rs))))
 feed_fed laws rs n m valid fits =
     let f = front_of laws rs n valid (omega (arith, fits)) in
     let size : length f.tail + length (drop n (spellings_of rs)) ≡ length (spellings_of f.more) = sym (length-append f.tail (drop n (spellings_of rs))) ∙ ap length f.bytes in

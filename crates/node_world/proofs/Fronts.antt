@@ -23,7 +23,7 @@ pub spellings-length : (rs ss : List Record) → length (spellings_of (rs ++ ss)
 spellings-length rs ss = ap length (spellings-append rs ss) ∙ length-append (spellings_of rs) (spellings_of ss)
 
 -- what a decoder makes of the first m bytes of records: these are whole, and the bytes after them
-pub record IsFront (rs : List Record) (m : ℕ) (ws : List Record) : Type 0 where
+pub record IsReadFront (rs : List Record) (m : ℕ) (ws : List Record) : Type 0 where
   pub more : List Record
   pub tail : List ℕ
   pub whole : rs ≡ ws ++ more
@@ -42,7 +42,7 @@ unfolding first_bad reading_of reading_within fault_of first_failed
 fine_nil = refl
 
 -- one whole record more in front
-front_whole : WireLaws → (r : Record) (rs ws : List Record) (m k : ℕ) → is_valid r ≡ true → m ≡ length (spelling_of r) + k → IsFront rs k ws → IsFront (r ∷ rs) m (r ∷ ws)
+front_whole : WireLaws → (r : Record) (rs ws : List Record) (m k : ℕ) → is_valid r ≡ true → m ≡ length (spelling_of r) + k → IsReadFront rs k ws → IsReadFront (r ∷ rs) m (r ∷ ws)
 front_whole laws r rs ws m k valid is f =
     let front : take m (spellings_of (r ∷ rs)) ≡ spelling_of r ++ take k (spellings_of rs) = ap (λ n. take n (spellings_of (r ∷ rs))) is ∙ take-append-add (spelling_of r) (spellings_of rs) k in
     let back : drop m (spellings_of (r ∷ rs)) ≡ drop k (spellings_of rs) = ap (λ n. drop n (spellings_of (r ∷ rs))) is ∙ drop-append-add (spelling_of r) (spellings_of rs) k in
@@ -60,7 +60,7 @@ front_whole laws r rs ws m k valid is f =
     }
 
 -- the first record is cut
-front_cut : WireLaws → (r : Record) (rs : List Record) (m : ℕ) → is_valid r ≡ true → m < length (spelling_of r) → IsFront (r ∷ rs) m []
+front_cut : WireLaws → (r : Record) (rs : List Record) (m : ℕ) → is_valid r ≡ true → m < length (spelling_of r) → IsReadFront (r ∷ rs) m []
 front_cut laws r rs m valid short =
     let front : take m (spellings_of (r ∷ rs)) ≡ take m (spelling_of r) = take-append-le m (spelling_of r) (spellings_of rs) (omega arith) in
     let len : length (take m (spelling_of r)) ≡ m = length-take-le m (spelling_of r) (omega arith) in
@@ -75,17 +75,17 @@ front_cut laws r rs m valid short =
       taken = omega (arith, len);
     }
 
-front_none : (m : ℕ) → m ≡ 0 → IsFront [] m []
+front_none : (m : ℕ) → m ≡ 0 → IsReadFront [] m []
 front_none m none = rw none (record { more = []; tail = []; whole = refl; front = refl; reading = reading_nil; fine = fine_nil; bytes = refl; taken = refl })
 
-pub front_of : WireLaws → (rs : List Record) (m : ℕ) → AreValid rs → m ≤ length (spellings_of rs) → IsFront rs m (whole_records m rs)
+pub front_of : WireLaws → (rs : List Record) (m : ℕ) → AreValid rs → m ≤ length (spellings_of rs) → IsReadFront rs m (whole_records m rs)
 front_of laws [] m valid fits = front_none m (omega arith)
 front_of laws (r ∷ rs) m valid fits = by (λ short. front_of laws rs (m - size_of r) valid.1 short) (leb (size_of r) m) refl
   where
     room : length (spelling_of r ++ spellings_of rs) ≡ length (spelling_of r) + length (spellings_of rs)
     room = length-append (spelling_of r) (spellings_of rs)
 
-    by : ((m - size_of r ≤ length (spellings_of rs)) → IsFront rs (m - size_of r) (whole_records (m - size_of r) rs)) → (b : Bool) → leb (size_of r) m ≡ b → IsFront (r ∷ rs) m (cond b (r ∷ whole_records (m - size_of r) rs) [])
+    by : ((m - size_of r ≤ length (spellings_of rs)) → IsReadFront rs (m - size_of r) (whole_records (m - size_of r) rs)) → (b : Bool) → leb (size_of r) m ≡ b → IsReadFront (r ∷ rs) m (cond b (r ∷ whole_records (m - size_of r) rs) [])
     by more true is = let le : size_of r ≤ m = leb-true _ _ is in front_whole laws r rs _ m (m - size_of r) valid.0 (omega arith) (more (omega (arith, room, fits)))
     by more false is = front_cut laws r rs m valid.0 (leb-false _ _ is)
 

@@ -13,7 +13,7 @@ use Rattle.global_model.specs.Facts.{facts_after, after_line}
 use Rattle.global_model.specs.Due.{command_lines, journal_of, settle_from, step_lines}
 use Rattle.global_model.specs.Journals.{do_commands, onto, command_at}
 use Rattle.node_world.specs.declared.world.Which.{Which}
-use Rattle.node_world.specs.Laws.{Laws}
+use Rattle.node_world.specs.Laws.{WorldLaws}
 use Rattle.node_machine.specs.Links.{sent_in}
 use Rattle.node_machine.specs.Machine.{MachineView, lines_by, after_command}
 use Rattle.node_machine.specs.Ready.{IsReady, IsNoSettle, CanStep}
@@ -21,7 +21,7 @@ use Rattle.node_world.specs.Shown.{IsShown}
 use Rattle.node_world.specs.World.{most_words, holding, IsHistoryOf, IsAlong, IsCut, IsStopped}
 use Rattle.node_world.proofs.Stills.{shown_hand}
 use Rattle.node_world.proofs.Steps.{stepped, ready, can_step, sent_valid}
-use Rattle.node_world.proofs.Counts.{AreCounted, counted_line, counted_after}
+use Rattle.node_world.proofs.Counts.{AreOwnWords, counted_line, counted_after}
 use Rattle.node_world.proofs.Stops.{stopped_more, stopped_behind}
 use Rattle.node_world.proofs.Words.{onto-append}
 
@@ -31,7 +31,7 @@ placed_more n (b ∷ before) c placed may range =
     let count : n + length (b ∷ before) ≡ (n + 1) + length before = omega arith in
     (placed.0, placed.1, placed_more (n + 1) before c placed.2 (subst (λ k. may_stand k c ≡ true) count may) range)
 
-module _ (laws : Laws) (m : MachineView) (journal : List Line) (h : IsHistoryOf m journal) (c : Command) (may : may_stand (length (do_commands journal)) c ≡ true) (range : IsInRange c) where
+module _ (laws : WorldLaws) (m : MachineView) (journal : List Line) (h : IsHistoryOf m journal) (c : Command) (may : may_stand (length (do_commands journal)) c ≡ true) (range : IsInRange c) where
   placed : IsPlaced (do_commands journal ++ c ∷ [])
   placed = let none : 0 + length (do_commands journal) ≡ length (do_commands journal) = omega arith in placed_more 0 (do_commands journal) c h.placed (subst (λ k. may_stand k c ≡ true) (sym none) may) range
 
@@ -67,7 +67,7 @@ module _ (laws : Laws) (m : MachineView) (journal : List Line) (h : IsHistoryOf 
     whole_journal after ls is grown =
         grown ∙ ap (λ j. j ++ ls) out ∙ append_assoc journal (lines.Do c ∷ []) ls ∙ ap (λ ls. journal ++ lines.Do c ∷ ls) is ∙ sym all_lines
 
-    history_of : (w : MachineView) (after : List Line) → after ≡ journal_of (do_commands journal ++ c ∷ []) → IsShown (facts_after after) w → AreCounted w after → IsHistoryOf w after
+    history_of : (w : MachineView) (after : List Line) → after ≡ journal_of (do_commands journal ++ c ∷ []) → IsShown (facts_after after) w → AreOwnWords w after → IsHistoryOf w after
     history_of w after whole shows counted =
         let commands : do_commands after ≡ do_commands journal ++ c ∷ [] = ap do_commands whole ∙ laws.commands (do_commands journal ++ c ∷ []) in
         record { placed = subst IsPlaced (sym commands) placed; told = whole ∙ ap journal_of (sym commands); shown = shows; appended = counted }
@@ -75,8 +75,8 @@ module _ (laws : Laws) (m : MachineView) (journal : List Line) (h : IsHistoryOf 
     at_hand : command_at (onto begun []) ≡ Some c
     at_hand = ap (λ j. command_at (onto j [])) out ∙ ap command_at (onto-append journal (lines.Do c ∷ []) [])
 
-    counted_begun : AreCounted m begun
-    counted_begun = subst (AreCounted m) (sym out) (counted_line m journal (lines.Do c) (λ e past. refl) h.appended)
+    counted_begun : AreOwnWords m begun
+    counted_begun = subst (AreOwnWords m) (sym out) (counted_line m journal (lines.Do c) (λ e past. refl) h.appended)
 
     -- ---- a step of the machine
 
@@ -100,7 +100,7 @@ module _ (laws : Laws) (m : MachineView) (journal : List Line) (h : IsHistoryOf 
           let written : after ≡ begun ++ lines_by m c = grown ∙ ap (λ w. begun ++ lines_by w c) same in
           history_of v after whole
           (subst (λ v. IsShown (facts_after after) v) (sym then) (subst (λ j. IsShown (facts_after j) (after_command m c)) (sym whole) (stepped laws (do_commands journal) c m quiet placed shown).1))
-          (subst (λ v. AreCounted v after) (sym then) (subst (AreCounted (after_command m c)) (sym written)
+          (subst (λ v. AreOwnWords v after) (sym then) (subst (AreOwnWords (after_command m c)) (sym written)
           (counted_after laws m c begun (ready laws (do_commands journal) m h.placed shown) (can_step laws (do_commands journal) c m quiet placed shown).stands at_hand counted_begun (subst (λ j. words_in j ≤ most_words) written few))))
 
     -- ---- a settle

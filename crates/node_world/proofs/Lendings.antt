@@ -7,7 +7,7 @@ use Rattle.xm_num.specs.declared.Enclave.{Enclave}
 use Rattle.byte_link.specs.Channel.{Channel, waiting_bytes}
 use Rattle.xemem_language.specs.declared.line.Line.{Line}
 use Rattle.global_model.specs.Facts.{Facts, EnclaveFact, facts_after, is_living_enclave, has_parent, lives_at}
-use Rattle.global_model.specs.Channels.{is_child_of, is_neighbour, waiting_bytes as waiting_in}
+use Rattle.global_model.specs.Channels.{is_child_of, is_neighbour, waiting_in}
 use Rattle.global_model.specs.Flow.{IsFlowing}
 use Rattle.global_model.specs.Refusals.{link_conditions, first_cause}
 use Rattle.enclave_node.specs.Nodes.{NodeView, unborn_node}
@@ -15,7 +15,7 @@ use Rattle.enclave_rules.specs.Core.{host}
 use Rattle.node_machine.specs.declared.pair.Hop.{Hop}
 use Rattle.node_machine.specs.declared.pair.Hop.TheVariants as hops
 use Rattle.node_world.specs.Appended.{words_by}
-use Rattle.node_world.specs.Laws.{Laws}
+use Rattle.node_world.specs.Laws.{WorldLaws}
 use Rattle.node_machine.specs.Machine.{MachineView, has_node, node_at, node_of, pair_at, hop_in, link_by, link_between}
 use Rattle.node_world.specs.Shown.{IsNodeOf, Feeds, IsFedBy, IsShown}
 use Rattle.node_world.specs.World.{IsHistoryOf}
@@ -39,7 +39,7 @@ some_lent (Some b) P has = has b.now refl
 
 -- ---- the facts of a history
 
-pub flowing_in : Laws → (m : MachineView) (journal : List Line) → IsHistoryOf m journal → IsFlowing (facts_after journal)
+pub flowing_in : WorldLaws → (m : MachineView) (journal : List Line) → IsHistoryOf m journal → IsFlowing (facts_after journal)
 flowing_in laws m journal h = subst (λ j. IsFlowing (facts_after j)) (sym h.told) (laws.flowing (do_commands journal) h.placed)
 
 -- neighbours were born
@@ -83,7 +83,7 @@ far_refused G x y far = by (is_living_enclave (G.enclave y.0) && is_some (G.encl
 -- ---- links
 
 -- a link is lent between neighbours, and its bytes are those that wait
-pub link_waits : Laws → (G : Facts) (m : MachineView) → IsFlowing G → IsShown G m → (x y : Enclave) (link : Channel) → link_between m x y ≡ Some link → waiting_bytes link ≡ waiting_in G x.0 y.0
+pub link_waits : WorldLaws → (G : Facts) (m : MachineView) → IsFlowing G → IsShown G m → (x y : Enclave) (link : Channel) → link_between m x y ≡ Some link → waiting_bytes link ≡ waiting_in G x.0 y.0
 link_waits laws G m flowing h x y link is = by (hop_in m x y) refl is
   where
     by : (hop : Hop) → hop_in m x y ≡ hop → link_by m.pairs hop ≡ Some link → waiting_bytes link ≡ waiting_in G x.0 y.0
@@ -126,7 +126,7 @@ lent_node G m h e node is =
 pub lent_appended : (m : MachineView) (journal : List Line) → IsHistoryOf m journal → (e : ℕ) (node : NodeView) → node_of m.nodes e ≡ Some node → node.appended ≡ words_by e (onto journal [])
 lent_appended m journal h e node is = ap (λ n. n.appended) (sym (node_found m.nodes e node is).1) ∙ h.appended e
 
-pub lent_feeds : Laws → (G : Facts) (m : MachineView) → IsFlowing G → IsShown G m → (e : ℕ) (node : NodeView) → node_of m.nodes e ≡ Some node → IsFedBy G e node
+pub lent_feeds : WorldLaws → (G : Facts) (m : MachineView) → IsFlowing G → IsShown G m → (e : ℕ) (node : NodeView) → node_of m.nodes e ≡ Some node → IsFedBy G e node
 lent_feeds laws G m flowing h e node is x near = subst (Feeds G x e) (node_found m.nodes e node is).1 (by (hop_in m from to) refl)
   where
     from : Enclave

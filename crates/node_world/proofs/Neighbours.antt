@@ -9,7 +9,7 @@ use Rattle.xm_num.specs.declared.Cause.TheVariants as causes
 use Rattle.xemem_language.specs.declared.command.Command.TheVariants as commands
 use Rattle.xemem_language.specs.declared.line.Line.{Line}
 use Rattle.global_model.specs.Facts.{Facts, EnclaveFact, has_parent, fact_of, lives_at}
-use Rattle.global_model.specs.Channels.{is_child_of, is_neighbour, waiting_bytes as waiting_in, waiting_of}
+use Rattle.global_model.specs.Channels.{is_child_of, is_neighbour, waiting_in, waiting_of}
 use Rattle.global_model.specs.Flow.{IsFlowing}
 use Rattle.global_model.specs.Refusals.{when, link_conditions, first_cause}
 use Rattle.enclave_rules.specs.Steps.{refusal, bytes_lines}
@@ -23,7 +23,7 @@ use Rattle.node_world.proofs.Lists.{node_within}
 use Rattle.node_world.specs.Links.{IsLinkOf}
 use Rattle.node_world.proofs.Acted.{HasFeed, linked_of, fed_of}
 use Rattle.node_world.proofs.Stills.{IsStep, IsTied, AreStill, tied_still, still_bytes}
-use Rattle.node_world.specs.Laws.{Laws}
+use Rattle.node_world.specs.Laws.{WorldLaws}
 
 -- the cause for which nothing goes over a channel
 abbrev pub cause_of : Hop → Option Cause
@@ -99,7 +99,7 @@ module _ (G : Facts) (m : MachineView) (flowing : IsFlowing G) (h : IsShown G m)
       by true some = refl
       by false some = absurd (some refl)
 
-  pub over_up : Laws → (x y : Enclave) (i : ℕ) → hop_in m x y ≡ hops.Up i → IsOver G m x y (hops.Up i)
+  pub over_up : WorldLaws → (x y : Enclave) (i : ℕ) → hop_in m x y ≡ hops.Up i → IsOver G m x y (hops.Up i)
   over_up laws x y i is =
       let k = laws.hops.up m.pairs (are_known m.nodes x y) x y i is in
       let lives = to_living x y (λ none. let no : hops.Up i ≡ hops.NoEnclave = sym is ∙ none in cc) in
@@ -115,7 +115,7 @@ module _ (G : Facts) (m : MachineView) (flowing : IsFlowing G) (h : IsShown G m)
         feed = subst (λ a. HasFeed G.channel m.nodes a y.0) (sym child) (subst (HasFeed G.channel m.nodes (i + 1)) parent (fed.up (ap (lives_at G) parent ∙ lives)));
       }
 
-  pub over_down : Laws → (x y : Enclave) (i : ℕ) → hop_in m x y ≡ hops.Down i → IsOver G m x y (hops.Down i)
+  pub over_down : WorldLaws → (x y : Enclave) (i : ℕ) → hop_in m x y ≡ hops.Down i → IsOver G m x y (hops.Down i)
   over_down laws x y i is =
       let k = laws.hops.down m.pairs (are_known m.nodes x y) x y i is in
       let lives = to_living x y (λ none. let no : hops.Down i ≡ hops.NoEnclave = sym is ∙ none in cc) in

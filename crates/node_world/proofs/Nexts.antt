@@ -15,13 +15,13 @@ use Rattle.xemem_wire.specs.Spelling.{spelling_of}
 use Rattle.xemem_language.specs.declared.command.Command.{Command}
 use Rattle.xemem_language.specs.declared.command.Command.TheVariants as commands
 use Rattle.global_model.specs.Facts.{Facts, ChannelFact, lives_at}
-use Rattle.global_model.specs.Channels.{is_child_of, size_of, waiting_bytes as waiting_in, waiting_of}
+use Rattle.global_model.specs.Channels.{is_child_of, size_of, waiting_in, waiting_of}
 use Rattle.global_model.specs.Flow.{IsFlowing}
 use Rattle.global_model.specs.Due.{rest_of_record, next_rest, channels_of, waits, waiting_channels, first_waiting}
 use Rattle.node_machine.specs.declared.pair.Pair.{Pair}
 use Rattle.node_machine.specs.declared.pair.Hop.TheVariants as hops
 use Rattle.node_machine.specs.Machine.{MachineView, pair_at, is_idle, waiting_hops_of, waiting_hops, delivery_over, next_delivery}
-use Rattle.node_machine.specs.Machine.{enclave}
+use Rattle.node_machine.specs.Machine.{enclave_numbered}
 use Rattle.node_world.specs.Shown.{IsShown}
 use Rattle.node_world.specs.Links.{IsLinkOf}
 use Rattle.node_world.proofs.Flows.{uncut_rows}
@@ -119,7 +119,7 @@ module _ (G : Facts) (m : MachineView) (flowing : IsFlowing G) (h : IsShown G m)
       pair = pair_at pairs i
 
       c : Enclave
-      c = enclave (i + 1)
+      c = enclave_numbered (i + 1)
 
       x : Enclave × Enclave
       x = (c, pair.parent)

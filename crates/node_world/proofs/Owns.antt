@@ -24,10 +24,10 @@ use Rattle.global_model.specs.Known.{at_living}
 use Rattle.global_model.specs.Due.{command_lines}
 use Rattle.enclave_node.specs.Nodes.{NodeView, unborn_node, wrote}
 use Rattle.node_machine.specs.Machine.{MachineView, has_node, node_at, pair_at, at_node, lines_by, acted, with_carried, after_command, call_by, after_call}
-use Rattle.node_machine.specs.Machine.{enclave}
+use Rattle.node_machine.specs.Machine.{enclave_numbered}
 use Rattle.node_world.specs.Shown.{IsNodeOf, IsShown}
 use Rattle.node_world.proofs.Lists.{has-set, node_within, set_case}
-use Rattle.node_world.proofs.Carriage.{ArePlain, counted_lines}
+use Rattle.node_world.proofs.Carriage.{AreUncounted, counted_lines}
 use Rattle.node_world.proofs.Acted.{IsActed, shown_by, linked_of, within_of, fed_of}
 use Rattle.node_world.proofs.Stills.{IsStep, IsTied, IsNoPool, AreStill, tied_still, at_is}
 
@@ -43,13 +43,13 @@ module _ (G H : Facts) (c : Command) (m : MachineView) (step : IsStep G H c) (h 
   -- the nodes once that of the enclave wrote the lines of the command
   own_nodes : (ls : List Line) → command_lines G c ≡ ls → AreAbout e ls → ((d : ℕ) → lives_at H d ≡ lives_at G d) → (d : ℕ) → lives_at G d ≡ true → IsNodeOf H d (node_at (slice_set m.nodes e.0 (wrote hand (node_at m.nodes e.0) ls)) d)
   own_nodes ls is about living d there =
-      let view : (k : ℕ) → lives_at G k ≡ true → view_of H (enclave k) ≡ seen_lines (after_line G (lines.Do c)) (view_of G (enclave k)) ls = λ k lt. step.views k (living k ∙ lt) ∙ ap (seen_lines (after_line G (lines.Do c)) (view_of G (enclave k))) is in
+      let view : (k : ℕ) → lives_at G k ≡ true → view_of H (enclave_numbered k) ≡ seen_lines (after_line G (lines.Do c)) (view_of G (enclave_numbered k)) ls = λ k lt. step.views k (living k ∙ lt) ∙ ap (seen_lines (after_line G (lines.Do c)) (view_of G (enclave_numbered k))) is in
       let views = step.laws.views in
       let old = h.nodes e.0 lives in
       let here : IsNodeOf H e.0 (wrote hand (node_at m.nodes e.0) ls) = record { view = ap (λ v. own_lines hand v ls) old.view ∙ sym (view e.0 lives ∙ views.own (after_line G (lines.Do c)) (view_of G e) ls (step.plain e) about); going = old.going } in
       set_case m.nodes e.0 d (wrote hand (node_at m.nodes e.0) ls) (unborn_node 0 (record { 0 = 0 }) []) (IsNodeOf H d) inside
       (λ same. subst (λ k. IsNodeOf H k (wrote hand (node_at m.nodes e.0) ls)) (sym same) here)
-      (λ apart. let k = h.nodes d there in record { view = k.view ∙ sym (view d there ∙ views.others (after_line G (lines.Do c)) e (view_of G (enclave d)) ls about apart); going = k.going })
+      (λ apart. let k = h.nodes d there in record { view = k.view ∙ sym (view d there ∙ views.others (after_line G (lines.Do c)) e (view_of G (enclave_numbered d)) ls about apart); going = k.going })
 
   -- and what their decoders have
   own_feed : (n : NodeView) → n.feeds ≡ (node_at m.nodes e.0).feeds → (d a : ℕ) → at (node_at (slice_set m.nodes e.0 n) d).feeds a ≡ at (node_at m.nodes d).feeds a
@@ -127,18 +127,18 @@ tied_proc G H m e uid gid step h = by (lives_at G e.0) (leb 1024 G.starts) refl 
 
 -- ---- calls
 
--- the lines of a call are about its enclave, and plain
+-- the lines of a call are about its enclave, and uncounted
 about_call : (e : Enclave) (ls : List Line) → AreCallLines e ls → AreAbout e ls
 about_call e [] own = tt
 about_call e (lines.Refused cause ∷ ls) own = (tt, about_call e ls own.1)
 about_call e (lines.Alloc of p page frames ∷ ls) own = (own.0, about_call e ls own.1)
 about_call e (_ ∷ ls) own = absurd own.0
 
-plain_call : (e : Enclave) (ls : List Line) → AreCallLines e ls → ArePlain ls
-plain_call e [] own = tt
-plain_call e (lines.Refused cause ∷ ls) own = (tt, plain_call e ls own.1)
-plain_call e (lines.Alloc of p page frames ∷ ls) own = (tt, plain_call e ls own.1)
-plain_call e (_ ∷ ls) own = absurd own.0
+uncounted_call : (e : Enclave) (ls : List Line) → AreCallLines e ls → AreUncounted ls
+uncounted_call e [] own = tt
+uncounted_call e (lines.Refused cause ∷ ls) own = (tt, uncounted_call e ls own.1)
+uncounted_call e (lines.Alloc of p page frames ∷ ls) own = (tt, uncounted_call e ls own.1)
+uncounted_call e (_ ∷ ls) own = absurd own.0
 
 -- the `do` line of a call gives it into the hand
 call_begun : (G : Facts) (c : Command) (k : ProcessCall) → call_of c ≡ Some k → after_line G (lines.Do c) ≡ record G { hand = Calls k }
@@ -189,7 +189,7 @@ tied_call G H m c k is step h = by (lives_at G e.0) refl
         let made_is : after_call m k ≡ w = rw (lives, node.view) refl in
         let lines_are = step.laws.views.calls (view_of G e) k.pid k.call in
         let about : AreAbout e own = about_call e own lines_are in
-        let plain : ArePlain own = plain_call e own lines_are in
+        let plain : AreUncounted own = uncounted_call e own lines_are in
         let B : Facts = record G { hand = Calls k } in
         let facts : H ≡ after_lines B own = step.after ∙ ap (λ F. after_lines F (command_lines G c)) (call_begun G c k is) ∙ ap (after_lines B) own_is in
         let living : (d : ℕ) → lives_at H d ≡ lives_at G d = λ d. ap (λ F. lives_at F d) facts ∙ (counted_lines own B plain).living d in

@@ -18,8 +18,8 @@ use Rattle.enclave_rules.specs.View.{View}
 use Rattle.global_model.specs.Views.{child_row}
 use Rattle.enclave_node.specs.Nodes.{NodeView}
 use Rattle.byte_link.specs.Channel.{Channel}
-use Rattle.node_machine.specs.Links as links
-use Rattle.node_machine.specs.Machine.{MachineView, enclave, has_node, node_at, pair_at}
+use Rattle.node_machine.specs.Links.{IsLinkFlowing}
+use Rattle.node_machine.specs.Machine.{MachineView, enclave_numbered, has_node, node_at, pair_at}
 use Rattle.node_world.specs.Shown.{IsShown}
 use Rattle.node_machine.specs.Ready.{CanTake, IsPairReady, IsReady}
 use Rattle.node_world.proofs.Lists.{node_gone}
@@ -36,9 +36,9 @@ below G t c (suc n) a most = by (below G t c n (a + 1) (omega (arith, most))) (t
     by more true = let test : is_eq (nat_cmp c a) ≡ false = unsigned_tied c a ∙ ne_eqb c a (λ same. omega (arith, same, most)) in ap (λ b. cond b (Some (fact_of (G.enclave a)).kind) (at (map (child_row G) (filter t (range_with_len (a + 1) n))) c)) test ∙ more
     by more false = more
 
-can_take : (link : Channel) (node : NodeView) (x : Enclave) (d : Decoding) → at node.feeds x.0 ≡ Some d → links.IsFlowing link d → CanTake link node x
+can_take : (link : Channel) (node : NodeView) (x : Enclave) (d : Decoding) → at node.feeds x.0 ≡ Some d → IsLinkFlowing link d → CanTake link node x
 can_take link node x d is flow = record {
-  flows = subst (links.IsFlowing link) (sym (ap (λ (o : Option Decoding). option_map_or (λ d. d) o nothing_taken) is)) flow;
+  flows = subst (IsLinkFlowing link) (sym (ap (λ (o : Option Decoding). option_map_or (λ d. d) o nothing_taken) is)) flow;
   open_end = subst IsSome (sym is) refl;
 }
 
@@ -51,7 +51,7 @@ module _ (G : Facts) (m : MachineView) (flowing : IsFlowing G) (h : IsShown G m)
         above = k.above;
         parent = λ has. ap (λ (v : View). v.core.parent) (h.nodes (i + 1) (sym (h.living (i + 1)) ∙ has)).view ∙ sym k.parent;
         up = λ has. let up = k.up (sym (h.living p.parent.0) ∙ has) in
-            can_take p.up (node_at m.nodes p.parent.0) (enclave (i + 1)) _ up.feed (flowing_of _ (G.channel (i + 1) p.parent.0) p.up (flowing.flows (i + 1) p.parent.0) up.bytes);
+            can_take p.up (node_at m.nodes p.parent.0) (enclave_numbered (i + 1)) _ up.feed (flowing_of _ (G.channel (i + 1) p.parent.0) p.up (flowing.flows (i + 1) p.parent.0) up.bytes);
         down = λ has. let down = k.down (sym (h.living (i + 1)) ∙ has) in
             can_take p.down (node_at m.nodes (i + 1)) p.parent _ down.feed (flowing_of _ (G.channel p.parent.0 (i + 1)) p.down (flowing.flows p.parent.0 (i + 1)) down.bytes);
       }

@@ -25,7 +25,7 @@ use Rattle.node_machine.specs.Links.{sent_in}
 use Rattle.node_machine.specs.Machine.{MachineView, no_machine, lines_by, after_command}
 use Rattle.node_world.specs.Shown.{IsShown}
 use Rattle.node_machine.specs.Ready.{IsReady, IsNoSettle, Stands, CanStep}
-use Rattle.node_world.specs.Laws.{Laws}
+use Rattle.node_world.specs.Laws.{WorldLaws}
 use Rattle.node_world.proofs.Flows.{more-valid}
 use Rattle.node_world.proofs.Stills.{IsTied, placed_before, step_of, tied_touch, tied_show}
 use Rattle.node_world.proofs.Owns.{tied_proc, tied_call}
@@ -87,7 +87,7 @@ no_settle (commands.Settle most) other = other most refl
 no_settle _ other = tt
 
 -- what the machine writes is what the rules give, and it shows the facts after it: for a command that is no call and shows no node
-stepped_other : Laws → (commands : List Command) (c : Command) → call_of c ≡ None → show_of c ≡ None → (m : MachineView) → IsNoSettle c → IsPlaced (commands ++ c ∷ []) → IsShown (facts_after (journal_of commands)) m
+stepped_other : WorldLaws → (commands : List Command) (c : Command) → call_of c ≡ None → show_of c ≡ None → (m : MachineView) → IsNoSettle c → IsPlaced (commands ++ c ∷ []) → IsShown (facts_after (journal_of commands)) m
     → (lines_by m c ≡ command_lines (facts_after (journal_of commands)) c) × IsShown (facts_after (journal_of (commands ++ c ∷ []))) (after_command m c)
 stepped_other laws before (commands.Pool blocks) no_call no_show m step placed h =
     let count = eqb-true (0 + length before) 0 (and_parts _ _ (last_stands 0 before (commands.Pool blocks) placed).0).0 in
@@ -109,7 +109,7 @@ stepped_other laws before commands.ShowPool no_call no_show m step placed h = cc
 stepped_other laws before c no_call no_show m step placed h = let no : false ≡ true = (and_parts _ _ (last_stands 0 before c placed).0).1 in cc
 
 -- and for any command
-pub stepped : Laws → (commands : List Command) (c : Command) (m : MachineView) → IsNoSettle c → IsPlaced (commands ++ c ∷ []) → IsShown (facts_after (journal_of commands)) m
+pub stepped : WorldLaws → (commands : List Command) (c : Command) (m : MachineView) → IsNoSettle c → IsPlaced (commands ++ c ∷ []) → IsShown (facts_after (journal_of commands)) m
     → (lines_by m c ≡ command_lines (facts_after (journal_of commands)) c) × IsShown (facts_after (journal_of (commands ++ c ∷ []))) (after_command m c)
 stepped laws before c m step placed h = by (call_of c) refl (show_of c) refl
   where
@@ -120,7 +120,7 @@ stepped laws before c m step placed h = by (call_of c) refl (show_of c) refl
     by None no_call None no_show = stepped_other laws before c no_call no_show m step placed h
 
 -- so it may take the step
-pub ready : Laws → (commands : List Command) (m : MachineView) → IsPlaced commands → IsShown (facts_after (journal_of commands)) m → IsReady m
+pub ready : WorldLaws → (commands : List Command) (m : MachineView) → IsPlaced commands → IsShown (facts_after (journal_of commands)) m → IsReady m
 ready laws before m placed h = ready_of (facts_after (journal_of before)) m (laws.flowing before placed) h
 
 cokernel_is : (kind : Kind) → is_cokernel kind ≡ true → kind ≡ kinds.Cokernel
@@ -142,7 +142,7 @@ stands before (commands.Boot kind parent blocks ns) m step placed h = cokernel_i
 stands before (commands.Settle most) m step placed h = absurd step
 stands before _ m step placed h = tt
 
-pub can_step : Laws → (commands : List Command) (c : Command) (m : MachineView) → IsNoSettle c → IsPlaced (commands ++ c ∷ []) → IsShown (facts_after (journal_of commands)) m → CanStep m c
+pub can_step : WorldLaws → (commands : List Command) (c : Command) (m : MachineView) → IsNoSettle c → IsPlaced (commands ++ c ∷ []) → IsShown (facts_after (journal_of commands)) m → CanStep m c
 can_step laws before c m step placed h =
     let last = last_stands 0 before c placed in
     record { built = (and_parts _ _ last.0).1; stands = stands before c m step placed h; ranges = last.1 }
@@ -159,7 +159,7 @@ carried_valid past [] carried = tt
 carried_valid past (lines.Sent x y r ∷ ls) carried = (carried.0.2, carried_valid (lines.Sent x y r ∷ past) ls carried.1)
 carried_valid past (line ∷ ls) carried = carried_valid (line ∷ past) ls carried.1
 
-pub sent_valid : Laws → (commands : List Command) (c : Command) (m : MachineView) → IsNoSettle c → IsPlaced (commands ++ c ∷ []) → IsShown (facts_after (journal_of commands)) m → AreValid (sent_in (lines_by m c))
+pub sent_valid : WorldLaws → (commands : List Command) (c : Command) (m : MachineView) → IsNoSettle c → IsPlaced (commands ++ c ∷ []) → IsShown (facts_after (journal_of commands)) m → AreValid (sent_in (lines_by m c))
 sent_valid laws before c m step placed h =
     let G = facts_after (journal_of before) in
     let all = carried_valid [] (journal_of (before ++ c ∷ [])) (laws.carried (before ++ c ∷ []) placed) in

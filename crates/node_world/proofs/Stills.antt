@@ -29,21 +29,21 @@ use Rattle.global_model.specs.Place.{IsPlaced, IsPlacedAfter}
 use Rattle.node_machine.specs.declared.pair.Pair.{Pair}
 use Rattle.enclave_node.specs.Nodes.{NodeView}
 use Rattle.node_machine.specs.Machine.{MachineView, node_at, at_node, lines_by, acted, carried, with_carried, after_command, node_shown}
-use Rattle.node_machine.specs.Machine.{enclave}
+use Rattle.node_machine.specs.Machine.{enclave_numbered}
 use Rattle.node_world.specs.Shown.{IsShown}
-use Rattle.node_world.specs.Laws.{Laws}
+use Rattle.node_world.specs.Laws.{WorldLaws}
 use Rattle.node_world.proofs.Lists.{cond_case}
 
 -- ---- a step by the facts
 
 -- the laws, the facts before and after a command, and the views of the enclaves that then live
 pub record IsStep (G H : Facts) (c : Command) : Type 0 where
-  pub laws : Laws
+  pub laws : WorldLaws
   pub after : H ≡ after_lines G (step_lines G c)
   pub before : IsFlowing G
   pub flowing : IsFlowing H
   pub answered : IsAnswered G
-  pub views : (e : ℕ) → lives_at H e ≡ true → view_of H (enclave e) ≡ seen_lines (after_line G (lines.Do c)) (view_of G (enclave e)) (command_lines G c)
+  pub views : (e : ℕ) → lives_at H e ≡ true → view_of H (enclave_numbered e) ≡ seen_lines (after_line G (lines.Do c)) (view_of G (enclave_numbered e)) (command_lines G c)
   pub unborn : (e : Enclave) → G.born ≤ e.0 → view_of G e ≡ unborn_view G.pool e
   pub plain : (e : Enclave) → is_guest (view_of G e).core.kind ≡ false
   pub handled : (x y : Enclave) (n : ℕ) → IsTaking G x y n → AreHandled (after_line G (lines.Took x y n)) x y
@@ -52,7 +52,7 @@ pub placed_before : (before : ℕ) (commands more : List Command) → IsPlacedAf
 placed_before before [] more placed = tt
 placed_before before (c ∷ commands) more placed = (placed.0, placed.1, placed_before (before + 1) commands more placed.2)
 
-pub step_of : Laws → (commands : List Command) (c : Command) → IsPlaced (commands ++ c ∷ []) → IsStep (facts_after (journal_of commands)) (facts_after (journal_of (commands ++ c ∷ []))) c
+pub step_of : WorldLaws → (commands : List Command) (c : Command) → IsPlaced (commands ++ c ∷ []) → IsStep (facts_after (journal_of commands)) (facts_after (journal_of (commands ++ c ∷ []))) c
 step_of laws commands c placed =
     let G = facts_after (journal_of commands) in
     let H = facts_after (journal_of (commands ++ c ∷ [])) in
@@ -64,7 +64,7 @@ step_of laws commands c placed =
       before = laws.flowing commands first;
       flowing = flowing;
       answered = laws.views.answered commands first;
-      views = λ e lives. laws.views.seen commands c placed (enclave e) lives;
+      views = λ e lives. laws.views.seen commands c placed (enclave_numbered e) lives;
       unborn = laws.views.unborn commands first;
       plain = laws.views.plain commands first;
       handled = laws.views.handled commands first;

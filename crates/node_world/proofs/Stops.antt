@@ -9,7 +9,7 @@ use Rattle.node_world.specs.declared.world.Which.TheVariants as whiches
 use Rattle.node_world.specs.declared.world.Progress.{Progress}
 use Rattle.node_world.specs.declared.world.Progress.TheVariants as progresses
 use Rattle.node_machine.specs.Machine.{MachineView}
-use Rattle.node_world.specs.World.{most_words, most_deliveries, IsShort, IsNext, IsStopped, IsOfWorlds, IsKept, PassesBy}
+use Rattle.node_world.specs.World.{most_words, most_deliveries, IsShort, IsNextOver, IsStopped, IsOfWorlds, IsWorldKept, PassesBy}
 use Rattle.node_world.proofs.Words.{words-append, deliveries-append}
 
 -- a world meets no other limits
@@ -21,7 +21,7 @@ worlds_limit whiches.Deliveries words deliveries line passes = tt
 worlds_limit whiches.Words words deliveries line passes = tt
 
 -- the lines that were kept are those before the one that would pass the limit
-pub stopped_at : (which : Which) (journal fresh kept : List Line) (count words deliveries : ℕ) → IsNext which words deliveries count fresh → kept ≡ take count fresh
+pub stopped_at : (which : Which) (journal fresh kept : List Line) (count words deliveries : ℕ) → IsNextOver which words deliveries count fresh → kept ≡ take count fresh
     → words ≡ words_in (journal ++ kept) → deliveries ≡ deliveries_in (journal ++ kept) → IsShort (journal ++ kept) → IsStopped which journal fresh (journal ++ kept)
 stopped_at which journal fresh kept count words deliveries next front sum made short = record {
   written = kept;
@@ -72,7 +72,7 @@ stopped_behind which journal first fresh after stop = record {
 
 -- a world that counts as failed keeps its counts alone
 pub failed_keeps : (m : MachineView) (journal : List Line) (progress : Progress) (words deliveries : ℕ) → progress ≡ progresses.Failed → words ≡ words_in journal → deliveries ≡ deliveries_in journal
-    → words ≤ most_words → deliveries ≤ most_deliveries → IsKept m journal progress words deliveries
+    → words ≤ most_words → deliveries ≤ most_deliveries → IsWorldKept m journal progress words deliveries
 failed_keeps m journal progress words deliveries failed sum made words_fit deliveries_fit = record {
   words = sum;
   deliveries = made;

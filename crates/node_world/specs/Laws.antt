@@ -86,7 +86,7 @@ pub record HopLaws : Type 0 where
   pub to_down : (pairs : List Pair) (x y : Enclave) (i : ℕ) → AreAbove pairs → IsPairAt pairs i y.0 x.0 → hop_of pairs true x y ≡ hops.Down i
 
 -- all of them, and what holds of the journal of commands and of a table after a change
-pub record Laws : Type 0 where
+pub record WorldLaws : Type 0 where
   pub commands : (commands : List Command) → do_commands (journal_of commands) ≡ commands
   pub carried : (commands : List Command) → IsPlaced commands → IsCarried (journal_of commands)
   pub flowing : (commands : List Command) → IsPlaced commands → IsFlowing (facts_after (journal_of commands))

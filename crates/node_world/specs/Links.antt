@@ -16,15 +16,15 @@ abbrev pub feed_of : ChannelFact → Decoding
 feed_of fact = record { records = []; rest = drop (got_bytes fact) (take fact.taken (spellings_of fact.sent)); before = got_bytes fact; bad = None }
 
 -- the spellings of the records that were sent, less what was cut off at the end
-abbrev pub rows_of : ChannelFact → List (List ℕ)
-rows_of fact = first_bytes (length (spellings_of fact.sent) - fact.cut) (map spelling_of fact.sent)
+abbrev pub rows_sent : ChannelFact → List (List ℕ)
+rows_sent fact = first_bytes (length (spellings_of fact.sent) - fact.cut) (map spelling_of fact.sent)
 
 -- The link shows what went over the channel, whose sender may be dead: the bytes that wait, by the pieces of their records, and
 -- the end mark, which is set where the sender is dead, and taken where the channel's was.
 pub record IsLinkOf (dead : Bool) (fact : ChannelFact) (link : Channel) : Type 0 where
   pub within : fact.taken + fact.cut ≤ length (spellings_of fact.sent)
   pub waiting : waiting_bytes link ≡ waiting_of fact
-  pub pieces : link.pieces ≡ left_of (rows_of fact) fact.taken
+  pub pieces : link.pieces ≡ left_of (rows_sent fact) fact.taken
   pub ended : link.ended ≡ dead
   pub end_taken : link.end_taken ≡ fact.end_taken
   -- Nothing is cut off so far. It holds until enclaves die.

@@ -8,11 +8,11 @@ use Rattle.enclave_node.specs.Nodes.{NodeView}
 use Rattle.byte_link.specs.Channel.{Channel}
 use Rattle.node_machine.specs.declared.pair.Pair.{Pair}
 use Rattle.node_world.specs.Links.{IsLinkOf, feed_of}
-use Rattle.node_machine.specs.Machine.{MachineView, enclave, has_node, node_at, pair_at}
+use Rattle.node_machine.specs.Machine.{MachineView, enclave_numbered, has_node, node_at, pair_at}
 
 -- the node is seen as the view of its enclave, and hasn't failed
 pub record IsNodeOf (G : Facts) (e : ℕ) (node : NodeView) : Type 0 where
-  pub view : node.view ≡ view_of G (enclave e)
+  pub view : node.view ≡ view_of G (enclave_numbered e)
   pub going : node.failed ≡ false
 
 -- the decoder of the node for the channel from x has what the facts say

@@ -44,7 +44,7 @@ PassesBy whiches.Words words deliveries line = (most_words < words + length (lin
 PassesBy which words deliveries line = ⊥
 
 -- of some lines the one behind the first `count` would pass the limit
-pub record IsNext (which : Which) (words deliveries count : ℕ) (fresh : List Line) : Type 0 where
+pub record IsNextOver (which : Which) (words deliveries count : ℕ) (fresh : List Line) : Type 0 where
   pub line : Line
   pub rest : List Line
   pub is : drop count fresh ≡ line ∷ rest
@@ -110,7 +110,7 @@ pub record IsAlong (m : MachineView) (journal : List Line) : Type 0 where
 
 -- what a world keeps: its counts are those of its journal, which passes no limit, and is a history of the machine as long as
 -- the world goes on
-pub record IsKept (m : MachineView) (journal : List Line) (progress : Progress) (sum made : ℕ) : Type 0 where
+pub record IsWorldKept (m : MachineView) (journal : List Line) (progress : Progress) (sum made : ℕ) : Type 0 where
   pub words : sum ≡ words_in journal
   pub deliveries : made ≡ deliveries_in journal
   pub short : IsShort journal

@@ -52,7 +52,7 @@ pub fn fitting(lines: &[Line], words: u64, deliveries: u32) -> Fit
     ensures words_fit { result.words ≤ most_words }
     ensures deliveries_fit { result.deliveries ≤ most_deliveries }
     ensures whole { result.stop ≡ None → result.count ≡ length lines.now }
-    ensures stopped { (which : _) → result.stop ≡ Some which → spec.IsNext which result.words result.deliveries result.count lines.now }
+    ensures stopped { (which : _) → result.stop ≡ Some which → spec.IsNextOver which result.words result.deliveries result.count lines.now }
 {
     let mut words = words;
     let mut deliveries = deliveries;

@@ -1,5 +1,5 @@
 // The laws on which the world rests.
-ghost use Rattle.node_world.specs.Laws.{Laws};
+ghost use Rattle.node_world.specs.Laws.{WorldLaws};
 
 use byte_link::{bytes_follow_calls, pieces_follow_calls};
 use enclave_rules::calls_write_own_lines;
@@ -14,7 +14,7 @@ use xm_num::laws::rows;
 
 /// All of them at once.
 pub fn laws()
-    ensures { Laws }
+    ensures { WorldLaws }
 {
     journals_grow();
     journals_are_carried();

@@ -6,7 +6,7 @@ ghost use Rattle.global_model.specs.Place.{may_stand};
 ghost use Rattle.xemem_language.specs.declared.command.Command.TheVariants as commands;
 ghost use Rattle.global_model.specs.Rest.{EndsSettle};
 ghost use Rattle.global_model.specs.Facts.{facts_after, is_living_enclave};
-ghost use Rattle.global_model.specs.Channels.{is_neighbour, waiting_bytes as waiting_in};
+ghost use Rattle.global_model.specs.Channels.{is_neighbour, waiting_in};
 ghost use Rattle.global_model.specs.Due.{command_lines, journal_of, settle_from};
 ghost use Rattle.global_model.specs.Journals.{deliveries_in, do_commands, is_delivery, onto, command_at};
 ghost use Rattle.xemem_wire.specs.Spelling.{AreValid};
@@ -89,13 +89,13 @@ pub struct World {
 }
 
 impl Model for World {
-    ghost use Rattle.node_world.specs.World.{WorldView, IsKept};
+    ghost use Rattle.node_world.specs.World.{WorldView, IsWorldKept};
 
     ghost Value = { WorldView };
 
     ghost view = { λ w. record { machine = w.machine; journal = w.journal; progress = w.progress } };
 
-    ghost invariant = { λ w. IsKept w.machine w.journal w.progress w.words w.deliveries };
+    ghost invariant = { λ w. IsWorldKept w.machine w.journal w.progress w.words w.deliveries };
 }
 
 fn limit(which: Which) -> WorldFault

@@ -11,7 +11,7 @@ use Rattle.node_world.specs.declared.world.Which.TheVariants as whiches
 use Rattle.node_world.specs.World.{WorldView, IsOfWorlds, IsShort, most_of}
 use Rattle.scenario_run.specs.declared.status.Status.{Status}
 use Rattle.scenario_run.specs.declared.status.Status.TheVariants as statuses
-use Rattle.scenario_run.specs.Run.{Ends, Leaves, LeavesIn, ending_status, stop_status}
+use Rattle.scenario_run.specs.Run.{Ends, LeavesWritten, LeavesIn, ending_status, stop_status}
 use Rattle.scenario_run.specs.Main.{most, WritesHistory, StopsAtLine, StopsFull}
 use Rattle.scenario_run.proofs.RunLemmas.{too_long}
 
@@ -160,7 +160,7 @@ as_it_ends : (status : Status) (bytes written : List ℕ) (w : WorldView) → En
 as_it_ends status bytes written w end = let to = end.2 in inl (end.1 ∙ ap ending_status (sym to.0))
 
 -- by the status
-ends : (status : Status) (bytes written : List ℕ) (w : WorldView) → Leaves status bytes w written → IsShort (journal_of (scenario_of bytes).commands) → (status ≡ statuses.WriteFault → ⊥)
+ends : (status : Status) (bytes written : List ℕ) (w : WorldView) → LeavesWritten status bytes w written → IsShort (journal_of (scenario_of bytes).commands) → (status ≡ statuses.WriteFault → ⊥)
     → (status ≡ ending_status (scenario_of bytes).ending) ⊎ (status ≡ statuses.Memory)
 ends statuses.Ok bytes written w leaves short puts = as_it_ends statuses.Ok bytes written w leaves
 ends statuses.Usage bytes written w leaves short puts = absurd leaves

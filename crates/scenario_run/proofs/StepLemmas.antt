@@ -13,7 +13,7 @@ use Rattle.xemem_language.specs.Spelling.{text_of}
 use Rattle.node_world.specs.declared.world.Progress.TheVariants as progresses
 use Rattle.node_world.specs.declared.world.Which.{Which}
 use Rattle.node_world.specs.World.{WorldView, IsCut, IsShort}
-use Rattle.scenario_run.specs.Laws.{Laws}
+use Rattle.scenario_run.specs.Laws.{RunLaws}
 use Rattle.scenario_run.specs.declared.execute.Fault.{Fault}
 use Rattle.scenario_run.specs.declared.execute.Fault.TheVariants as faults
 use Rattle.scenario_run.specs.Run.{IsGoing, Writes, WritesFront, LinesLeave, FaultLeaves}
@@ -27,29 +27,29 @@ grown_length : {A : Type 0} (xs ys zs : List A) → zs ≡ xs ++ ys → length x
 grown_length xs ys zs is = let sum = ap length is ∙ length-append xs ys in omega (arith, sum)
 
 -- the journal of one command more goes on from that of the world
-goes_on : Laws → (v : WorldView) (c : Command) → IsGoing v → journal_of (do_commands v.journal ++ c ∷ []) ≡ v.journal ++ step_lines (facts_after (journal_of (do_commands v.journal))) c
+goes_on : RunLaws → (v : WorldView) (c : Command) → IsGoing v → journal_of (do_commands v.journal ++ c ∷ []) ≡ v.journal ++ step_lines (facts_after (journal_of (do_commands v.journal))) c
 goes_on laws v c going = laws.more (do_commands v.journal) c ∙ ap (λ ls. ls ++ step_lines (facts_after (journal_of (do_commands v.journal))) c) (sym going.told)
 
 -- ---- a step that was carried through
 
-pub step_length : Laws → (v w : WorldView) (c : Command) → IsGoing v → w.journal ≡ journal_of (do_commands v.journal ++ c ∷ []) → length v.journal ≤ length w.journal
+pub step_length : RunLaws → (v w : WorldView) (c : Command) → IsGoing v → w.journal ≡ journal_of (do_commands v.journal ++ c ∷ []) → length v.journal ≤ length w.journal
 step_length laws v w c going is = grown_length v.journal _ w.journal (is ∙ goes_on laws v c going)
 
-pub step_commands : Laws → (v w : WorldView) (c : Command) → w.journal ≡ journal_of (do_commands v.journal ++ c ∷ []) → do_commands w.journal ≡ do_commands v.journal ++ c ∷ []
+pub step_commands : RunLaws → (v w : WorldView) (c : Command) → w.journal ≡ journal_of (do_commands v.journal ++ c ∷ []) → do_commands w.journal ≡ do_commands v.journal ++ c ∷ []
 step_commands laws v w c is = ap do_commands is ∙ laws.commands (do_commands v.journal ++ c ∷ [])
 
-pub step_going : Laws → (v w : WorldView) (c : Command) → w.journal ≡ journal_of (do_commands v.journal ++ c ∷ []) → IsShort w.journal → w.progress ≡ progresses.Going → IsGoing w
+pub step_going : RunLaws → (v w : WorldView) (c : Command) → w.journal ≡ journal_of (do_commands v.journal ++ c ∷ []) → IsShort w.journal → w.progress ≡ progresses.Going → IsGoing w
 step_going laws v w c is short going = record { told = is ∙ ap journal_of (sym (step_commands laws v w c is)); short = short; going = going }
 
-pub step_writes : Laws → (v w : WorldView) (c : Command) (old new : Option (List ℕ)) → IsGoing v → w.journal ≡ journal_of (do_commands v.journal ++ c ∷ []) → Appends old new (text_of (drop (length v.journal) w.journal)) → Writes old new v.journal w.journal
+pub step_writes : RunLaws → (v w : WorldView) (c : Command) (old new : Option (List ℕ)) → IsGoing v → w.journal ≡ journal_of (do_commands v.journal ++ c ∷ []) → Appends old new (text_of (drop (length v.journal) w.journal)) → Writes old new v.journal w.journal
 step_writes laws v w c old new going is wrote = record { lines = drop (length v.journal) w.journal; grown = grown_by v.journal _ w.journal (is ∙ goes_on laws v c going); wrote = wrote }
 
-step_front : Laws → (v w : WorldView) (c : Command) (old new : Option (List ℕ)) → IsGoing v → w.journal ≡ journal_of (do_commands v.journal ++ c ∷ []) → AppendsFront old new (text_of (drop (length v.journal) w.journal))
+step_front : RunLaws → (v w : WorldView) (c : Command) (old new : Option (List ℕ)) → IsGoing v → w.journal ≡ journal_of (do_commands v.journal ++ c ∷ []) → AppendsFront old new (text_of (drop (length v.journal) w.journal))
     → WritesFront old new v.journal (journal_of (do_commands v.journal ++ c ∷ []))
 step_front laws v w c old new going is wrote = record { lines = drop (length v.journal) w.journal; grown = sym is ∙ grown_by v.journal _ w.journal (is ∙ goes_on laws v c going); wrote = wrote }
 
 -- what a step that was carried through leaves where its lines failed to be written
-pub step_leaves : Laws → (v w : WorldView) (c : Command) (old new : Option (List ℕ)) → IsGoing v → w.journal ≡ journal_of (do_commands v.journal ++ c ∷ []) → (fault : Fault) → LinesLeave old new (drop (length v.journal) w.journal) fault → FaultLeaves old new v c w fault
+pub step_leaves : RunLaws → (v w : WorldView) (c : Command) (old new : Option (List ℕ)) → IsGoing v → w.journal ≡ journal_of (do_commands v.journal ++ c ∷ []) → (fault : Fault) → LinesLeave old new (drop (length v.journal) w.journal) fault → FaultLeaves old new v c w fault
 step_leaves laws v w c old new going is faults.Memory none = none
 step_leaves laws v w c old new going is faults.Write wrote = step_front laws v w c old new going is wrote
 step_leaves laws v w c old new going is (faults.Limit which number) never = absurd never

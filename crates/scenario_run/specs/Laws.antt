@@ -15,7 +15,7 @@ use Rattle.global_model.specs.Place.{IsPlaced}
 use Rattle.scenario_run.specs.Scenario.{scenario_of}
 
 -- the journal of commands, fronts of it, and how its text is read
-pub record Laws : Type 0 where
+pub record RunLaws : Type 0 where
   pub whole : (commands : List Command) → IsWhole (journal_of commands)
   pub commands : (commands : List Command) → do_commands (journal_of commands) ≡ commands
   pub parts : (journal lines : List Line) → do_commands (journal ++ lines) ≡ do_commands journal ++ do_commands lines

@@ -115,17 +115,17 @@ LimitLeaves whiches.Words number bytes world written = (number ≡ most_of which
 LimitLeaves which number bytes world written = Ends (statuses.Limit which number) bytes world written
 
 -- what was written, and what the world is left with, by the status of a run over these bytes
-abbrev pub Leaves : Status → List ℕ → WorldView → List ℕ → Type 0
-Leaves (statuses.Limit which number) bytes world written = LimitLeaves which number bytes world written
-Leaves statuses.Memory bytes world written = IsRunSoFar bytes written
-Leaves statuses.WriteFault bytes world written = IsRunCut bytes written
-Leaves statuses.Usage bytes world written = ⊥
-Leaves statuses.ReadFault bytes world written = ⊥
-Leaves status bytes world written = Ends status bytes world written
+abbrev pub LeavesWritten : Status → List ℕ → WorldView → List ℕ → Type 0
+LeavesWritten (statuses.Limit which number) bytes world written = LimitLeaves which number bytes world written
+LeavesWritten statuses.Memory bytes world written = IsRunSoFar bytes written
+LeavesWritten statuses.WriteFault bytes world written = IsRunCut bytes written
+LeavesWritten statuses.Usage bytes world written = ⊥
+LeavesWritten statuses.ReadFault bytes world written = ⊥
+LeavesWritten status bytes world written = Ends status bytes world written
 
 -- the same of a sink that may not tell its bytes
 abbrev pub LeavesIn : Option (List ℕ) → Option (List ℕ) → Status → List ℕ → WorldView → Type 0
-LeavesIn old new status bytes world = (written : List ℕ) × Appends old new written × Leaves status bytes world written
+LeavesIn old new status bytes world = (written : List ℕ) × Appends old new written × LeavesWritten status bytes world written
 
 -- how a run ends at a fault
 abbrev pub status_of : Fault → Status

@@ -10,9 +10,9 @@ abbrev pub scenario_of : List ℕ → Scenario
 scenario_of bytes = scenario_by is_built bytes
 
 -- those of the lines from that number on, after so many commands
-abbrev pub scenario_from : ℕ → ℕ → List (List ℕ) → Scenario
-scenario_from before number lines = texts.scenario_from is_built before number lines
+abbrev pub scenario_left : ℕ → ℕ → List (List ℕ) → Scenario
+scenario_left before number lines = texts.scenario_from is_built before number lines
 
 -- what the line of that number says after so many commands, or why the scenario stops there
-abbrev pub said : ℕ → ℕ → List ℕ → Result (Option Command) Stop
-said before number line = texts.said is_built before number line
+abbrev pub line_says : ℕ → ℕ → List ℕ → Result (Option Command) Stop
+line_says before number line = texts.said is_built before number line

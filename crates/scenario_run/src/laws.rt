@@ -1,5 +1,5 @@
 // The laws on which a run rests.
-ghost use Rattle.scenario_run.specs.Laws.{Laws};
+ghost use Rattle.scenario_run.specs.Laws.{RunLaws};
 
 use global_model::{journals_grow, pasts_grow};
 use history_laws::{
@@ -9,7 +9,7 @@ use scenario_text::{journals_are_read_back, scenarios_are_placed};
 
 /// All of them at once.
 pub fn laws()
-    ensures { Laws }
+    ensures { RunLaws }
 {
     one_journal();
     journals_grow();

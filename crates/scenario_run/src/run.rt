@@ -2,7 +2,7 @@
 ghost use Rattle.std.specs.Prelude.{◌≡◌, ◌≤◌, ◌<◌, ◌^◌, ◌-◌, length};
 ghost use Rattle.xm_edge.specs.Faults.{Rose};
 ghost use Rattle.node_world.specs.World.{most_of, no_world};
-ghost use Rattle.scenario_run.specs.Scenario.{said};
+ghost use Rattle.scenario_run.specs.Scenario.{line_says};
 ghost use Rattle.scenario_run.specs.Run as spec;
 ghost use Rattle.scenario_run.specs.Run.{LeavesIn};
 
@@ -44,7 +44,7 @@ fn syntax(line: u32, fault: SyntaxFault) -> Status
 
 // What the line of that number says after so many commands, or how the run ends there.
 fn judge(line: &[u8], number: u32, before: u32) -> Result<Option<Command>, Status>
-    ensures { result ≡ spec.judged_status number (said before number line.now) }
+    ensures { result ≡ spec.judged_status number (line_says before number line.now) }
 {
     if number > Which::Lines.most() {
         return Err(limit(Which::Lines));

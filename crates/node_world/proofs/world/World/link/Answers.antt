@@ -2,7 +2,7 @@ use Rattle.std.proofs.Common.{◌≡◌, ap, sym, ◌∙◌, subst}
 use Rattle.std.specs.Prelude.{IfSome}
 use Rattle.byte_link.specs.Channel.{Channel, waiting_bytes}
 use Rattle.global_model.specs.Facts.{facts_after}
-use Rattle.global_model.specs.Channels.{is_neighbour, waiting_bytes as waiting_in}
+use Rattle.global_model.specs.Channels.{is_neighbour, waiting_in}
 use Rattle.node_world.proofs.Lendings.{none_lent, lent_none, some_lent, flowing_in, link_waits, link_none, none_link}
 use Rattle.node_world.proofs.world.World.link.Goals as goal
 

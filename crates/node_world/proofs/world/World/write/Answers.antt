@@ -1,7 +1,7 @@
 use Rattle.std.proofs.Common.{◌≡◌, Some, ap, sym, ◌∙◌, subst, arith}
 use Rattle.xemem_language.specs.Spelling.{words_in}
 use Rattle.global_model.specs.Journals.{deliveries_in}
-use Rattle.node_world.specs.World.{IsNext, IsShort, IsStopped}
+use Rattle.node_world.specs.World.{IsNextOver, IsShort, IsStopped}
 use Rattle.node_world.proofs.Stops.{stopped_at, counted_more, failed_keeps}
 use Rattle.node_world.proofs.world.World.write.Goals as goal
 
@@ -20,7 +20,7 @@ returns-clause-stopped c which is =
     let counts = counted_more c.self.inside.journal c.truncate.new.self c.as_slice.result.now c.args.fresh c.append.new.self fit.result.count c.self.inside.words c.self.inside.deliveries fit.result.words fit.result.deliveries
     c.as_slice.ensures c.truncate.ensures grown c.self.invariant.words c.self.invariant.deliveries fit.ensures.words fit.ensures.deliveries in
     let stop : fit.result.stop ≡ Some which = cc in
-    let next = subst (IsNext which fit.result.words fit.result.deliveries fit.result.count) c.as_slice.ensures (fit.ensures.stopped which stop) in
+    let next = subst (IsNextOver which fit.result.words fit.result.deliveries fit.result.count) c.as_slice.ensures (fit.ensures.stopped which stop) in
     let words_fit = fit.ensures.words_fit in
     let deliveries_fit = fit.ensures.deliveries_fit in
     let words = counts.0 in
