@@ -1,7 +1,7 @@
 use Rattle.std.proofs.Common.{min, ◌≡◌, ℕ, ◌+◌, ◌-◌, ◌<◌, ◌≤◌, List, [], ◌∷◌, ◌++◌, length, take, drop, refl, sym, ap, ◌∙◌, append-nil, append_assoc, length-append, length-drop, arith}
 use Rattle.std.specs.List.{concat}
 use Rattle.std.proofs.lemmas.List.{take-append-drop, length-take, drop_all}
-use Rattle.byte_link.specs.Channel.{Channel, waiting_bytes, first_length, filled, first_bytes, later_bytes, sent, taken, ended_less}
+use Rattle.byte_link.specs.Channel.{Channel, waiting_bytes, first_length, filled_pieces, first_bytes, later_bytes, sent, taken, ended_less}
 use Rattle.byte_link.specs.Passage.{Carries, left_of}
 use Rattle.byte_link.proofs.PieceLemmas.{concat-filled, concat-append, concat-later, concat-first, later-filled, first-filled, later-later, first-later, later-append, filled_push}
 
@@ -36,11 +36,11 @@ carries_ended c all left n h =
 
 pub pieces-sent : (c : Channel) (records : List (List ℕ)) (gone : ℕ) (bytes : List ℕ) → gone ≤ length (concat records) → 0 < length bytes → c.pieces ≡ left_of records gone → (sent c bytes).pieces ≡ left_of (records ++ bytes ∷ []) gone
 pieces-sent c records gone bytes h k e =
-    ap (λ pieces. pieces ++ bytes ∷ []) e ∙ sym (filled_push (later_bytes gone records) bytes k) ∙ ap filled (sym (later-append gone records (bytes ∷ []) h))
+    ap (λ pieces. pieces ++ bytes ∷ []) e ∙ sym (filled_push (later_bytes gone records) bytes k) ∙ ap filled_pieces (sym (later-append gone records (bytes ∷ []) h))
 
 pub pieces-taken : (c : Channel) (records : List (List ℕ)) (gone n : ℕ) → c.pieces ≡ left_of records gone → (taken c n).pieces ≡ left_of records (gone + n)
 pieces-taken c records gone n e =
-    ap (λ pieces. filled (later_bytes n pieces)) e ∙ later-filled n (later_bytes gone records) ∙ ap filled (later-later n gone records)
+    ap (λ pieces. filled_pieces (later_bytes n pieces)) e ∙ later-filled n (later_bytes gone records) ∙ ap filled_pieces (later-later n gone records)
 
 pub bytes-left_of : (records : List (List ℕ)) (gone : ℕ) → concat (left_of records gone) ≡ drop gone (concat records)
 bytes-left_of records gone = concat-filled (later_bytes gone records) ∙ concat-later gone records
@@ -50,10 +50,10 @@ pieces-ended c records gone n h e =
     let kept = length (waiting_bytes c) - n in
     let waits : length (waiting_bytes c) ≡ length (concat records) - gone = ap length (ap concat e ∙ bytes-left_of records gone) ∙ length-drop gone (concat records) in
     let parts : gone + kept ≡ length (concat records) - n = omega arith in
-    ap (λ pieces. filled (first_bytes kept pieces)) e ∙ first-filled kept (later_bytes gone records) ∙ ap filled (first-later kept gone records) ∙ ap (λ m. left_of (first_bytes m records) gone) parts
+    ap (λ pieces. filled_pieces (first_bytes kept pieces)) e ∙ first-filled kept (later_bytes gone records) ∙ ap filled_pieces (first-later kept gone records) ∙ ap (λ m. left_of (first_bytes m records) gone) parts
 
 -- the first piece that is filled
-first-cons : (piece : List ℕ) (pieces : List (List ℕ)) → 0 < length piece → first_length (filled (piece ∷ pieces)) ≡ length piece
+first-cons : (piece : List ℕ) (pieces : List (List ℕ)) → 0 < length piece → first_length (filled_pieces (piece ∷ pieces)) ≡ length piece
 first-cons [] pieces h = absurd (omega arith)
 first-cons (b ∷ bs) pieces h = refl
 

@@ -1,10 +1,10 @@
 use Rattle.std.proofs.Common.{◌≡◌, ℕ, suc, ◌+◌, ◌-◌, ◌<◌, ◌≤◌, List, [], ◌∷◌, ◌++◌, length, take, drop, refl, sym, ap, ◌∙◌, append_assoc, length-append, length-drop, arith}
 use Rattle.std.specs.List.{concat}
 use Rattle.std.proofs.lemmas.List.{drop-drop, drop-take, take_all, length-take}
-use Rattle.byte_link.specs.Channel.{filled, first_bytes, later_bytes}
+use Rattle.byte_link.specs.Channel.{filled_pieces, first_bytes, later_bytes}
 use Rattle.byte_link.proofs.Splits.{nothing_dropped, nothing_taken, drop-append, take-append}
 
-pub concat-filled : (ps : List (List ℕ)) → concat (filled ps) ≡ concat ps
+pub concat-filled : (ps : List (List ℕ)) → concat (filled_pieces ps) ≡ concat ps
 concat-filled [] = refl
 concat-filled ([] ∷ ps) = concat-filled ps
 concat-filled ((b ∷ bs) ∷ ps) = ap (λ rest. (b ∷ bs) ++ rest) (concat-filled ps)
@@ -24,30 +24,30 @@ concat-first n (p ∷ ps) =
     ap (λ rest. take n p ++ rest) (concat-first (n - length p) ps) ∙ sym (take-append n p (concat ps))
 
 -- a piece before rows that show the same
-pub filled-cons : (p : List ℕ) (xs ys : List (List ℕ)) → filled xs ≡ filled ys → filled (p ∷ xs) ≡ filled (p ∷ ys)
+pub filled-cons : (p : List ℕ) (xs ys : List (List ℕ)) → filled_pieces xs ≡ filled_pieces ys → filled_pieces (p ∷ xs) ≡ filled_pieces (p ∷ ys)
 filled-cons [] xs ys e = e
 filled-cons (b ∷ bs) xs ys e = ap (λ rest. (b ∷ bs) ∷ rest) e
 
-pub filled-filled : (ps : List (List ℕ)) → filled (filled ps) ≡ filled ps
+pub filled-filled : (ps : List (List ℕ)) → filled_pieces (filled_pieces ps) ≡ filled_pieces ps
 filled-filled [] = refl
 filled-filled ([] ∷ ps) = filled-filled ps
 filled-filled ((b ∷ bs) ∷ ps) = ap (λ rest. (b ∷ bs) ∷ rest) (filled-filled ps)
 
-pub later-filled : (n : ℕ) (ps : List (List ℕ)) → filled (later_bytes n (filled ps)) ≡ filled (later_bytes n ps)
+pub later-filled : (n : ℕ) (ps : List (List ℕ)) → filled_pieces (later_bytes n (filled_pieces ps)) ≡ filled_pieces (later_bytes n ps)
 later-filled n [] = refl
 later-filled n ([] ∷ ps) =
     let e : n - 0 ≡ n = omega arith in rw (nothing_dropped {X = ℕ} n, e) (later-filled n ps)
 later-filled n ((b ∷ bs) ∷ ps) =
     let m = n - suc (length bs) in
-    filled-cons (drop n (b ∷ bs)) (later_bytes m (filled ps)) (later_bytes m ps) (later-filled m ps)
+    filled-cons (drop n (b ∷ bs)) (later_bytes m (filled_pieces ps)) (later_bytes m ps) (later-filled m ps)
 
-pub first-filled : (n : ℕ) (ps : List (List ℕ)) → filled (first_bytes n (filled ps)) ≡ filled (first_bytes n ps)
+pub first-filled : (n : ℕ) (ps : List (List ℕ)) → filled_pieces (first_bytes n (filled_pieces ps)) ≡ filled_pieces (first_bytes n ps)
 first-filled n [] = refl
 first-filled n ([] ∷ ps) =
     let e : n - 0 ≡ n = omega arith in rw (nothing_taken {X = ℕ} n, e) (first-filled n ps)
 first-filled n ((b ∷ bs) ∷ ps) =
     let m = n - suc (length bs) in
-    filled-cons (take n (b ∷ bs)) (first_bytes m (filled ps)) (first_bytes m ps) (first-filled m ps)
+    filled-cons (take n (b ∷ bs)) (first_bytes m (filled_pieces ps)) (first_bytes m ps) (first-filled m ps)
 
 pub later_none : (ps : List (List ℕ)) → later_bytes 0 ps ≡ ps
 later_none [] = refl
@@ -89,7 +89,7 @@ later-append n (p ∷ ps) qs h =
     ap (λ rest. drop n p ∷ rest) (later-append (n - length p) ps qs (omega arith))
 
 -- a filled piece at the end stays there
-pub filled_push : (ps : List (List ℕ)) (p : List ℕ) → 0 < length p → filled (ps ++ p ∷ []) ≡ filled ps ++ p ∷ []
+pub filled_push : (ps : List (List ℕ)) (p : List ℕ) → 0 < length p → filled_pieces (ps ++ p ∷ []) ≡ filled_pieces ps ++ p ∷ []
 filled_push [] [] h = absurd (omega arith)
 filled_push [] (b ∷ bs) h = refl
 filled_push ([] ∷ ps) p h = filled_push ps p h

@@ -5,7 +5,7 @@ use Rattle.std.proofs.lemmas.Bool.Decides.{nat_tests}
 use Rattle.std.proofs.lemmas.List.{drop-drop, drop-take, drop_all, take_all, length-take, take-append-drop, take-append-le, drop-append-le, nil_from_length}
 use Rattle.std.proofs.lemmas.List.Elements.{All-push}
 use Rattle.std.proofs.lemmas.List.Sums.{sum_by-cons, sum_by_push}
-use Rattle.byte_link.specs.Channel.{filled, first_bytes, later_bytes, first_length}
+use Rattle.byte_link.specs.Channel.{filled_pieces, first_bytes, later_bytes, first_length}
 use Rattle.byte_link.specs.Layout.{rows_of, pieces_of, lengths_after, IsLaid}
 use Rattle.byte_link.proofs.Splits.{nothing_dropped, nothing_taken, take-take_comm, drop-take_less}
 use Rattle.byte_link.proofs.PieceLemmas.{concat-filled, filled-cons, filled_push, later-filled, first-filled, later_none}
@@ -27,11 +27,11 @@ pub positive-rest : (n : ℕ) (ns : List ℕ) → All (λ n. 0 < n) (n ∷ ns) �
 positive-rest n ns all k d i = all (suc k) d (omega arith)
 
 -- rows of no bytes are empty
-pub no_rows : (ns : List ℕ) → filled (rows_of ns []) ≡ []
+pub no_rows : (ns : List ℕ) → filled_pieces (rows_of ns []) ≡ []
 no_rows [] = refl
 no_rows (n ∷ ns) = rw (nothing_taken {X = ℕ} n, nothing_dropped {X = ℕ} n) (no_rows ns)
 
-pub no_first_rows : (m : ℕ) (ns : List ℕ) → filled (first_bytes m (rows_of ns [])) ≡ []
+pub no_first_rows : (m : ℕ) (ns : List ℕ) → filled_pieces (first_bytes m (rows_of ns [])) ≡ []
 no_first_rows m [] = refl
 no_first_rows m (n ∷ ns) =
     let e : m - 0 ≡ m = omega arith in
@@ -63,10 +63,10 @@ rows_push (n ∷ ns) bs new h =
 
 -- a record that is sent is one more piece
 pub pieces_push : (ns bs new : List ℕ) → sum ns ≡ length bs → 0 < length new → pieces_of (ns ++ length new ∷ []) (bs ++ new) ≡ pieces_of ns bs ++ new ∷ []
-pieces_push ns bs new h k = ap filled (rows_push ns bs new h) ∙ filled_push (rows_of ns bs) new k
+pieces_push ns bs new h k = ap filled_pieces (rows_push ns bs new h) ∙ filled_push (rows_of ns bs) new k
 
 -- a take that ends within the first row
-pub rows_within : (k m : ℕ) (ns bs : List ℕ) → k ≤ length bs → filled (rows_of (m ∷ ns) (drop k bs)) ≡ filled (later_bytes k (rows_of ((k + m) ∷ ns) bs))
+pub rows_within : (k m : ℕ) (ns bs : List ℕ) → k ≤ length bs → filled_pieces (rows_of (m ∷ ns) (drop k bs)) ≡ filled_pieces (later_bytes k (rows_of ((k + m) ∷ ns) bs))
 rows_within k m ns bs h =
     let front : drop k (take (k + m) bs) ≡ take m (drop k bs) = drop-take k m bs in
     let back : drop m (drop k bs) ≡ drop (k + m) bs = drop-drop m k bs in
@@ -76,7 +76,7 @@ rows_within k m ns bs h =
     cc
 
 -- a take leaves the rows of the bytes after it
-pub rows_after : (k : ℕ) (ns bs : List ℕ) → k ≤ length bs → filled (rows_of (lengths_after k ns) (drop k bs)) ≡ filled (later_bytes k (rows_of ns bs))
+pub rows_after : (k : ℕ) (ns bs : List ℕ) → k ≤ length bs → filled_pieces (rows_of (lengths_after k ns) (drop k bs)) ≡ filled_pieces (later_bytes k (rows_of ns bs))
 rows_after k [] bs h = refl
 rows_after k (n ∷ ns) bs h =
     elim (cases_Bool (nat_lt k n)) [
@@ -97,11 +97,11 @@ rows_after k (n ∷ ns) bs h =
           rw (e, gone, long, ← back) rest)
     ]
 
-pub pieces_after : (k : ℕ) (ns bs : List ℕ) → k ≤ length bs → pieces_of (lengths_after k ns) (drop k bs) ≡ filled (later_bytes k (pieces_of ns bs))
+pub pieces_after : (k : ℕ) (ns bs : List ℕ) → k ≤ length bs → pieces_of (lengths_after k ns) (drop k bs) ≡ filled_pieces (later_bytes k (pieces_of ns bs))
 pieces_after k ns bs h = rows_after k ns bs h ∙ sym (later-filled k (rows_of ns bs))
 
 -- a cut leaves the rows of the bytes before it
-pub rows_before : (m : ℕ) (ns bs : List ℕ) → filled (rows_of ns (take m bs)) ≡ filled (first_bytes m (rows_of ns bs))
+pub rows_before : (m : ℕ) (ns bs : List ℕ) → filled_pieces (rows_of ns (take m bs)) ≡ filled_pieces (first_bytes m (rows_of ns bs))
 rows_before m [] bs = refl
 rows_before m (n ∷ ns) bs =
     let front : take n (take m bs) ≡ take m (take n bs) = take-take_comm n m bs in
@@ -117,7 +117,7 @@ rows_before m (n ∷ ns) bs =
           rw long (rows_before (m - n) ns (drop n bs)))
     ]))
 
-pub pieces_before : (m : ℕ) (ns bs : List ℕ) → pieces_of ns (take m bs) ≡ filled (first_bytes m (pieces_of ns bs))
+pub pieces_before : (m : ℕ) (ns bs : List ℕ) → pieces_of ns (take m bs) ≡ filled_pieces (first_bytes m (pieces_of ns bs))
 pieces_before m ns bs = rows_before m ns bs ∙ sym (first-filled m (rows_of ns bs))
 
 -- the first piece is the first row

@@ -1,6 +1,6 @@
 use Rattle.std.proofs.Common.{◌≡◌, ℕ, min, ◌-◌, ◌<◌, ◌≤◌, ◌↔◌, Bool, true, false, List, [], ◌∷◌, ◌++◌, length, take, drop, get_or, sym, ap, ◌∙◌, arith}
 use Rattle.std.proofs.lemmas.List.{nil_from_length}
-use Rattle.byte_link.specs.Channel.{Channel, waiting_bytes, boundary_of, filled, first_bytes, sent, taken, ended_less}
+use Rattle.byte_link.specs.Channel.{Channel, waiting_bytes, boundary_of, filled_pieces, first_bytes, sent, taken, ended_less}
 use Rattle.byte_link.specs.Layout.{pieces_of, shown, lengths_after, IsLaid}
 use Rattle.byte_link.proofs.Rows.{concat-pieces, pieces_push, pieces_after, pieces_before, first_row}
 
@@ -20,7 +20,7 @@ taken_shown c ns bs e t k view h =
 pub ended_shown : (c : Channel) (ns bs : List ℕ) (e t : Bool) (n : ℕ) → shown ns bs e t ≡ c → IsLaid ns bs e → shown ns (take (length bs - n) bs) true t ≡ ended_less c n
 ended_shown c ns bs e t n view laid =
     let all : length (waiting_bytes (shown ns bs e t)) ≡ length bs = ap length (concat-pieces ns bs laid.covered) in
-    let pieces : pieces_of ns (take (length bs - n) bs) ≡ filled (first_bytes (length (waiting_bytes (shown ns bs e t)) - n) (pieces_of ns bs)) = rw all (pieces_before (length bs - n) ns bs) in
+    let pieces : pieces_of ns (take (length bs - n) bs) ≡ filled_pieces (first_bytes (length (waiting_bytes (shown ns bs e t)) - n) (pieces_of ns bs)) = rw all (pieces_before (length bs - n) ns bs) in
     ap (λ pieces. (let c : Channel = record { pieces = pieces; ended = true; end_taken = t } in c)) pieces ∙ ap (λ c. ended_less c n) view
 
 pub boundary_shown : (c : Channel) (ns bs : List ℕ) (e t : Bool) (n : ℕ) → shown ns bs e t ≡ c → IsLaid ns bs e → 0 < length ns → n ≡ get_or ns 0 n → boundary_of c ≡ min n (length bs)

@@ -30,13 +30,13 @@ first_length (piece ∷ pieces) = length piece
 abbrev pub boundary_of : Channel → ℕ
 boundary_of c = first_length c.pieces
 
-abbrev pub is_filled : List ℕ → Bool
-is_filled [] = false
-is_filled (byte ∷ bytes) = true
+abbrev pub has_bytes : List ℕ → Bool
+has_bytes [] = false
+has_bytes (byte ∷ bytes) = true
 
 -- the pieces that have a byte
-abbrev pub filled : List (List ℕ) → List (List ℕ)
-filled pieces = filter is_filled pieces
+abbrev pub filled_pieces : List (List ℕ) → List (List ℕ)
+filled_pieces pieces = filter has_bytes pieces
 
 -- the pieces of the first n bytes
 abbrev pub first_bytes : ℕ → List (List ℕ) → List (List ℕ)
@@ -54,11 +54,11 @@ sent c bytes = record c { pieces = c.pieces ++ bytes ∷ [] }
 
 -- the first n bytes were taken
 abbrev pub taken : Channel → ℕ → Channel
-taken c n = record c { pieces = filled (later_bytes n c.pieces) }
+taken c n = record c { pieces = filled_pieces (later_bytes n c.pieces) }
 
 -- the last n bytes were cut off, and the end mark is set
 abbrev pub ended_less : Channel → ℕ → Channel
-ended_less c n = record c { pieces = filled (first_bytes (length (waiting_bytes c) - n) c.pieces); ended = true }
+ended_less c n = record c { pieces = filled_pieces (first_bytes (length (waiting_bytes c) - n) c.pieces); ended = true }
 
 -- the end mark was taken
 abbrev pub mark_taken : Channel → Channel

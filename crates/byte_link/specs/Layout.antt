@@ -1,5 +1,5 @@
 use Rattle.std.specs.Prelude.{◌≡◌, ℕ, ◌-◌, ◌^◌, ◌<◌, ◌≤◌, Bool, false, List, [], ◌∷◌, length, take, drop, sum, All, nat_lt, if◌then◌else◌}
-use Rattle.byte_link.specs.Channel.{Channel, filled}
+use Rattle.byte_link.specs.Channel.{Channel, filled_pieces}
 
 -- bytes, split into rows of these lengths. Where the bytes end early the last rows are short or empty
 abbrev pub rows_of : List ℕ → List ℕ → List (List ℕ)
@@ -8,7 +8,7 @@ rows_of (n ∷ lengths) bytes = take n bytes ∷ rows_of lengths (drop n bytes)
 
 -- the pieces that a link shows
 abbrev pub pieces_of : List ℕ → List ℕ → List (List ℕ)
-pieces_of lengths bytes = filled (rows_of lengths bytes)
+pieces_of lengths bytes = filled_pieces (rows_of lengths bytes)
 
 -- a link with these fields, as it is seen
 abbrev pub shown : List ℕ → List ℕ → Bool → Bool → Channel

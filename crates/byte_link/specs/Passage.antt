@@ -1,5 +1,5 @@
 use Rattle.std.specs.Prelude.{◌≡◌, ℕ, List, ◌++◌}
-use Rattle.byte_link.specs.Channel.{Channel, waiting_bytes, filled, later_bytes}
+use Rattle.byte_link.specs.Channel.{Channel, waiting_bytes, filled_pieces, later_bytes}
 
 -- of all bytes that were sent, these have left the link and those were cut off: the others wait between them
 pub record Carries (c : Channel) (all left cut : List ℕ) : Type 0 where
@@ -7,4 +7,4 @@ pub record Carries (c : Channel) (all left cut : List ℕ) : Type 0 where
 
 -- what waits of these records, once their first n bytes have left
 abbrev pub left_of : List (List ℕ) → ℕ → List (List ℕ)
-left_of records n = filled (later_bytes n records)
+left_of records n = filled_pieces (later_bytes n records)

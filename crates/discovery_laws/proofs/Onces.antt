@@ -8,7 +8,7 @@ use Rattle.xemem_language.specs.declared.record.Record.{Record}
 use Rattle.xemem_language.specs.declared.record.Body.{Body}
 use Rattle.xemem_language.specs.declared.record.Body.TheVariants as bodies
 use Rattle.xemem_language.specs.declared.line.Line.TheVariants as lines
-use Rattle.xemem_wire.specs.Table.{kind_of, is_built, is_destination}
+use Rattle.xemem_wire.specs.Table.{kind_of, is_kind_built, is_destination}
 use Rattle.xemem_wire.specs.Spelling.{is_valid}
 use Rattle.enclave_rules.specs.Steps.{record_lines}
 use Rattle.global_model.specs.Facts.{Facts, after_line, after_lines}
@@ -45,7 +45,7 @@ alike_mark G y r q is =
 -- ---- a valid record
 
 record IsProperKind (r : Record) : Type 0 where
-  built : is_built (kind_of r.body) ≡ true
+  built : is_kind_built (kind_of r.body) ≡ true
   dest : is_destination (kind_of r.body) r.dest ≡ true
 
 proper_kind : (r : Record) → is_valid r ≡ true → IsProperKind r
@@ -177,7 +177,7 @@ module _ (laws : DiscoveryLaws) (G : Facts) (x y : Enclave) (r : Record) (pause 
   new_body bodies.Register is = new_about r.origin.0 (ap (is_about_by r.origin.0 r) is ∙ eq-eqb r.origin.0 r.origin.0 refl)
   new_body bodies.Admit is = new_admit r.dest refl is
   new_body _ is =
-      let built = ap (λ b. is_built (kind_of b)) (sym is) ∙ proper.built in
+      let built = ap (λ b. is_kind_built (kind_of b)) (sym is) ∙ proper.built in
       absurd (cc)
 
   pub new_record : IsNew G x y r

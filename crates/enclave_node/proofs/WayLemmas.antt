@@ -13,7 +13,7 @@ use Rattle.enclave_rules.specs.Hand.{Hand, Nothing}
 use Rattle.enclave_rules.specs.View.{View, own_line, own_lines}
 use Rattle.enclave_rules.specs.Sending.{knows_way, drop_lines}
 use Rattle.enclave_rules.specs.Steps.{register_of, here_lines, told_askers}
-use Rattle.enclave_node.specs.Sides.{enclave_of, side_of, rows_of, with_way, with_route, learned_lines}
+use Rattle.enclave_node.specs.Sides.{enclave_of, side_of, rows_by_number, with_way_over, with_route_over, learned_lines}
 use Rattle.enclave_node.proofs.RowLemmas.{put_map, less_map, at_map, next_map, ascending_map, numbers_map, rows_from, first_of_rows}
 use Rattle.enclave_node.proofs.SideLemmas.{place_same, number_same, known_same, told_kept}
 
@@ -21,7 +21,7 @@ use Rattle.enclave_node.proofs.SideLemmas.{place_same, number_same, known_same, 
 abbrev pub seen : View → RouteView → View
 seen v r = record v {
   core = record v.core { holder = r.holder };
-  ways = record { way = option_map (enclave_of v.core.parent) r.way; askers = rows_of v.core.parent r.askers; backs = rows_of v.core.parent r.back; routes = rows_of v.core.parent r.routes };
+  ways = record { way = option_map (enclave_of v.core.parent) r.way; askers = rows_by_number v.core.parent r.askers; backs = rows_by_number v.core.parent r.back; routes = rows_by_number v.core.parent r.routes };
 }
 
 -- a view with other ways
@@ -30,51 +30,51 @@ with_ways v w = record v { ways = w }
 
 -- ---- tables by the neighbours' numbers
 
-put_number : (p x : Enclave) (n : Neighbour) (rows : List (ℕ × Neighbour)) (k : ℕ) → n ≡ side_of p x → rows_of p (put rows k n) ≡ put (rows_of p rows) k x
-put_number p x n rows k side = put_map (enclave_of p) rows k n ∙ ap (λ e. put (rows_of p rows) k e) (ap (enclave_of p) side ∙ number_same p x)
+put_number : (p x : Enclave) (n : Neighbour) (rows : List (ℕ × Neighbour)) (k : ℕ) → n ≡ side_of p x → rows_by_number p (put rows k n) ≡ put (rows_by_number p rows) k x
+put_number p x n rows k side = put_map (enclave_of p) rows k n ∙ ap (λ e. put (rows_by_number p rows) k e) (ap (enclave_of p) side ∙ number_same p x)
 
 place_number : (p x : Enclave) (n : Neighbour) → n ≡ side_of p x → place_of n ≡ place_among p x
 place_number p x n side = ap place_of side ∙ place_same p x
 
-put_place : (p x : Enclave) (n : Neighbour) (rows : List (ℕ × Neighbour)) → n ≡ side_of p x → rows_of p (put rows (place_of n) n) ≡ put (rows_of p rows) (place_among p x) x
-put_place p x n rows side = put_number p x n rows (place_of n) side ∙ ap (λ k. put (rows_of p rows) k x) (place_number p x n side)
+put_place : (p x : Enclave) (n : Neighbour) (rows : List (ℕ × Neighbour)) → n ≡ side_of p x → rows_by_number p (put rows (place_of n) n) ≡ put (rows_by_number p rows) (place_among p x) x
+put_place p x n rows side = put_number p x n rows (place_of n) side ∙ ap (λ k. put (rows_by_number p rows) k x) (place_number p x n side)
 
-less_place : (p x : Enclave) (n : Neighbour) (rows : List (ℕ × Neighbour)) → n ≡ side_of p x → rows_of p (less rows (place_of n)) ≡ less (rows_of p rows) (place_among p x)
-less_place p x n rows side = less_map (enclave_of p) rows (place_of n) ∙ ap (λ k. less (rows_of p rows) k) (place_number p x n side)
+less_place : (p x : Enclave) (n : Neighbour) (rows : List (ℕ × Neighbour)) → n ≡ side_of p x → rows_by_number p (less rows (place_of n)) ≡ less (rows_by_number p rows) (place_among p x)
+less_place p x n rows side = less_map (enclave_of p) rows (place_of n) ∙ ap (λ k. less (rows_by_number p rows) k) (place_number p x n side)
 
-knows_same : (v : View) (r : RouteView) → knows_way (seen v r) ≡ ways.knows_way r
+knows_same : (v : View) (r : RouteView) → knows_way (seen v r) ≡ ways.is_way_known r
 knows_same v r = ap (λ b. r.holder || b) (known_same v.core.parent r.way)
 
 -- ---- what each call leaves
 
 asked_view : (v : View) (r : RouteView) (n : Neighbour) (x : Enclave) → n ≡ side_of v.core.parent x
     → seen v (ways.after_asked r n) ≡ (if knows_way (seen v r) then seen v r else own_line Nothing (seen v r) (lines.Asked v.me x))
-asked_view v r n x side = rw (knows_same v r) (by (ways.knows_way r))
+asked_view v r n x side = rw (knows_same v r) (by (ways.is_way_known r))
   where
     by : (b : Bool) → seen v (if b then r else ways.with_asker r n) ≡ (if b then seen v r else own_line Nothing (seen v r) (lines.Asked v.me x))
     by true = refl
     by false = ap (λ rows. with_ways (seen v r) (record (seen v r).ways { askers = rows })) (put_place v.core.parent x n r.askers side)
 
 told_view : (v : View) (r : RouteView) (n : Neighbour) (x : Enclave) → n ≡ side_of v.core.parent x
-    → seen v (ways.after_here r n) ≡ (if knows_way (seen v r) then seen v r else with_way (seen v r) x)
-told_view v r n x side = rw (knows_same v r) (by (ways.knows_way r))
+    → seen v (ways.after_here r n) ≡ (if knows_way (seen v r) then seen v r else with_way_over (seen v r) x)
+told_view v r n x side = rw (knows_same v r) (by (ways.is_way_known r))
   where
     number : enclave_of v.core.parent n ≡ x
     number = ap (enclave_of v.core.parent) side ∙ number_same v.core.parent x
 
-    by : (b : Bool) → seen v (if b then r else ways.with_way r n) ≡ (if b then seen v r else with_way (seen v r) x)
+    by : (b : Bool) → seen v (if b then r else ways.with_way r n) ≡ (if b then seen v r else with_way_over (seen v r) x)
     by true = refl
-    by false = ap (λ e. with_ways (seen v r) (record (seen v r).ways { way = Some e; askers = rows_of v.core.parent (less r.askers (place_of n)) })) number
+    by false = ap (λ e. with_ways (seen v r) (record (seen v r).ways { way = Some e; askers = rows_by_number v.core.parent (less r.askers (place_of n)) })) number
         ∙ ap (λ rows. with_ways (seen v r) (record (seen v r).ways { way = Some x; askers = rows })) (less_place v.core.parent x n r.askers side)
 
 back_view : (v : View) (r : RouteView) (n : Neighbour) (of x : Enclave) → n ≡ side_of v.core.parent x
     → seen v (ways.with_back r of n) ≡ own_line Nothing (seen v r) (lines.Back v.me of x)
 back_view v r n of x side = ap (λ rows. with_ways (seen v r) (record (seen v r).ways { backs = rows })) (put_number v.core.parent x n r.back of.0 side)
 
-learned_view : (v : View) (r : RouteView) (of : Enclave) → seen v (ways.after_learn r of) ≡ with_route (seen v r) of (at (rows_of v.core.parent r.back) of.0)
+learned_view : (v : View) (r : RouteView) (of : Enclave) → seen v (ways.after_learn r of) ≡ with_route_over (seen v r) of (at (rows_by_number v.core.parent r.back) of.0)
 learned_view v r of = rw (at_map (enclave_of v.core.parent) r.back of.0) (by (at r.back of.0))
   where
-    by : (found : Option Neighbour) → seen v (ways.with_route r of found) ≡ with_route (seen v r) of (option_map (enclave_of v.core.parent) found)
+    by : (found : Option Neighbour) → seen v (ways.with_route r of found) ≡ with_route_over (seen v r) of (option_map (enclave_of v.core.parent) found)
     by None = refl
     by (Some n) = ap (λ rows. with_ways (seen v r) (record (seen v r).ways { routes = rows })) (put_map (enclave_of v.core.parent) r.routes of.0 n)
 
@@ -87,8 +87,8 @@ asked_seen (Ok t) v now r new n x is sees side after = ap (seen v) after ∙ ask
     ∙ ap (λ w. if knows_way w then w else own_line Nothing w (lines.Asked w.me x)) (sym sees ∙ is)
 
 pub told_seen : (v now : View) (r new : RouteView) (n : Neighbour) (x : Enclave) → v ≡ now → v ≡ seen v r → n ≡ side_of v.core.parent x
-    → new ≡ ways.after_here r n → seen v new ≡ (if knows_way now then now else with_way now x)
-told_seen v now r new n x is sees side after = ap (seen v) after ∙ told_view v r n x side ∙ ap (λ w. if knows_way w then w else with_way w x) (sym sees ∙ is)
+    → new ≡ ways.after_here r n → seen v new ≡ (if knows_way now then now else with_way_over now x)
+told_seen v now r new n x is sees side after = ap (seen v) after ∙ told_view v r n x side ∙ ap (λ w. if knows_way w then w else with_way_over w x) (sym sees ∙ is)
 
 pub back_seen : {T E : Type 0} (done : Result T E) (v now : View) (r new : RouteView) (n : Neighbour) (of x : Enclave) → v ≡ now → v ≡ seen v r → n ≡ side_of v.core.parent x
     → OnOk done (new ≡ ways.with_back r of n) → OnOk done (seen v new ≡ own_line Nothing now (lines.Back now.me of x))
@@ -96,8 +96,8 @@ back_seen (Err e) v now r new n of x is sees side after = tt
 back_seen (Ok t) v now r new n of x is sees side after = ap (seen v) after ∙ back_view v r n of x side ∙ ap (λ w. own_line Nothing w (lines.Back w.me of x)) (sym sees ∙ is)
 
 pub learned_seen : (v now : View) (r new : RouteView) (of : Enclave) → v ≡ now → v ≡ seen v r
-    → new ≡ ways.after_learn r of → seen v new ≡ with_route now of (at now.ways.backs of.0)
-learned_seen v now r new of is sees after = ap (seen v) after ∙ learned_view v r of ∙ ap (λ w. with_route w of (at w.ways.backs of.0)) (sym sees ∙ is)
+    → new ≡ ways.after_learn r of → seen v new ≡ with_route_over now of (at now.ways.backs of.0)
+learned_seen v now r new of is sees after = ap (seen v) after ∙ learned_view v r of ∙ ap (λ w. with_route_over w of (at w.ways.backs of.0)) (sym sees ∙ is)
 
 -- the way back to an enclave
 pub back_at : (v now : View) (r : RouteView) (of : Enclave) (found : Option Neighbour) → v ≡ now → v ≡ seen v r → found ≡ at r.back of.0
@@ -136,23 +136,23 @@ route_told me of over routes low out new all ascends next found more told =
 abbrev knowing : View → Enclave → View
 knowing v from = record v { ways = record v.ways { way = Some from; askers = [] } }
 
-here_is : (hand : Hand) (v told left : View) (from : Enclave) → not (knows_way v) ≡ true → told ≡ (if knows_way v then v else with_way v from)
+here_is : (hand : Hand) (v told left : View) (from : Enclave) → not (knows_way v) ≡ true → told ≡ (if knows_way v then v else with_way_over v from)
     → left ≡ record told { ways = record told.ways { askers = [] } } → left ≡ own_lines hand v (here_lines v from)
 here_is hand v told left from new after last = by (knows_way v) new after
   where
     askers : List (ℕ × Enclave)
     askers = less v.ways.askers (place_among v.core.parent from)
 
-    step : told ≡ with_way v from → left ≡ own_lines hand (knowing v from) (told_askers v askers ++ lines.Sent v.me from (register_of v.me) ∷ [])
+    step : told ≡ with_way_over v from → left ≡ own_lines hand (knowing v from) (told_askers v askers ++ lines.Sent v.me from (register_of v.me) ∷ [])
     step with = last ∙ ap (λ (w : View). record w { ways = record w.ways { askers = [] } }) with ∙ sym (told_kept hand (knowing v from) v askers (lines.Sent v.me from (register_of v.me) ∷ []))
 
-    by : (b : Bool) → not b ≡ true → told ≡ (if b then v else with_way v from)
+    by : (b : Bool) → not b ≡ true → told ≡ (if b then v else with_way_over v from)
         → left ≡ own_lines hand v (if b then drop_lines v else lines.Way v.me from ∷ told_askers v askers ++ lines.Sent v.me from (register_of v.me) ∷ [])
     by true new with = cc
     by false new with = step with
 
 pub here_seen : {T E : Type 0} (done : Result T E) (v told left : View) (from : Enclave) (first : Bool) → first ≡ true → first ≡ not (knows_way v)
-    → told ≡ (if knows_way v then v else with_way v from) → left ≡ record told { ways = record told.ways { askers = [] } }
+    → told ≡ (if knows_way v then v else with_way_over v from) → left ≡ record told { ways = record told.ways { askers = [] } }
     → OnOk done ((hand : Hand) → left ≡ own_lines hand v (here_lines v from))
 here_seen (Err e) v told left from first was is after last = tt
 here_seen (Ok t) v told left from first was is after last = λ hand. here_is hand v told left from (sym is ∙ was) after last

@@ -65,9 +65,9 @@ adopted n child kind = record n { view = record n.view { core = with_child child
 -- ---- channels
 
 -- the number of a neighbour
-abbrev pub number_of : View → Neighbour → Enclave
-number_of v neighbours.Up = v.core.parent
-number_of v (neighbours.Down child) = child
+abbrev pub neighbour_number : View → Neighbour → Enclave
+neighbour_number v neighbours.Up = v.core.parent
+neighbour_number v (neighbours.Down child) = child
 
 -- what the decoder of a channel has; nothing where the channel isn't open
 abbrev pub feed_at : List (ℕ × Decoding) → Enclave → Decoding

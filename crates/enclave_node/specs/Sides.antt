@@ -21,17 +21,17 @@ abbrev pub side_of : Enclave → Enclave → Neighbour
 side_of parent x = if x.0 == parent.0 then neighbours.Up else neighbours.Down x
 
 -- rows of neighbours, by their numbers
-abbrev pub rows_of : Enclave → List (ℕ × Neighbour) → List (ℕ × Enclave)
-rows_of parent rows = map (λ row. (row.0, enclave_of parent row.1)) rows
+abbrev pub rows_by_number : Enclave → List (ℕ × Neighbour) → List (ℕ × Enclave)
+rows_by_number parent rows = map (λ row. (row.0, enclave_of parent row.1)) rows
 
 -- the way goes over the neighbour, which needn't be told
-abbrev pub with_way : View → Enclave → View
-with_way v from = record v { ways = record v.ways { way = Some from; askers = less v.ways.askers (place_among v.core.parent from) } }
+abbrev pub with_way_over : View → Enclave → View
+with_way_over v from = record v { ways = record v.ways { way = Some from; askers = less v.ways.askers (place_among v.core.parent from) } }
 
 -- the enclave lies over the neighbour, where there is one
-abbrev pub with_route : View → Enclave → Option Enclave → View
-with_route v of None = v
-with_route v of (Some over) = record v { ways = record v.ways { routes = put v.ways.routes of.0 over } }
+abbrev pub with_route_over : View → Enclave → Option Enclave → View
+with_route_over v of None = v
+with_route_over v of (Some over) = record v { ways = record v.ways { routes = put v.ways.routes of.0 over } }
 
 -- the holder of the name server learns a route and admits over it
 abbrev pub admitting_lines : View → Enclave → Enclave → List Line

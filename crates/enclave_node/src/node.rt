@@ -201,7 +201,7 @@ impl<A: AddressSpace> Node<A> {
 
     // The number of a neighbour.
     fn number_of(&self, from: Neighbour) -> Enclave
-        ensures { result ≡ spec.number_of self.now.view from }
+        ensures { result ≡ spec.neighbour_number self.now.view from }
     {
         match from {
             Neighbour::Up => self.state.parent(),
@@ -232,12 +232,12 @@ impl<A: AddressSpace> Node<A> {
     /// Takes the next bytes of a channel, and handles each record that is whole then. More than 2^62 bytes of one channel in
     /// all, and as many in one piece, count as want of memory.
     pub fn feed(&mut self, from: Neighbour, piece: &[u8], out: &mut Lines) -> Result<(), NodeFault>
-        requires open_end { IsSome (at self.old.feeds (spec.number_of self.old.view from).0) }
-        ensures lines { handled result ≡ true → out.new ≡ out.old ++ spec.fed_lines self.old (spec.number_of self.old.view from) piece.now }
-        ensures after { handled result ≡ true → self.new ≡ spec.after_feed self.old (spec.number_of self.old.view from) piece.now }
-        ensures fine { OnOk result ((spec.fed self.old (spec.number_of self.old.view from) piece.now).bad ≡ None) }
+        requires open_end { IsSome (at self.old.feeds (spec.neighbour_number self.old.view from).0) }
+        ensures lines { handled result ≡ true → out.new ≡ out.old ++ spec.fed_lines self.old (spec.neighbour_number self.old.view from) piece.now }
+        ensures after { handled result ≡ true → self.new ≡ spec.after_feed self.old (spec.neighbour_number self.old.view from) piece.now }
+        ensures fine { OnOk result ((spec.fed self.old (spec.neighbour_number self.old.view from) piece.now).bad ≡ None) }
         ensures bad { (fault : WireFault) (place : ℕ) → IsErrOf result (NodeFault.BadRecord fault place) →
-            (spec.fed self.old (spec.number_of self.old.view from) piece.now).bad ≡ Some (record { fault = fault; place = place }) }
+            (spec.fed self.old (spec.neighbour_number self.old.view from) piece.now).bad ≡ Some (record { fault = fault; place = place }) }
         ensures err_lines { IsErrOf result NodeFault.Memory → out.new ≡ out.old }
         ensures fails { IsErrOf result NodeFault.Memory → self.new.failed ≡ true }
         ensures stays { self.old.failed ≡ true → IsErrOf result NodeFault.Memory }

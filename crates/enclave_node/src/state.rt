@@ -60,7 +60,7 @@ impl<A: AddressSpace> Model for State<A> {
     ghost use Rattle.std.specs.Prelude.{option_map};
     ghost use Rattle.enclave_node.specs.Births.{host_view};
     ghost use Rattle.enclave_node.specs.Layout.{IsKept, memory_of};
-    ghost use Rattle.enclave_node.specs.Sides.{enclave_of, rows_of};
+    ghost use Rattle.enclave_node.specs.Sides.{enclave_of, rows_by_number};
 
     ghost Value = { View };
 
@@ -77,9 +77,9 @@ impl<A: AddressSpace> Model for State<A> {
       };
       ways = record {
         way = option_map (enclave_of s.parent) s.routes.way;
-        askers = rows_of s.parent s.routes.askers;
-        backs = rows_of s.parent s.routes.back;
-        routes = rows_of s.parent s.routes.routes;
+        askers = rows_by_number s.parent s.routes.askers;
+        backs = rows_by_number s.parent s.routes.back;
+        routes = rows_by_number s.parent s.routes.routes;
       };
       memory = memory_of s.processes.items;
       host = host_view s.host;

@@ -7,7 +7,7 @@ use Rattle.xm_num.specs.declared.Enclave.{Enclave}
 use Rattle.xemem_language.specs.declared.record.Record.{Record}
 use Rattle.xemem_language.specs.declared.record.Body.{Body}
 use Rattle.xemem_language.specs.declared.record.Body.TheVariants as bodies
-use Rattle.xemem_wire.specs.Table.{kind_of, is_built, is_enclave, is_undirected, is_destination}
+use Rattle.xemem_wire.specs.Table.{kind_of, is_kind_built, is_enclave, is_undirected, is_destination}
 use Rattle.xemem_wire.specs.Spelling.{is_valid}
 use Rattle.xemem_language.specs.declared.command.Command.{Command}
 use Rattle.xemem_language.specs.declared.line.Line.{Line}
@@ -24,7 +24,7 @@ use Rattle.global_model.specs.Journals.{Follows}
 -- ---- valid records
 
 -- the kinds that are built say no more than their header
-spelled_body : (body : Body) → is_built (kind_of body) ≡ true → IsSpelledBody body
+spelled_body : (body : Body) → is_kind_built (kind_of body) ≡ true → IsSpelledBody body
 spelled_body bodies.Query built = tt
 spelled_body bodies.Here built = tt
 spelled_body bodies.Register built = tt

@@ -16,7 +16,7 @@ use Rattle.xemem_language.specs.declared.record.Body.{Body}
 use Rattle.xemem_language.specs.declared.record.Body.TheVariants as bodies
 use Rattle.xemem_language.specs.declared.line.Line.{Line}
 use Rattle.xemem_language.specs.declared.line.Line.TheVariants as lines
-use Rattle.xemem_wire.specs.Table.{kind_of, is_built, has_call, is_destination, is_enclave, is_undirected}
+use Rattle.xemem_wire.specs.Table.{kind_of, is_kind_built, has_call, is_destination, is_enclave, is_undirected}
 use Rattle.xemem_wire.specs.Spelling.{is_valid, AreValid}
 use Rattle.line_reader.specs.Typed.{Is32, IsTypedBody}
 use Rattle.enclave_rules.specs.View.{View}
@@ -66,7 +66,7 @@ pub record HasNumbers (r : Record) : Type 0 where
   pub call : Is32 r.call
   pub body : IsTypedBody r.body
 
-typed_body : (body : Body) → is_built (kind_of body) ≡ true → IsTypedBody body
+typed_body : (body : Body) → is_kind_built (kind_of body) ≡ true → IsTypedBody body
 typed_body bodies.Query built = tt
 typed_body bodies.Here built = tt
 typed_body bodies.Register built = tt

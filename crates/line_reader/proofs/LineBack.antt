@@ -16,7 +16,7 @@ use Rattle.xemem_language.specs.Spelling.{line_words, name_word, body_words, hex
 use Rattle.text_words.specs.Words.{number_in}
 use Rattle.line_reader.specs.Laws.{Laws}
 use Rattle.line_reader.specs.Slots.{made, listed, chosen, whole, row_read, next_word, enclave, destination, pid, call, segid, apid, page, frame, block, word32, word64, access, cause, kind, mark, hex, text, keyword}
-use Rattle.line_reader.specs.Lines.{line_of, attached_form, counted, ended_body_rows, call_body_rows, fixed_body_rows, body_rows, sent, with_body, sent_form, answer_rows, answer_form, way_line, at_rows, at_form, block_rows, block_form, shown_rows, death_rows, kill_rows, way_rows, channel_rows, exit_rows, end_rows, grant_rows, call_rows, do_form, fixed_rows, born_form, alloc_form, bytes_form, line_rows}
+use Rattle.line_reader.specs.Lines.{line_of, attached_form, frames_counted, ended_body_rows, call_body_rows, fixed_body_rows, body_rows, sent_row, with_body, sent_form, answer_rows, answer_form, shown_way, at_rows, at_form, block_rows, block_form, shown_rows, death_rows, kill_rows, way_rows, channel_rows, exit_rows, end_rows, grant_rows, call_rows, do_form, fixed_rows, born_form, frames_form, bytes_form, line_rows}
 use Rattle.line_reader.specs.Typed.{IsTyped, IsTypedBody}
 use Rattle.line_reader.proofs.BytesLemmas.{typed_bytes}
 use Rattle.line_reader.proofs.ValueLemmas.{spell, next-back}
@@ -50,7 +50,7 @@ body_back laws (bodies.Died e) t s = filled-back laws (enclave ∷ []) bodies.Di
 body_back laws (bodies.Dead e) t s = filled-back laws (enclave ∷ []) bodies.Dead (e, tt) [] (t, tt)
 body_back laws (bodies.Confirm e) t s = filled-back laws (enclave ∷ []) bodies.Confirm (e, tt) [] (t, tt)
 body_back laws (bodies.Attached frames) t s =
-    ap counted (next-back laws word32 (length frames) (map (spell frame) frames) (omega arith))
+    ap frames_counted (next-back laws word32 (length frames) (map (spell frame) frames) (omega arith))
     ∙ ap (λ found. made (λ fs. if length fs == length frames then Some (bodies.Attached fs) else None) (option_map (λ values. (values, [])) found)) (all_next-back laws frame frames t)
     ∙ rw (same_count (length frames)) refl
 
@@ -66,7 +66,7 @@ not_digits word name n read none = false_from_ne_true _ (λ same.
     let e : None ≡ Some n = sym none ∙ ap (number_in 0 65535) (sym is) ∙ read in
     cc)
 
-way_is : (e over : Enclave) → number_in 0 65535 (decimal over.0) ≡ Some over.0 → way_line e (decimal over.0) ≡ Some (lines.AtWay e over)
+way_is : (e over : Enclave) → number_in 0 65535 (decimal over.0) ≡ Some over.0 → shown_way e (decimal over.0) ≡ Some (lines.AtWay e over)
 unfolding number_in
 way_is e over read =
     rw (not_digits (decimal over.0) (codes "own") over.0 read refl, not_digits (decimal over.0) (codes "none") over.0 read refl, read) refl
@@ -79,7 +79,7 @@ at_way laws e over is_e is_over =
     ∙ ap (λ line. whole (option_map (λ l. (l, [])) line)) (way_is e over number)
 
 pub line_of-words : (laws : Laws) (line : Line) → IsTyped line → IsSpelled line → line_of (line_words line) ≡ Some line
-unfolding line_of line_rows fixed_rows call_rows grant_rows end_rows exit_rows channel_rows way_rows kill_rows death_rows shown_rows do_form born_form alloc_form sent_form bytes_form answer_form at_form block_form next_word
+unfolding line_of line_rows fixed_rows call_rows grant_rows end_rows exit_rows channel_rows way_rows kill_rows death_rows shown_rows do_form born_form frames_form sent_form bytes_form answer_form at_form block_form next_word
 line_of-words laws (lines.Do command) t s = ap (λ r. whole (option_map (λ command. (lines.Do command, [])) (result_ok r))) (laws.commands.back command s)
 line_of-words laws (lines.Refused c) t s = ap whole (filled-back laws (cause ∷ []) lines.Refused (c, tt) [] (tt, tt))
 line_of-words laws (lines.Told e of) t s = ap whole (filled-back laws (enclave ∷ enclave ∷ []) lines.Told (e, (of, tt)) [] (t.0, (t.1, tt)))
@@ -131,7 +131,7 @@ line_of-words laws (lines.Alloc e p at frames) t s =
     ap (λ r. whole (listed frame r)) (filled-back laws (enclave ∷ pid ∷ page ∷ []) (λ e p at frames. lines.Alloc e p at frames) (e, (p, (at, tt))) (map (spell frame) frames) (t.0, (t.1, (t.2, tt))))
     ∙ ap (λ found. whole (made (λ fs. Some (lines.Alloc e p at fs)) (option_map (λ values. (values, [])) found))) (all_next-back laws frame frames t.3)
 line_of-words laws (lines.Sent x y r) t s =
-    ap (λ read. whole (with_body read)) (filled-back laws (enclave ∷ enclave ∷ text ∷ enclave ∷ destination ∷ word32 ∷ []) sent (x, (y, (name_word r.body, (r.origin, (r.dest, (r.call, tt)))))) (body_words r.body) (t.0, (t.1, (tt, (t.2, (s.0, (t.3, tt)))))))
+    ap (λ read. whole (with_body read)) (filled-back laws (enclave ∷ enclave ∷ text ∷ enclave ∷ destination ∷ word32 ∷ []) sent_row (x, (y, (name_word r.body, (r.origin, (r.dest, (r.call, tt)))))) (body_words r.body) (t.0, (t.1, (tt, (t.2, (s.0, (t.3, tt)))))))
     ∙ ap (λ read. whole (made (λ body. Some (lines.Sent x y (record { origin = r.origin; dest = r.dest; call = r.call; body = body }))) read)) (body_back laws r.body t.4 s.1)
 line_of-words laws (lines.Bytes x y at bytes) t s =
     rw (hex_is bytes s.0) (ap whole (filled-back laws (enclave ∷ enclave ∷ word32 ∷ hex ∷ []) lines.Bytes (x, (y, (at, (bytes, tt)))) [] (t.0, (t.1, (t.2, ((s, typed_bytes bytes t.3), tt))))))

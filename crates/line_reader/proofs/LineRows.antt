@@ -24,7 +24,7 @@ use Rattle.command_reader.specs.Forms.{command_of}
 use Rattle.text_words.specs.Words.{number_in}
 use Rattle.line_reader.specs.Laws.{Laws}
 use Rattle.line_reader.specs.Slots.{Slot, Value, Read, Row, Maker, filled, listed, chosen, row_read, next, next_word, all_next, all_read, enclave, destination, pid, call, segid, apid, page, frame, block, word32, word64, access, cause, kind, mark, hex, text, keyword}
-use Rattle.line_reader.specs.Lines.{attached_form, counted, ended_body_rows, call_body_rows, fixed_body_rows, body_rows, sent, with_body, sent_form, answer_rows, answer_form, way_line, at_rows, at_form, block_rows, block_form, shown_rows, death_rows, kill_rows, way_rows, channel_rows, exit_rows, end_rows, grant_rows, call_rows, do_form, fixed_rows, born_form, alloc_form, bytes_form, line_rows}
+use Rattle.line_reader.specs.Lines.{attached_form, frames_counted, ended_body_rows, call_body_rows, fixed_body_rows, body_rows, sent_row, with_body, sent_form, answer_rows, answer_form, shown_way, at_rows, at_form, block_rows, block_form, shown_rows, death_rows, kill_rows, way_rows, channel_rows, exit_rows, end_rows, grant_rows, call_rows, do_form, fixed_rows, born_form, frames_form, bytes_form, line_rows}
 use Rattle.line_reader.specs.Typed.{IsTyped, IsTypedBody, Is16, Is32}
 use Rattle.line_reader.proofs.ValueLemmas.{spell, IsMeant, made-some, next_word-some, next-some}
 use Rattle.line_reader.proofs.ListLemmas.{all_next-some}
@@ -110,7 +110,7 @@ answer_read laws words line rest h =
 abbrev AtLine : Enclave → List (List ℕ) → Line → List (List ℕ) → Type 0
 AtLine e words line rest = IsLine (codes "at" ∷ decimal e.0 ∷ words) line rest
 
-way_read : (laws : Laws) (e : Enclave) (word : List ℕ) (line : Line) (rest : List (List ℕ)) → Is16 e.0 → way_line e word ≡ Some line → AtLine e (codes "way" ∷ word ∷ rest) line rest
+way_read : (laws : Laws) (e : Enclave) (word : List ℕ) (line : Line) (rest : List (List ℕ)) → Is16 e.0 → shown_way e word ≡ Some line → AtLine e (codes "way" ∷ word ∷ rest) line rest
 way_read laws e word line rest is_e h = by (bytes_eq word (codes "own")) (bytes_eq word (codes "none")) (number_in 0 65535 word) refl refl refl h
   where
     by : (own none : Bool) (over : Option ℕ) → bytes_eq word (codes "own") ≡ own → bytes_eq word (codes "none") ≡ none → number_in 0 65535 word ≡ over
@@ -131,7 +131,7 @@ ats_read : (laws : Laws) (e : Enclave) → Is16 e.0 → EachRow (AtLine e) (at_r
 ats_read laws e is_e =
     let front : List (List ℕ) → List (List ℕ) = λ ws. codes "at" ∷ decimal e.0 ∷ ws in (
       (λ words line rest h.
-          let m = made-some (way_line e) (next_word words) line rest h in
+          let m = made-some (shown_way e) (next_word words) line rest h in
           rw (next_word-some words m.found rest m.was) (way_read laws e m.found line rest is_e m.gave)),
       (
         row_line laws (λ ws. front (codes "route" ∷ ws)) (enclave ∷ enclave ∷ []) (lines.AtRoute e) (λ v m rest. record { is = refl; spelled = tt; typed = (is_e, m.0, m.1.0) }),
@@ -223,7 +223,7 @@ attached_read : (laws : Laws) (words : List (List ℕ)) (body : Body) (rest : Li
 unfolding attached_form
 attached_read laws words body rest h = by (next word32 words) refl h
   where
-    by : (o : Read ℕ) → next word32 words ≡ o → counted o ≡ Some (body, rest) → IsBody (codes "attached" ∷ words) body rest
+    by : (o : Read ℕ) → next word32 words ≡ o → frames_counted o ≡ Some (body, rest) → IsBody (codes "attached" ∷ words) body rest
     by None is e = cc
     by (Some pair) is e =
         let first = next-some laws word32 pair.0 words pair.1 is in
@@ -334,8 +334,8 @@ sent_read : (laws : Laws) (words : List (List ℕ)) (line : Line) (rest : List (
 unfolding sent_form
 sent_read laws words line rest h =
     let slots = enclave ∷ enclave ∷ text ∷ enclave ∷ destination ∷ word32 ∷ [] in
-    let s = with_body-some (filled slots sent words) line rest h in
-    let f = filled-some laws slots sent words (s.name, s.make) s.words s.was in
+    let s = with_body-some (filled slots sent_row words) line rest h in
+    let f = filled-some laws slots sent_row words (s.name, s.make) s.words s.was in
     let v = f.values in
     let m = f.meant in
     let name_is : v.1.1.0 ≡ s.name = ap (λ p. p.0) f.result_is in
@@ -383,8 +383,8 @@ born_read laws words line rest h =
     let words_are = behind slots v words l.words (map (spell block) l.values ++ rest) f.words_are (to_end l.words (map (spell block) l.values) rest l.all.is l.all.none_left) in
     line_moved (codes "born" ∷ words) (codes "born" ∷ spelled slots v (map (spell block) l.values ++ rest)) line (lines.Born v.0 v.1.0 v.1.1.0 v.1.1.1.0 l.values) rest (ap (λ ws. codes "born" ∷ ws) words_are) line_is (record { is = refl; spelled = tt; typed = (m.0, m.1.1.0, l.all.meant) })
 
-alloc_read : (laws : Laws) (words : List (List ℕ)) (line : Line) (rest : List (List ℕ)) → alloc_form words ≡ Some (line, rest) → IsLine (codes "alloc" ∷ words) line rest
-unfolding alloc_form
+alloc_read : (laws : Laws) (words : List (List ℕ)) (line : Line) (rest : List (List ℕ)) → frames_form words ≡ Some (line, rest) → IsLine (codes "alloc" ∷ words) line rest
+unfolding frames_form
 alloc_read laws words line rest h =
     let slots = enclave ∷ pid ∷ page ∷ [] in
     let allocated : Maker slots (List Frame → Line) = λ e p at frames. lines.Alloc e p at frames in

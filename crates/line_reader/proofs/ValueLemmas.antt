@@ -17,7 +17,7 @@ use Rattle.xemem_language.specs.Ranges.{IsName, IsPlainOption, IsWithin}
 use Rattle.xemem_language.specs.Spelling.{access_word, cause_word, kind_word, signed_word}
 use Rattle.text_words.specs.Words.{number_in}
 use Rattle.line_reader.specs.Laws.{Laws}
-use Rattle.line_reader.specs.Slots.{Slot, Value, Read, made, named, next, next_word, next_number, next_named, bytes_of, destination_of, access_names, kind_names, mark_names, cause_names, enclave, destination, pid, call, segid, apid, page, frame, block, word32, word64, access, cause, kind, mark, hex, text, keyword}
+use Rattle.line_reader.specs.Slots.{Slot, Value, Read, made, named, next, next_word, next_number, next_named, bytes_of, word_destination, access_names, kind_names, mark_names, cause_names, enclave, destination, pid, call, segid, apid, page, frame, block, word32, word64, access, cause, kind, mark, hex, text, keyword}
 use Rattle.line_reader.proofs.BytesLemmas.{bytes_of-spells, bytes_of-back}
 
 -- ---- how a value is spelled, and which values are
@@ -169,7 +169,7 @@ each_cause = (refl, (refl, (refl, (refl, (refl, (refl, (refl, (refl, (refl, (ref
 
 -- ---- what is spelled is read again
 
-destination-back : (d : Option Enclave) → IsPlainOption d → destination_of (destination_number d) ≡ d
+destination-back : (d : Option Enclave) → IsPlainOption d → word_destination (destination_number d) ≡ d
 destination-back None h = refl
 destination-back (Some e) h = rw (ne_eqb e.0 65535 (λ is. omega arith)) refl
 
@@ -222,7 +222,7 @@ numbered laws high f words rest b spelled most fits each h =
     let e = each m.found s.most in
     rw (← is) (s.is ∙ ap (λ w. w ∷ rest) (sym e.0), e.1)
 
-destination-spelled : (n : ℕ) → n ≤ 65535 → (decimal (destination_number (destination_of n)) ≡ decimal n) × IsPlainOption (destination_of n)
+destination-spelled : (n : ℕ) → n ≤ 65535 → (decimal (destination_number (word_destination n)) ≡ decimal n) × IsPlainOption (word_destination n)
 destination-spelled n h = elim (cases_eq n 65535) [
   | inl none ↦ rw none (refl, tt)
   | inr some ↦ rw (ne_eqb n 65535 some) (refl, omega arith)
@@ -235,7 +235,7 @@ keyword-some u v name word false is e = cc
 pub next-some : (laws : Laws) (slot : Slot) (value : Value slot) (words rest : List (List ℕ)) → next slot words ≡ Some (value, rest) → Spelt slot value words rest
 unfolding next
 next-some laws enclave e words rest h = let s = numbered laws 65535 (λ n. record { 0 = n }) words rest e (spell enclave) (IsMeant enclave) (omega arith) (λ n le. (refl, le)) h in record { is = s.0; meant = s.1 }
-next-some laws destination d words rest h = let s = numbered laws 65535 destination_of words rest d (spell destination) (IsMeant destination) (omega arith) destination-spelled h in record { is = s.0; meant = s.1 }
+next-some laws destination d words rest h = let s = numbered laws 65535 word_destination words rest d (spell destination) (IsMeant destination) (omega arith) destination-spelled h in record { is = s.0; meant = s.1 }
 next-some laws pid p words rest h = let s = numbered laws 4294967295 (λ n. record { 0 = n }) words rest p (spell pid) (IsMeant pid) (omega arith) (λ n le. (refl, le)) h in record { is = s.0; meant = s.1 }
 next-some laws call k words rest h = let s = numbered laws 4294967295 (λ n. record { 0 = n }) words rest k (spell call) (IsMeant call) (omega arith) (λ n le. (refl, le)) h in record { is = s.0; meant = s.1 }
 next-some laws segid x words rest h = let s = numbered laws 9223372036854775807 (λ n. record { 0 = pos n }) words rest x (spell segid) (IsMeant segid) (omega arith) (λ n le. (refl, (omega (arith, ints), omega (arith, ints)))) h in record { is = s.0; meant = s.1 }

@@ -21,12 +21,12 @@ special first read = record { first = first; read = read }
 -- ---- records
 
 -- as many frames as the count before them says
-abbrev pub counted : Read ℕ → Read Body
-counted None = None
-counted (Some (count, words)) = made (λ frames. if length frames == count then Some (bodies.Attached frames) else None) (all_read frame words)
+abbrev pub frames_counted : Read ℕ → Read Body
+frames_counted None = None
+frames_counted (Some (count, words)) = made (λ frames. if length frames == count then Some (bodies.Attached frames) else None) (all_read frame words)
 
 unfoldable pub attached_form : List (List ℕ) → Read Body
-attached_form words = counted (next word32 words)
+attached_form words = frames_counted (next word32 words)
 
 -- what a record says, by its name, in parts that end with the next part
 
@@ -68,8 +68,8 @@ unfoldable pub body_rows : List (Row Body)
 body_rows = special (codes "attached") attached_form ∷ fixed_body_rows
 
 -- the record's name, and the line with what it says
-abbrev pub sent : Enclave → Enclave → List ℕ → Enclave → Option Enclave → ℕ → List ℕ × (Body → Line)
-sent from to name origin dest k =
+abbrev pub sent_row : Enclave → Enclave → List ℕ → Enclave → Option Enclave → ℕ → List ℕ × (Body → Line)
+sent_row from to name origin dest k =
     (name, λ body. lines.Sent from to (record { origin = origin; dest = dest; call = k; body = body }))
 
 abbrev pub with_body : Read (List ℕ × (Body → Line)) → Read Line
@@ -78,7 +78,7 @@ with_body (Some ((name, make), words)) = made (λ body. Some (make body)) (row_r
 
 -- a record: its ends, its name, its header and its fields
 unfoldable pub sent_form : List (List ℕ) → Read Line
-sent_form words = with_body (filled (enclave ∷ enclave ∷ text ∷ enclave ∷ destination ∷ word32 ∷ []) sent words)
+sent_form words = with_body (filled (enclave ∷ enclave ∷ text ∷ enclave ∷ destination ∷ word32 ∷ []) sent_row words)
 
 -- ---- lines with a choice
 
@@ -95,15 +95,15 @@ unfoldable pub answer_form : List (List ℕ) → Read Line
 answer_form words = chosen (filled (enclave ∷ pid ∷ call ∷ []) answer_rows words)
 
 -- a way is over a neighbour, the enclave's own, or not known
-abbrev pub way_line : Enclave → List ℕ → Option Line
-way_line e word =
+abbrev pub shown_way : Enclave → List ℕ → Option Line
+shown_way e word =
     if bytes_eq word (codes "own") then Some (lines.AtWayOwn e)
     else if bytes_eq word (codes "none") then Some (lines.AtWayNone e)
     else option_map (λ n. lines.AtWay e (record { 0 = n })) (number_in 0 65535 word)
 
 abbrev pub at_rows : Enclave → List (Row Line)
 at_rows e =
-    special (codes "way") (λ words. made (way_line e) (next_word words))
+    special (codes "way") (λ words. made (shown_way e) (next_word words))
     ∷ row (codes "route") (enclave ∷ enclave ∷ []) (lines.AtRoute e)
     ∷ row (codes "pin") (enclave ∷ call ∷ segid ∷ word32 ∷ word32 ∷ []) (lines.AtPin e)
     ∷ []
@@ -231,8 +231,8 @@ unfoldable pub born_form : List (List ℕ) → Read Line
 born_form words = listed block (filled (enclave ∷ kind ∷ enclave ∷ mark ∷ []) (λ e of parent ns blocks. lines.Born e of parent ns blocks) words)
 
 -- the frames of own pages stand to the end
-unfoldable pub alloc_form : List (List ℕ) → Read Line
-alloc_form words = listed frame (filled (enclave ∷ pid ∷ page ∷ []) (λ e p at frames. lines.Alloc e p at frames) words)
+unfoldable pub frames_form : List (List ℕ) → Read Line
+frames_form words = listed frame (filled (enclave ∷ pid ∷ page ∷ []) (λ e p at frames. lines.Alloc e p at frames) words)
 
 unfoldable pub bytes_form : List (List ℕ) → Read Line
 bytes_form words = filled (enclave ∷ enclave ∷ word32 ∷ hex ∷ []) lines.Bytes words
@@ -241,7 +241,7 @@ bytes_form words = filled (enclave ∷ enclave ∷ word32 ∷ hex ∷ []) lines.
 unfoldable pub line_rows : List (Row Line)
 line_rows =
     special (codes "born") born_form
-    ∷ special (codes "alloc") alloc_form
+    ∷ special (codes "alloc") frames_form
     ∷ special (codes "sent") sent_form
     ∷ special (codes "bytes") bytes_form
     ∷ fixed_rows

@@ -138,8 +138,8 @@ bytes_of word =
 -- ---- what is read
 
 -- 65535 stands for no enclave
-abbrev pub destination_of : ℕ → Option Enclave
-destination_of n = if n == 65535 then None else Some (record { 0 = n })
+abbrev pub word_destination : ℕ → Option Enclave
+word_destination n = if n == 65535 then None else Some (record { 0 = n })
 
 -- what is read off the front of words, and the words behind it
 abbrev pub Read : Type 0 → Type 0
@@ -165,7 +165,7 @@ next_named names words = made (named names) (next_word words)
 -- what the first word stands for in a slot, and the words behind it
 unfoldable pub next : (slot : Slot) → List (List ℕ) → Read (Value slot)
 next enclave words = made (λ n. Some (record { 0 = n })) (next_number 65535 words)
-next destination words = made (λ n. Some (destination_of n)) (next_number 65535 words)
+next destination words = made (λ n. Some (word_destination n)) (next_number 65535 words)
 next pid words = made (λ n. Some (record { 0 = n })) (next_number 4294967295 words)
 next call words = made (λ n. Some (record { 0 = n })) (next_number 4294967295 words)
 next segid words = made (λ n. Some (record { 0 = pos n })) (next_number 9223372036854775807 words)

@@ -72,7 +72,7 @@ pub fn answer(words: &mut Words) -> Option<Line>
 
 // The way of an enclave: its own, none, or over a neighbour.
 fn way(enclave: Enclave, word: &[u8]) -> Option<Line>
-    ensures { result ≡ spec.way_line enclave word.now }
+    ensures { result ≡ spec.shown_way enclave word.now }
 {
     if word == b"own".as_slice() {
         Some(Line::AtWayOwn { enclave })

@@ -39,9 +39,9 @@ fn born(alloc: Global, words: &mut Words) -> Result<Option<Line>, AllocError>
 }
 
 // Own pages get the frames that stand to the end.
-#[tactic(auto, unfolding(crate::specs::Lines::alloc_form))]
+#[tactic(auto, unfolding(crate::specs::Lines::frames_form))]
 fn allocated(alloc: Global, words: &mut Words) -> Result<Option<Line>, AllocError>
-    ensures { IfOk result (λ found. option_map (λ line. (line, words.new)) found ≡ spec.alloc_form words.old) }
+    ensures { IfOk result (λ found. option_map (λ line. (line, words.new)) found ≡ spec.frames_form words.old) }
 {
     let Some(enclave) = words.enclave() else {
         return Ok(None);

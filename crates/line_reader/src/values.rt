@@ -8,7 +8,7 @@ use xm_num::{Access, Apid, Block, CallNo, Cause, Enclave, Frame, Kind, Pid, Segi
 
 // The enclave of that number, or none where it is 65535.
 fn destination_of(number: u16) -> Option<Enclave>
-    ensures { result ≡ slot.destination_of number }
+    ensures { result ≡ slot.word_destination number }
 {
     if number == 65_535 {
         None

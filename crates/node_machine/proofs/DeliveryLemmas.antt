@@ -9,7 +9,7 @@ use Rattle.xemem_wire.specs.Spelling.{spellings_of}
 use Rattle.xemem_wire.specs.Stream.{first_bad}
 use Rattle.xemem_wire.specs.Decoding.{Decoding, after_piece}
 use Rattle.xm_num.specs.declared.Neighbour.{Neighbour}
-use Rattle.enclave_node.specs.Nodes.{NodeView, number_of, feed_at, fed}
+use Rattle.enclave_node.specs.Nodes.{NodeView, neighbour_number, feed_at, fed}
 use Rattle.node_machine.specs.Links.{IsLinkFlowing}
 use Rattle.node_machine.specs.declared.pair.Hop.TheVariants as hops
 use Rattle.node_machine.specs.Machine.{MachineView, are_known, enclave_numbered, has_node, hop_in, node_at, pair_at}
@@ -33,11 +33,11 @@ never_bad laws link d f n bad is =
 
 -- nor is one that the node takes over the channel from its neighbour on that side
 pub never_refused : MachineLaws → (link : Channel) (node old : NodeView) (side : Neighbour) (from : Enclave) (n : ℕ) (piece : List ℕ) (bad : BadField) → node ≡ old → IsLinkFlowing link (feed_at old.feeds from)
-    → number_of old.view side ≡ from → n ≤ length (waiting_bytes link) → piece ≡ take n (waiting_bytes link) → (fed node (number_of node.view side) piece).bad ≡ Some bad → ⊥
+    → neighbour_number old.view side ≡ from → n ≤ length (waiting_bytes link) → piece ≡ take n (waiting_bytes link) → (fed node (neighbour_number node.view side) piece).bad ≡ Some bad → ⊥
 never_refused laws link node old side from n piece bad is flows side_is fits piece_is refused =
     never_bad laws link (feed_at old.feeds from) flows n bad (
     ap (λ xs. (after_piece (feed_at old.feeds from) xs).bad) (sym piece_is) ∙ ap (λ (e : Enclave). (after_piece (feed_at old.feeds e) piece).bad) (sym side_is)
-    ∙ ap (λ (k : NodeView). (fed k (number_of k.view side) piece).bad) (sym is) ∙ refused)
+    ∙ ap (λ (k : NodeView). (fed k (neighbour_number k.view side) piece).bad) (sym is) ∙ refused)
 
 -- ---- the channel that a hop names
 

@@ -6,7 +6,7 @@ ghost use Rattle.xemem_language.specs.declared.line.Line.TheVariants as lines;
 ghost use Rattle.xemem_language.specs.Calls.{IsCallInRange, IsShowable};
 ghost use Rattle.xm_num.specs.Rows.{at};
 ghost use Rattle.enclave_rules.specs.Pages.{AreBlocks};
-ghost use Rattle.enclave_node.specs.Nodes.{feed_at, number_of};
+ghost use Rattle.enclave_node.specs.Nodes.{feed_at, neighbour_number};
 ghost use Rattle.node_machine.specs.Links.{IsLinkFlowing, sent_in};
 ghost use Rattle.node_machine.specs.Machine as spec;
 ghost use Rattle.node_machine.specs.Ready.{IsReady, CanStep};
@@ -359,7 +359,7 @@ impl Machine {
         requires born { to.0 < length self.old.nodes }
         requires flows { IsLinkFlowing (spec.link_of self.old.pairs hop) (feed_at (spec.node_at self.old.nodes to.0).feeds from) }
         requires open_end { IsSome (at (spec.node_at self.old.nodes to.0).feeds from.0) }
-        requires side { number_of (spec.node_at self.old.nodes to.0).view side ≡ from }
+        requires side { neighbour_number (spec.node_at self.old.nodes to.0).view side ≡ from }
         ensures lines { OnOk result (out.new ≡ out.old ++ spec.lines_over self.old from to count hop) }
         ensures after { OnOk result (self.new ≡ spec.over_machine self.old from to count hop) }
     {

@@ -8,7 +8,7 @@ use Rattle.std.proofs.lemmas.Grind.{flat_map-append}
 use Rattle.xemem_language.specs.declared.record.Record.{Record}
 use Rattle.xemem_wire.specs.Spelling.{spelling_of, header_of, spellings_of, is_valid, AreValid}
 use Rattle.xemem_wire.specs.Faults.{fault_of, first_failed}
-use Rattle.xemem_wire.specs.Stream.{reading_of, reading_within, onto, nothing_read, first_bad, moved}
+use Rattle.xemem_wire.specs.Stream.{reading_of, reading_within, record_onto, nothing_read, first_bad, moved}
 use Rattle.global_model.specs.Channels.{size_of, whole_records}
 use Rattle.node_world.specs.Laws.{WireLaws}
 
@@ -53,7 +53,7 @@ front_whole laws r rs ws m k valid is f =
       tail = f.tail;
       whole = ap (λ xs. r ∷ xs) f.whole;
       front = front ∙ ap (λ xs. spelling_of r ++ xs) f.front ∙ sym (append_assoc (spelling_of r) (spellings_of ws) f.tail);
-      reading = ap reading_of front ∙ laws.first r (take k (spellings_of rs)) valid ∙ ap (onto r) f.reading;
+      reading = ap reading_of front ∙ laws.first r (take k (spellings_of rs)) valid ∙ ap (record_onto r) f.reading;
       fine = ap first_bad front ∙ bad ∙ ap (option_map (moved (length (spellings_of (r ∷ []))))) f.fine;
       bytes = ap (λ xs. f.tail ++ xs) back ∙ f.bytes;
       taken = omega (arith, length-append (spelling_of r) (spellings_of ws), f.taken);

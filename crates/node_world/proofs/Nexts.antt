@@ -8,7 +8,7 @@ use Rattle.std.proofs.lemmas.Bool.{lt-ltb, ne_eqb, leb-true, leb-false}
 use Rattle.std.proofs.lemmas.List.{drop_all, map-append}
 use Rattle.std.proofs.lemmas.List.Elements.{filter-append}
 use Rattle.xm_num.specs.declared.Enclave.{Enclave}
-use Rattle.byte_link.specs.Channel.{Channel, waiting_bytes, boundary_of, first_length, filled, later_bytes}
+use Rattle.byte_link.specs.Channel.{Channel, waiting_bytes, boundary_of, first_length, filled_pieces, later_bytes}
 use Rattle.byte_link.specs.Passage.{left_of}
 use Rattle.xemem_language.specs.declared.record.Record.{Record}
 use Rattle.xemem_wire.specs.Spelling.{spelling_of}
@@ -36,7 +36,7 @@ pub record IsDue (G : Facts) (c : Command) : Type 0 where
 
 -- ---- the rest of a record
 
-filled_first : (p : List ℕ) (ps : List (List ℕ)) → 0 < length p → first_length (filled (p ∷ ps)) ≡ length p
+filled_first : (p : List ℕ) (ps : List (List ℕ)) → 0 < length p → first_length (filled_pieces (p ∷ ps)) ≡ length p
 filled_first [] ps some = absurd (omega (arith, some))
 filled_first (b ∷ bs) ps some = refl
 
@@ -50,7 +50,7 @@ first_is taken (r ∷ rs) = by (leb (size_of r) taken) refl (first_is (taken - s
 
     by : (b : Bool) → leb (size_of r) taken ≡ b → first_length (left_of (map spelling_of rs) (taken - size_of r)) ≡ rest_of_record (taken - size_of r) rs
         → first_length (left_of (map spelling_of (r ∷ rs)) taken) ≡ cond b (rest_of_record (taken - size_of r) rs) (size_of r - taken)
-    by true whole more = ap (λ piece. first_length (filled (piece ∷ pieces))) (drop_all taken (spelling_of r) (leb-true (size_of r) taken whole)) ∙ more
+    by true whole more = ap (λ piece. first_length (filled_pieces (piece ∷ pieces))) (drop_all taken (spelling_of r) (leb-true (size_of r) taken whole)) ∙ more
     by false part more =
         let size = length-drop taken (spelling_of r) in
         let left = leb-false (size_of r) taken part in

@@ -13,7 +13,7 @@ use Rattle.byte_link.specs.Passage.{left_of}
 use Rattle.xemem_language.specs.declared.record.Record.{Record}
 use Rattle.xemem_wire.specs.Spelling.{spelling_of, spellings_of, is_valid, AreValid}
 use Rattle.xemem_wire.specs.Decoding.{Decoding}
-use Rattle.xemem_wire.specs.Stream.{reading_of, onto, after_records, nothing_read, first_bad, moved}
+use Rattle.xemem_wire.specs.Stream.{reading_of, record_onto, records_onto, nothing_read, first_bad, moved}
 use Rattle.xemem_language.specs.declared.command.Command.{Command}
 use Rattle.xemem_language.specs.declared.command.Command.TheVariants as commands
 use Rattle.xemem_language.specs.declared.line.Line.{Line}
@@ -39,9 +39,9 @@ use Rattle.node_machine.specs.Machine.{AreAbove, IsPairAt, hop_of}
 
 -- what a decoder makes of spellings
 pub record WireLaws : Type 0 where
-  pub first : (r : Record) (more : List ℕ) → is_valid r ≡ true → reading_of (spelling_of r ++ more) ≡ onto r (reading_of more)
+  pub first : (r : Record) (more : List ℕ) → is_valid r ≡ true → reading_of (spelling_of r ++ more) ≡ record_onto r (reading_of more)
   pub bad : (rs : List Record) (more : List ℕ) → AreValid rs → first_bad (spellings_of rs ++ more) ≡ option_map (moved (length (spellings_of rs))) (first_bad more)
-  pub reading : (rs : List Record) (r : Record) (n : ℕ) → AreValid rs → is_valid r ≡ true → n < length (spelling_of r) → reading_of (spellings_of rs ++ take n (spelling_of r)) ≡ after_records rs (nothing_read (take n (spelling_of r)))
+  pub reading : (rs : List Record) (r : Record) (n : ℕ) → AreValid rs → is_valid r ≡ true → n < length (spelling_of r) → reading_of (spellings_of rs ++ take n (spelling_of r)) ≡ records_onto rs (nothing_read (take n (spelling_of r)))
   pub fine : (rs : List Record) (r : Record) (n : ℕ) → AreValid rs → is_valid r ≡ true → n < length (spelling_of r) → first_bad (spellings_of rs ++ take n (spelling_of r)) ≡ None
 
 -- what an enclave writes and keeps follows from its view

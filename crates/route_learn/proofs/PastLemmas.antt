@@ -9,7 +9,7 @@ use Rattle.xm_num.specs.declared.Enclave.{Enclave}
 use Rattle.xm_num.specs.declared.Neighbour.{Neighbour}
 use Rattle.xm_num.specs.RowLaws.{RowLaws}
 use Rattle.xm_num.specs.Rows.{at}
-use Rattle.route_learn.specs.Routes.{RouteView, AreAscending, place_of, no_routes, knows_way, with_asker, with_way, with_route}
+use Rattle.route_learn.specs.Routes.{RouteView, AreAscending, place_of, no_routes, is_way_known, with_asker, with_way, with_route}
 use Rattle.route_learn.specs.Filters.{Event, after_event, after_events, first_here, way_of, is_told, back_of, route_of, is_same, is_asker, asker_of}
 use Rattle.route_learn.proofs.AskerLemmas.{one_place, picked, left_asks, left_ascends}
 use Rattle.route_learn.specs.Filters.Event.{Asked, Here, Back, Learn, Forget, AskerTaken}
@@ -23,7 +23,7 @@ pub record AreFilters (holder : Bool) (past : List Event) (v : RouteView) : Type
   pub askers : (n : Neighbour) → at v.askers (place_of n) ≡ asker_of holder n past
   pub ascending : AreAscending v
 
-told : (holder : Bool) (past : List Event) (v : RouteView) → AreFilters holder past v → knows_way v ≡ is_told holder past
+told : (holder : Bool) (past : List Event) (v : RouteView) → AreFilters holder past v → is_way_known v ≡ is_told holder past
 told holder past v f = ap (λ h. h || is_some v.way) f.held ∙ ap (λ w. holder || is_some w) f.way ∙ by holder
   where
     by : (b : Bool) → (b || is_some (if b then None else first_here past)) ≡ (b || is_some (first_here past))
@@ -197,8 +197,8 @@ module _ (laws : RowLaws Neighbour) (holder : Bool) (past : List Event) (v : Rou
   }
 
   one_more : (event : Event) → AreFilters holder (event ∷ past) (after_event v event)
-  one_more (Asked by) = asked by (knows_way v) (sym (told holder past v f))
-  one_more (Here from) = here from (knows_way v) (sym (told holder past v f))
+  one_more (Asked by) = asked by (is_way_known v) (sym (told holder past v f))
+  one_more (Here from) = here from (is_way_known v) (sym (told holder past v f))
   one_more (Back of over) = backed of over
   one_more (Learn of) = learn of (at v.back of.0) refl
   one_more (Forget of) = forgot of

@@ -39,8 +39,8 @@ abbrev pub no_routes : Bool → RouteView
 no_routes holder = record { holder = holder; way = None; askers = []; back = []; routes = [] }
 
 -- the way to the name server is known
-abbrev pub knows_way : RouteView → Bool
-knows_way v = v.holder || is_some v.way
+abbrev pub is_way_known : RouteView → Bool
+is_way_known v = v.holder || is_some v.way
 
 -- the neighbour is among those that asked
 abbrev pub with_asker : RouteView → Neighbour → RouteView
@@ -48,7 +48,7 @@ with_asker v by = record v { askers = put v.askers (place_of by) by }
 
 -- only what asks before the way is known is remembered
 abbrev pub after_asked : RouteView → Neighbour → RouteView
-after_asked v by = if knows_way v then v else with_asker v by
+after_asked v by = if is_way_known v then v else with_asker v by
 
 -- the way goes over the neighbour, which needn't be told
 abbrev pub with_way : RouteView → Neighbour → RouteView
@@ -56,7 +56,7 @@ with_way v from = record v { way = Some from; askers = less v.askers (place_of f
 
 -- only the first word of the way is taken
 abbrev pub after_here : RouteView → Neighbour → RouteView
-after_here v from = if knows_way v then v else with_way v from
+after_here v from = if is_way_known v then v else with_way v from
 
 -- the asker with the lowest place
 abbrev pub first_asker : RouteView → Option Neighbour
@@ -105,5 +105,5 @@ way_along v None = default_way v
 way_along v (Some over) = ways.Over over
 
 -- the way to an enclave
-abbrev pub way_to : RouteView → Enclave → Way
-way_to v dest = way_along v (at v.routes dest.0)
+abbrev pub way_toward : RouteView → Enclave → Way
+way_toward v dest = way_along v (at v.routes dest.0)

@@ -67,7 +67,7 @@ impl Routes {
     /// Answers whether the way to the name server is known. Where it isn't, the neighbour is remembered as an asker.
     /// For want of memory nothing changes.
     pub fn asked(&mut self, by: Neighbour) -> Result<bool, AllocError>
-        ensures known { IfOk result (λ known. known ≡ spec.knows_way self.old) }
+        ensures known { IfOk result (λ known. known ≡ spec.is_way_known self.old) }
         ensures after { OnOk result (self.new ≡ spec.after_asked self.old by) }
         ensures err { OnErr result (self.new ≡ self.old) }
     {
@@ -81,7 +81,7 @@ impl Routes {
     /// The neighbour tells that the name server lies over it. Answers true exactly where the way wasn't known. Then the
     /// way goes over that neighbour, which is no asker any more.
     pub fn here(&mut self, from: Neighbour) -> bool
-        ensures first { result ≡ not (spec.knows_way self.old) }
+        ensures first { result ≡ not (spec.is_way_known self.old) }
         ensures after { self.new ≡ spec.after_here self.old from }
     {
         if self.knows_way() {
@@ -144,7 +144,7 @@ impl Routes {
     /// The way to another enclave: its route, or else the way to the name server. The holder of the name server has no
     /// way without a route.
     pub fn way(&self, dest: Enclave) -> Way
-        ensures way { result ≡ spec.way_to self.now dest }
+        ensures way { result ≡ spec.way_toward self.now dest }
         ensures never_own { result ≢ Way.Own }
     {
         match self.routes.get(dest) {
@@ -173,7 +173,7 @@ impl Routes {
 
     // Whether the way to the name server is known.
     fn knows_way(&self) -> bool
-        ensures { result ≡ spec.knows_way self.now }
+        ensures { result ≡ spec.is_way_known self.now }
     {
         self.holder || self.way.is_some()
     }

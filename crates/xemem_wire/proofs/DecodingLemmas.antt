@@ -8,8 +8,8 @@ use Rattle.std.proofs.lemmas.List.{append-nil}
 use Rattle.xemem_language.specs.declared.record.Record.{Record}
 use Rattle.xemem_wire.specs.declared.format.BadField.{BadField}
 use Rattle.xemem_wire.specs.Faults.{fault_of}
-use Rattle.xemem_wire.specs.Stream.{after_records, reading_of, records_of, rest_of, moved, first_bad}
-use Rattle.xemem_wire.specs.Decoding.{Decoding, taken, after_piece}
+use Rattle.xemem_wire.specs.Stream.{records_onto, reading_of, records_of, rest_of, moved, first_bad}
+use Rattle.xemem_wire.specs.Decoding.{Decoding, with_bytes, after_piece}
 use Rattle.xemem_wire.proofs.FaultLemmas.{fault_of-append}
 use Rattle.xemem_wire.proofs.StreamLemmas.{option_cases, moved_twice, reading_of-none, reading_of-append, length-rest_of, fault_stops, first_bad-append}
 
@@ -24,7 +24,7 @@ unfolding first_bad
 reading_of-fault bytes more bad e =
     let found = some_moved (length bytes - length (rest_of bytes)) (fault_of (rest_of bytes)) bad e in
     reading_of-append bytes more
-    ∙ ap (after_records (records_of bytes)) (reading_of-none (rest_of bytes ++ more) (fault_stops (rest_of bytes) more found.0 found.1))
+    ∙ ap (records_onto (records_of bytes)) (reading_of-none (rest_of bytes ++ more) (fault_stops (rest_of bytes) more found.0 found.1))
     ∙ ap (λ rs. record { records = rs; rest = rest_of bytes ++ more }) (append-nil (records_of bytes))
 
 -- and the bad field stays the first one
@@ -55,17 +55,17 @@ stopped_at d bytes bad = record {
   bad = Some (moved d.before bad);
 }
 
-pub taken-fine : (d : Decoding) (bytes : List ℕ) → first_bad bytes ≡ None → taken d bytes ≡ going_on d bytes
+pub taken-fine : (d : Decoding) (bytes : List ℕ) → first_bad bytes ≡ None → with_bytes d bytes ≡ going_on d bytes
 taken-fine d bytes e = rw e refl
 
-pub taken-bad : (d : Decoding) (bytes : List ℕ) (bad : BadField) → first_bad bytes ≡ Some bad → taken d bytes ≡ stopped_at d bytes bad
+pub taken-bad : (d : Decoding) (bytes : List ℕ) (bad : BadField) → first_bad bytes ≡ Some bad → with_bytes d bytes ≡ stopped_at d bytes bad
 taken-bad d bytes bad e = rw e refl
 
 pub after_piece-stopped : (d : Decoding) (piece : List ℕ) → is_some d.bad ≡ true → after_piece d piece ≡ d
 unfolding after_piece
 after_piece-stopped d piece h = rw h refl
 
-pub after_piece-going : (d : Decoding) (piece : List ℕ) → is_some d.bad ≡ false → after_piece d piece ≡ taken d (d.rest ++ piece)
+pub after_piece-going : (d : Decoding) (piece : List ℕ) → is_some d.bad ≡ false → after_piece d piece ≡ with_bytes d (d.rest ++ piece)
 unfolding after_piece
 after_piece-going d piece h = rw h refl
 
@@ -86,10 +86,10 @@ kept_rest : (stopped stopped' : Bool) (rest rest' : List ℕ) → stopped ≡ st
 kept_rest a b rest rest' e f = ap (λ stopped. if stopped then [] else rest) e ∙ ap (λ xs. if b then [] else xs) f
 
 -- more bytes after bytes without a bad field
-taken-append : (d : Decoding) (bytes more : List ℕ) → taken (going_on d bytes) (rest_of bytes ++ more) ≡ taken d (bytes ++ more)
+taken-append : (d : Decoding) (bytes more : List ℕ) → with_bytes (going_on d bytes) (rest_of bytes ++ more) ≡ with_bytes d (bytes ++ more)
 taken-append d bytes more =
     let next : List ℕ = rest_of bytes ++ more in
-    let read : reading_of (bytes ++ more) ≡ after_records (records_of bytes) (reading_of next) = reading_of-append bytes more in
+    let read : reading_of (bytes ++ more) ≡ records_onto (records_of bytes) (reading_of next) = reading_of-append bytes more in
     let moves : ℕ = length bytes - length (rest_of bytes) in
     let bad : first_bad (bytes ++ more) ≡ option_map (moved moves) (first_bad next) = first_bad-append bytes more in
     let rest : rest_of (bytes ++ more) ≡ rest_of next = ap (λ reading. reading.rest) read in
@@ -100,7 +100,7 @@ taken-append d bytes more =
     (moved_twice (d.before + moves) d.before moves (first_bad next) refl ∙ sym (ap (option_map (moved d.before)) bad))
 
 -- more bytes after a bad field
-taken-same : (d : Decoding) (bytes more : List ℕ) (bad : BadField) → first_bad bytes ≡ Some bad → taken d (bytes ++ more) ≡ taken d bytes
+taken-same : (d : Decoding) (bytes more : List ℕ) (bad : BadField) → first_bad bytes ≡ Some bad → with_bytes d (bytes ++ more) ≡ with_bytes d bytes
 taken-same d bytes more bad e =
     let read = reading_of-fault bytes more bad e in
     let same : first_bad (bytes ++ more) ≡ first_bad bytes = first_bad-fault bytes more bad e ∙ sym e in
@@ -114,7 +114,7 @@ taken-same d bytes more bad e =
     (ap (option_map (moved d.before)) same)
 
 -- a decoder that goes on takes more as if it had come at once
-after_taken : (d : Decoding) (bytes ys : List ℕ) → after_piece (taken d bytes) ys ≡ taken d (bytes ++ ys)
+after_taken : (d : Decoding) (bytes ys : List ℕ) → after_piece (with_bytes d bytes) ys ≡ with_bytes d (bytes ++ ys)
 after_taken d bytes ys =
     option_cases (first_bad bytes)
     (λ fine.
@@ -133,7 +133,7 @@ after_piece-append d xs ys =
           ∙ sym (after_piece-stopped d (xs ++ ys) t)
       | inr f ↦
           ap (λ e. after_piece e ys) (after_piece-going d xs f) ∙ after_taken d (d.rest ++ xs) ys
-          ∙ ap (taken d) (append_assoc d.rest xs ys) ∙ sym (after_piece-going d (xs ++ ys) f)
+          ∙ ap (with_bytes d) (append_assoc d.rest xs ys) ∙ sym (after_piece-going d (xs ++ ys) f)
     ]
 
 -- no more bytes are counted than have come

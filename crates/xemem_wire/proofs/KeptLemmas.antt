@@ -9,9 +9,9 @@ use Rattle.xemem_wire.specs.declared.format.BadField.{BadField}
 use Rattle.xemem_wire.specs.Table.{u32_at}
 use Rattle.xemem_wire.specs.Spelling.{spelling_of, spellings_of}
 use Rattle.xemem_wire.specs.Faults.{first_failed, fault_of}
-use Rattle.xemem_wire.specs.Stream.{record_at, front_record, Reading, onto, after_records, nothing_read, reading_of, records_of, rest_of, moved, first_bad}
+use Rattle.xemem_wire.specs.Stream.{record_at, front_record, Reading, record_onto, records_onto, nothing_read, reading_of, records_of, rest_of, moved, first_bad}
 use Rattle.xemem_wire.specs.Decoding.{Decoding, nothing_taken, after_piece}
-use Rattle.xemem_wire.specs.Kept.{decoded, IsKept, Takes}
+use Rattle.xemem_wire.specs.Kept.{decoded, KeepsBytes, Takes}
 use Rattle.xemem_wire.proofs.SpellingLemmas.{IsBytes, u32_at-spelling_of, told_length}
 use Rattle.xemem_wire.proofs.StreamLemmas.{option_cases, Begins, front_record_begins, front_record_short, reading_of-none, reading_of-some, reading_of-spellings, reading_of-append, Splits, splits, length-rest_of, front_record-is, whole_found}
 use Rattle.xemem_wire.proofs.DecodingLemmas.{decoding_equal, taken-fine, taken-bad, stopped_at, after_piece-going}
@@ -19,7 +19,7 @@ use Rattle.xemem_wire.proofs.DecodingLemmas.{decoding_equal, taken-fine, taken-b
 pub reading_of-empty : reading_of [] ≡ nothing_read []
 reading_of-empty = reading_of-none [] (front_record_short [] (omega arith))
 
-kept_empty : IsKept [] 0 0 None
+kept_empty : KeepsBytes [] 0 0 None
 unfolding fault_of first_failed
 kept_empty = record {
   order = omega arith;
@@ -30,8 +30,8 @@ kept_empty = record {
 }
 
 -- a new decoder
-pub kept_nothing : (bytes : List ℕ) → bytes ≡ [] → IsKept bytes 0 0 None
-kept_nothing bytes e = subst (λ (xs : List ℕ). IsKept xs 0 0 None) (sym e) kept_empty
+pub kept_nothing : (bytes : List ℕ) → bytes ≡ [] → KeepsBytes bytes 0 0 None
+kept_nothing bytes e = subst (λ (xs : List ℕ). KeepsBytes xs 0 0 None) (sym e) kept_empty
 
 pub decoded_nothing : (bytes : List ℕ) → bytes ≡ [] → decoded (drop 0 bytes) 0 None ≡ nothing_taken
 decoded_nothing bytes e =
@@ -49,21 +49,21 @@ rest_short rest h fine none =
     ]
 
 -- such bytes are the rest that a decoder keeps
-pub kept_stops : (bytes : List ℕ) (given whole : ℕ) (bad : Option BadField) → IsKept bytes given whole bad → front_record (take (length bytes - whole) (drop whole bytes)) ≡ None
+pub kept_stops : (bytes : List ℕ) (given whole : ℕ) (bad : Option BadField) → KeepsBytes bytes given whole bad → front_record (take (length bytes - whole) (drop whole bytes)) ≡ None
 kept_stops bytes given whole bad k =
     rw take_rest (subst (λ (xs : List ℕ). front_record xs ≡ None) k.rest (splits (drop given bytes)).stops)
 
-pub kept_fine : (bytes : List ℕ) (given whole : ℕ) (bad : Option BadField) → IsKept bytes given whole bad → fault_of (take (length bytes - whole) (drop whole bytes)) ≡ None
+pub kept_fine : (bytes : List ℕ) (given whole : ℕ) (bad : Option BadField) → KeepsBytes bytes given whole bad → fault_of (take (length bytes - whole) (drop whole bytes)) ≡ None
 kept_fine bytes given whole bad k = rw take_rest k.fine
 
 -- the next record, and its length
 pub record GivesNext (bytes : List ℕ) (given whole n : ℕ) (bad : Option BadField) : Type 0 where
   pub long : given + 16 ≤ length bytes
-  pub kept : IsKept bytes (given + n) whole bad
+  pub kept : KeepsBytes bytes (given + n) whole bad
   pub records : records_of (drop given bytes) ≡ record_at (drop given bytes) ∷ records_of (drop (given + n) bytes)
   pub rest : rest_of (drop given bytes) ≡ rest_of (drop (given + n) bytes)
 
-pub gives_next : (bytes : List ℕ) (given whole n : ℕ) (bad : Option BadField) → IsKept bytes given whole bad → given < whole → n ≡ u32_at (drop given bytes) 0 → GivesNext bytes given whole n bad
+pub gives_next : (bytes : List ℕ) (given whole n : ℕ) (bad : Option BadField) → KeepsBytes bytes given whole bad → given < whole → n ≡ u32_at (drop given bytes) 0 → GivesNext bytes given whole n bad
 gives_next bytes given whole n bad k lt told =
     let front : List ℕ = drop given bytes in
     option_cases (front_record front)
@@ -75,9 +75,9 @@ gives_next bytes given whole n bad k lt told =
     let is_it : record_at front ≡ r = front_record-is front r found in
     let length_is : length (spelling_of r) ≡ n
     = sym (told ∙ ap (λ xs. u32_at xs 0) b.spelled ∙ u32_at-spelling_of r (drop (length (spelling_of r)) front)) in
-    let read : reading_of front ≡ onto r (reading_of (drop (given + n) bytes))
-    = reading_of-some front r found ∙ ap (λ m. onto r (reading_of (drop m front))) length_is
-    ∙ ap (λ xs. onto r (reading_of xs)) (drop-drop n given bytes) in
+    let read : reading_of front ≡ record_onto r (reading_of (drop (given + n) bytes))
+    = reading_of-some front r found ∙ ap (λ m. record_onto r (reading_of (drop m front))) length_is
+    ∙ ap (λ xs. record_onto r (reading_of xs)) (drop-drop n given bytes) in
     let rest : rest_of front ≡ rest_of (drop (given + n) bytes) = ap (λ reading. reading.rest) read in
     let shorter : length (rest_of (drop (given + n) bytes)) ≤ length (drop (given + n) bytes)
     = omega (arith, length-rest_of (drop (given + n) bytes)) in
@@ -101,10 +101,10 @@ record Joins (bytes piece : List ℕ) (given whole start : ℕ) : Type 0 where
   all : drop given (bytes ++ piece) ≡ drop given bytes ++ piece
   next : drop whole (bytes ++ piece) ≡ rest_of (drop given bytes) ++ piece
   rest : rest_of (rest_of (drop given bytes) ++ piece) ≡ drop start (bytes ++ piece)
-  read : reading_of (drop given bytes ++ piece) ≡ after_records (records_of (drop given bytes)) (reading_of (rest_of (drop given bytes) ++ piece))
+  read : reading_of (drop given bytes ++ piece) ≡ records_onto (records_of (drop given bytes)) (reading_of (rest_of (drop given bytes) ++ piece))
   moves : length (rest_of (drop given bytes) ++ piece) - length (rest_of (rest_of (drop given bytes) ++ piece)) ≡ start - whole
 
-joins : (bytes piece : List ℕ) (given whole start : ℕ) → IsKept bytes given whole None → IsFed bytes piece given whole start → Joins bytes piece given whole start
+joins : (bytes piece : List ℕ) (given whole start : ℕ) → KeepsBytes bytes given whole None → IsFed bytes piece given whole start → Joins bytes piece given whole start
 joins bytes piece given whole start k f =
     let inside : given ≤ length bytes = omega (arith, k.order, k.within) in
     let next : drop whole (bytes ++ piece) ≡ rest_of (drop given bytes) ++ piece
@@ -125,7 +125,7 @@ joined_bad bytes piece given whole start j =
     ap (λ n. option_map (moved n) (fault_of (rest_of (rest_of (drop given bytes) ++ piece)))) j.moves
     ∙ ap (λ xs. option_map (moved (start - whole)) (fault_of xs)) j.rest
 
-pub fed_kept : (bytes piece : List ℕ) (given whole start : ℕ) → IsKept bytes given whole None → IsFed bytes piece given whole start → fault_of (drop start (bytes ++ piece)) ≡ None → IsKept (bytes ++ piece) given start None
+pub fed_kept : (bytes piece : List ℕ) (given whole start : ℕ) → KeepsBytes bytes given whole None → IsFed bytes piece given whole start → fault_of (drop start (bytes ++ piece)) ≡ None → KeepsBytes (bytes ++ piece) given start None
 fed_kept bytes piece given whole start k f fine =
     let j : Joins bytes piece given whole start = joins bytes piece given whole start k f in
     record {
@@ -136,19 +136,19 @@ fed_kept bytes piece given whole start k f fine =
       stopped = λ h. absurd (false≢true h);
     }
 
-pub fed_decoded : (bytes piece : List ℕ) (given whole start before : ℕ) → IsKept bytes given whole None → IsFed bytes piece given whole start → fault_of (drop start (bytes ++ piece)) ≡ None → decoded (drop given (bytes ++ piece)) (before + (start - whole)) None ≡ after_piece (decoded (drop given bytes) before None) piece
+pub fed_decoded : (bytes piece : List ℕ) (given whole start before : ℕ) → KeepsBytes bytes given whole None → IsFed bytes piece given whole start → fault_of (drop start (bytes ++ piece)) ≡ None → decoded (drop given (bytes ++ piece)) (before + (start - whole)) None ≡ after_piece (decoded (drop given bytes) before None) piece
 fed_decoded bytes piece given whole start before k f fine =
     let j : Joins bytes piece given whole start = joins bytes piece given whole start k f in
     let old : Decoding = decoded (drop given bytes) before None in
     let next : List ℕ = rest_of (drop given bytes) ++ piece in
     let none : first_bad next ≡ None = joined_bad bytes piece given whole start j ∙ ap (option_map (moved (start - whole))) fine in
-    let read : reading_of (drop given (bytes ++ piece)) ≡ after_records (records_of (drop given bytes)) (reading_of next) = ap reading_of j.all ∙ j.read in
+    let read : reading_of (drop given (bytes ++ piece)) ≡ records_onto (records_of (drop given bytes)) (reading_of next) = ap reading_of j.all ∙ j.read in
     ap (λ reading. let d : Decoding = record { records = reading.records; rest = reading.rest; before = before + (start - whole); bad = None } in d) read
     ∙ ap (λ n. let d : Decoding = record { records = records_of (drop given bytes) ++ records_of next; rest = rest_of next; before = before + n; bad = None } in d) (sym j.moves)
     ∙ sym (taken-fine old next none) ∙ sym (after_piece-going old piece refl)
 
 -- the bytes before the rest are the whole records
-fed_records : (bytes piece : List ℕ) (given whole start : ℕ) → IsKept bytes given whole None → IsFed bytes piece given whole start → reading_of (drop given (take start (bytes ++ piece))) ≡ record { records = records_of (drop given bytes ++ piece); rest = [] }
+fed_records : (bytes piece : List ℕ) (given whole start : ℕ) → KeepsBytes bytes given whole None → IsFed bytes piece given whole start → reading_of (drop given (take start (bytes ++ piece))) ≡ record { records = records_of (drop given bytes ++ piece); rest = [] }
 fed_records bytes piece given whole start k f =
     let j : Joins bytes piece given whole start = joins bytes piece given whole start k f in
     let u : List ℕ = drop given bytes ++ piece in
@@ -165,10 +165,10 @@ fed_records bytes piece given whole start k f =
     ∙ take_at (spellings_of (records_of u)) (rest_of u) (start - given) long in
     ap reading_of (front ∙ sym (append-nil (spellings_of (records_of u))))
     ∙ reading_of-spellings (records_of u) [] s.valid
-    ∙ ap (after_records (records_of u)) reading_of-empty
+    ∙ ap (records_onto (records_of u)) reading_of-empty
     ∙ ap (λ xs. let reading : Reading = record { records = xs; rest = [] } in reading) (append-nil (records_of u))
 
-pub stopped_kept : (bytes piece : List ℕ) (given whole start : ℕ) (bad : Option BadField) → IsKept bytes given whole None → IsFed bytes piece given whole start → IsKept (take start (bytes ++ piece)) given start bad
+pub stopped_kept : (bytes piece : List ℕ) (given whole start : ℕ) (bad : Option BadField) → KeepsBytes bytes given whole None → IsFed bytes piece given whole start → KeepsBytes (take start (bytes ++ piece)) given start bad
 unfolding fault_of first_failed
 stopped_kept bytes piece given whole start bad k f =
     let long : length (take start (bytes ++ piece)) ≡ start = length-take-le start (bytes ++ piece) f.within in
@@ -181,7 +181,7 @@ stopped_kept bytes piece given whole start bad k f =
       stopped = λ h. sym long;
     }
 
-pub stopped_decoded : (bytes piece : List ℕ) (given whole start before : ℕ) (bad : BadField) → IsKept bytes given whole None → IsFed bytes piece given whole start → fault_of (drop start (bytes ++ piece)) ≡ Some bad
+pub stopped_decoded : (bytes piece : List ℕ) (given whole start before : ℕ) (bad : BadField) → KeepsBytes bytes given whole None → IsFed bytes piece given whole start → fault_of (drop start (bytes ++ piece)) ≡ Some bad
     → decoded (drop given (take start (bytes ++ piece))) (before + (start - whole)) (Some (record { fault = bad.fault; place = before + (start - whole) + bad.place })) ≡ after_piece (decoded (drop given bytes) before None) piece
 stopped_decoded bytes piece given whole start before bad k f found =
     let j : Joins bytes piece given whole start = joins bytes piece given whole start k f in
@@ -199,7 +199,7 @@ stopped_decoded bytes piece given whole start before bad k f found =
     ∙ sym (taken-bad old next (moved n bad) first) ∙ sym (after_piece-going old piece refl)
 
 -- nothing is left to give
-pub kept_done : (bytes : List ℕ) (given whole : ℕ) (bad : Option BadField) → IsKept bytes given whole bad → given ≡ whole → records_of (drop given bytes) ≡ []
+pub kept_done : (bytes : List ℕ) (given whole : ℕ) (bad : Option BadField) → KeepsBytes bytes given whole bad → given ≡ whole → records_of (drop given bytes) ≡ []
 kept_done bytes given whole bad k e =
     let stops : front_record (drop whole bytes) ≡ None
     = subst (λ (xs : List ℕ). front_record xs ≡ None) k.rest (splits (drop given bytes)).stops in
@@ -219,10 +219,10 @@ given_next bytes given whole before n bad now g view =
 
 -- after a piece without a bad field
 pub record Goes (bytes piece new : List ℕ) (given whole start before : ℕ) (bad : Option BadField) : Type 0 where
-  pub kept : IsKept new given start bad
+  pub kept : KeepsBytes new given start bad
   pub view : decoded (drop given new) (before + (start - whole)) bad ≡ after_piece (decoded (drop given bytes) before bad) piece
 
-pub goes : (bytes piece new : List ℕ) (given whole start before : ℕ) (old bad : Option BadField) → old ≡ None → bad ≡ None → IsKept bytes given whole old → Takes bytes piece new whole start bad → Goes bytes piece new given whole start before old
+pub goes : (bytes piece new : List ℕ) (given whole start before : ℕ) (old bad : Option BadField) → old ≡ None → bad ≡ None → KeepsBytes bytes given whole old → Takes bytes piece new whole start bad → Goes bytes piece new given whole start before old
 goes bytes piece new given whole start before (Some b) bad e n k t = absurd (none-some b (sym e))
 goes bytes piece new given whole start before None bad e n k t =
     let f : IsFed bytes piece given whole start = record { order = t.order; within = t.within; rest = t.rest } in
@@ -230,17 +230,17 @@ goes bytes piece new given whole start before None bad e n k t =
     = sym (t.new_is ∙ ap (λ b. if is_some b then take start (bytes ++ piece) else (bytes ++ piece)) n) in
     let fine : fault_of (drop start (bytes ++ piece)) ≡ None = sym t.bad_is ∙ n in
     record {
-      kept = subst (λ (xs : List ℕ). IsKept xs given start None) same (fed_kept bytes piece given whole start k f fine);
+      kept = subst (λ (xs : List ℕ). KeepsBytes xs given start None) same (fed_kept bytes piece given whole start k f fine);
       view = ap (λ xs. decoded (drop given xs) (before + (start - whole)) None) (sym same)
           ∙ fed_decoded bytes piece given whole start before k f fine;
     }
 
 -- after a piece with a bad field
 pub record Stops (bytes piece new : List ℕ) (given whole start before : ℕ) (old : Option BadField) (bad : BadField) : Type 0 where
-  pub kept : IsKept new given start (Some bad)
+  pub kept : KeepsBytes new given start (Some bad)
   pub view : decoded (drop given new) (before + (start - whole)) (Some bad) ≡ after_piece (decoded (drop given bytes) before old) piece
 
-pub stops_at : (bytes piece new : List ℕ) (given whole start before : ℕ) (old found : Option BadField) (bad : BadField) → old ≡ None → found ≡ Some bad → IsKept bytes given whole old → Takes bytes piece new whole start found → Stops bytes piece new given whole start before old (record { fault = bad.fault; place = before + (start - whole) + bad.place })
+pub stops_at : (bytes piece new : List ℕ) (given whole start before : ℕ) (old found : Option BadField) (bad : BadField) → old ≡ None → found ≡ Some bad → KeepsBytes bytes given whole old → Takes bytes piece new whole start found → Stops bytes piece new given whole start before old (record { fault = bad.fault; place = before + (start - whole) + bad.place })
 stops_at bytes piece new given whole start before (Some b) found bad e n k t = absurd (none-some b (sym e))
 stops_at bytes piece new given whole start before None found bad e n k t =
     let f : IsFed bytes piece given whole start = record { order = t.order; within = t.within; rest = t.rest } in
@@ -249,7 +249,7 @@ stops_at bytes piece new given whole start before None found bad e n k t =
     let faulty : fault_of (drop start (bytes ++ piece)) ≡ Some bad = sym t.bad_is ∙ n in
     let moved_bad : BadField = record { fault = bad.fault; place = before + (start - whole) + bad.place } in
     record {
-      kept = subst (λ (xs : List ℕ). IsKept xs given start (Some moved_bad)) same (stopped_kept bytes piece given whole start (Some moved_bad) k f);
+      kept = subst (λ (xs : List ℕ). KeepsBytes xs given start (Some moved_bad)) same (stopped_kept bytes piece given whole start (Some moved_bad) k f);
       view = ap (λ xs. decoded (drop given xs) (before + (start - whole)) (Some moved_bad)) (sym same)
           ∙ stopped_decoded bytes piece given whole start before bad k f faulty;
     }

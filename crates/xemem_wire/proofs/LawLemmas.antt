@@ -9,8 +9,8 @@ use Rattle.xemem_language.specs.declared.record.Record.{Record}
 use Rattle.xemem_wire.specs.declared.format.BadField.{BadField}
 use Rattle.xemem_wire.specs.Spelling.{spelling_of, spellings_of, is_valid, AreValid}
 use Rattle.xemem_wire.specs.Faults.{first_failed, fault_of}
-use Rattle.xemem_wire.specs.Stream.{front_record, after_records, nothing_read, reading_of, records_of, rest_of, moved, first_bad, IsSplit}
-use Rattle.xemem_wire.specs.Decoding.{nothing_taken, taken, after_piece, from_the_start}
+use Rattle.xemem_wire.specs.Stream.{front_record, records_onto, nothing_read, reading_of, records_of, rest_of, moved, first_bad, IsSplit}
+use Rattle.xemem_wire.specs.Decoding.{nothing_taken, with_bytes, after_piece, from_the_start}
 use Rattle.xemem_wire.proofs.StreamLemmas.{option_cases, moved_twice, front_record-spelling_of, Begins, front_record_begins, Splits, splits, reading_of-append, reading_of-splits, reading_of-spellings, reading_of-take, fault_of-take, length-rest_of}
 use Rattle.xemem_wire.proofs.DecodingLemmas.{first_bad-fault, decoding_equal, after_piece-going, after_piece-append}
 use Rattle.xemem_wire.proofs.KeptLemmas.{reading_of-empty}
@@ -52,9 +52,9 @@ first_bad-spellings rs more h =
     ap (λ xs. option_map (moved (length (spellings_of rs ++ more) - length xs)) (fault_of xs)) rest
     ∙ moved_twice (length (spellings_of rs ++ more) - length (rest_of more)) (length (spellings_of rs)) (length more - length (rest_of more)) (fault_of (rest_of more)) place
 
-pub reading_of-cut : (rs : List Record) (r : Record) (n : ℕ) → AreValid rs → is_valid r ≡ true → n < length (spelling_of r) → reading_of (spellings_of rs ++ take n (spelling_of r)) ≡ after_records rs (nothing_read (take n (spelling_of r)))
+pub reading_of-cut : (rs : List Record) (r : Record) (n : ℕ) → AreValid rs → is_valid r ≡ true → n < length (spelling_of r) → reading_of (spellings_of rs ++ take n (spelling_of r)) ≡ records_onto rs (nothing_read (take n (spelling_of r)))
 reading_of-cut rs r n h k short =
-    reading_of-spellings rs (take n (spelling_of r)) h ∙ ap (after_records rs) (reading_of-take r n k short)
+    reading_of-spellings rs (take n (spelling_of r)) h ∙ ap (records_onto rs) (reading_of-take r n k short)
 
 first_bad-take : (r : Record) (n : ℕ) → is_valid r ≡ true → n < length (spelling_of r) → first_bad (take n (spelling_of r)) ≡ None
 unfolding first_bad
@@ -92,7 +92,7 @@ pub records_of-front : (rs : List Record) (bytes more : List ℕ) → AreValid r
 records_of-front rs bytes more h e =
     let left : List ℕ = rest_of bytes ++ more in
     let read = sym (reading_of-append bytes more) ∙ ap reading_of (e ∙ sym (append-nil (spellings_of rs)))
-    ∙ reading_of-spellings rs [] h ∙ ap (after_records rs) reading_of-empty in
+    ∙ reading_of-spellings rs [] h ∙ ap (records_onto rs) reading_of-empty in
     let none : rest_of left ≡ [] = ap (λ reading. reading.rest) read in (
       records_of left,
       sym (ap (λ reading. reading.records) read ∙ append-nil rs),
@@ -107,7 +107,7 @@ moved_none (Some bad) = ap (λ place. Some (record { fault = bad.fault; place = 
 after_piece-nothing_taken : (bytes : List ℕ) → after_piece nothing_taken bytes ≡ from_the_start bytes
 after_piece-nothing_taken bytes =
     after_piece-going nothing_taken bytes refl
-    ∙ decoding_equal (taken nothing_taken bytes) (from_the_start bytes) refl refl (omega arith) (moved_none (first_bad bytes))
+    ∙ decoding_equal (with_bytes nothing_taken bytes) (from_the_start bytes) refl refl (omega arith) (moved_none (first_bad bytes))
 
 from_nothing : from_the_start [] ≡ nothing_taken
 from_nothing =

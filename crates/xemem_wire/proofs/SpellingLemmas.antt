@@ -9,7 +9,7 @@ use Rattle.xm_num.specs.declared.Enclave.{Enclave}
 use Rattle.xemem_language.specs.declared.record.Record.{Record}
 use Rattle.xemem_language.specs.declared.record.Body.{Body}
 use Rattle.xemem_language.specs.declared.record.Body.TheVariants as bodies
-use Rattle.xemem_wire.specs.Table.{kind_of, is_built, body_of, is_enclave, has_call, is_undirected, is_destination, is_call, u32_at}
+use Rattle.xemem_wire.specs.Table.{kind_of, is_kind_built, body_of, is_enclave, has_call, is_undirected, is_destination, is_call, u32_at}
 use Rattle.xemem_language.specs.Destinations.{destination_of, destination_number}
 use Rattle.xemem_wire.specs.Spelling.{header_of, spelling_of, is_valid}
 use Rattle.xemem_wire.specs.Faults.{checks, fault_of}
@@ -40,7 +40,7 @@ number_32 : (n : ℕ) → n < 2 ^ 32 → n % 256 + n / 256 % 256 * 256 + (n / 65
 number_32 n h = omega arith
 
 -- so do the body and the destination
-body_of-kind_of : (body : Body) → is_built (kind_of body) ≡ true → body_of (kind_of body) ≡ body
+body_of-kind_of : (body : Body) → is_kind_built (kind_of body) ≡ true → body_of (kind_of body) ≡ body
 body_of-kind_of bodies.Query h = refl
 body_of-kind_of bodies.Here h = refl
 body_of-kind_of bodies.Register h = refl
@@ -67,7 +67,7 @@ call_small kind call h =
 
 -- the parts of validity
 record Valid (r : Record) : Type 0 where
-  built : is_built (kind_of r.body) ≡ true
+  built : is_kind_built (kind_of r.body) ≡ true
   origin : is_enclave r.origin.0 ≡ true
   dest : is_destination (kind_of r.body) r.dest ≡ true
   call : is_call (kind_of r.body) r.call ≡ true
@@ -135,7 +135,7 @@ fault_of-spelling_of r more h =
 abbrev pub IsBytes : List ℕ → Type 0
 IsBytes bytes = (i : ℕ) → get_or bytes i 0 < 256
 
-kind_of-body_of : (kind : ℕ) → is_built kind ≡ true → kind_of (body_of kind) ≡ kind
+kind_of-body_of : (kind : ℕ) → is_kind_built kind ≡ true → kind_of (body_of kind) ≡ kind
 kind_of-body_of kind h =
     let parts = and_parts _ _ h in
     let low : 1 ≤ kind = leb-true 1 kind parts.0 in
@@ -161,7 +161,7 @@ whole_header : (bytes : List ℕ) → IsBytes bytes → 16 ≤ length bytes → 
 unfolding spelling_of header_of fault_of record_at is_valid
 whole_header (x0 ∷ x1 ∷ x2 ∷ x3 ∷ x4 ∷ x5 ∷ x6 ∷ x7 ∷ x8 ∷ x9 ∷ x10 ∷ x11 ∷ x12 ∷ x13 ∷ x14 ∷ x15 ∷ more) h n e =
     let m = met-first_failed checks (x0 ∷ x1 ∷ x2 ∷ x3 ∷ x4 ∷ x5 ∷ x6 ∷ x7 ∷ x8 ∷ x9 ∷ x10 ∷ x11 ∷ x12 ∷ x13 ∷ x14 ∷ x15 ∷ more) e in
-    let built : is_built x5 ≡ true = m.1.1.0 (omega arith) in
+    let built : is_kind_built x5 ≡ true = m.1.1.0 (omega arith) in
     let kind : kind_of (body_of x5) ≡ x5 = kind_of-body_of x5 built in
     let origin : is_enclave (x6 + x7 * 256) ≡ true = m.1.1.1.1.0 (omega arith) in
     let dest : is_destination x5 (destination_of (x8 + x9 * 256)) ≡ true = m.1.1.1.1.1.0 (omega arith) in

@@ -12,7 +12,7 @@ use Rattle.xemem_language.specs.declared.record.Record.{Record}
 use Rattle.xemem_wire.specs.declared.format.BadField.{BadField}
 use Rattle.xemem_wire.specs.Spelling.{spelling_of, is_valid, AreValid, spellings_of}
 use Rattle.xemem_wire.specs.Faults.{fault_of}
-use Rattle.xemem_wire.specs.Stream.{record_at, front_record, Reading, onto, after_records, nothing_read, reading_within, reading_of, records_of, rest_of, moved, first_bad}
+use Rattle.xemem_wire.specs.Stream.{record_at, front_record, Reading, record_onto, records_onto, nothing_read, reading_within, reading_of, records_of, rest_of, moved, first_bad}
 use Rattle.xemem_wire.proofs.FaultLemmas.{fault_of-append}
 use Rattle.xemem_wire.proofs.SpellingLemmas.{spelling_long, record_at-spelling_of, fault_of-spelling_of, u32_at-spelling_of, IsBytes, IsWhole, is_whole}
 use Rattle.xemem_wire.specs.Table.{u32_at}
@@ -78,7 +78,7 @@ unfolding reading_within
 reading_within-none zero bytes e = refl
 reading_within-none (suc n) bytes e = rw e refl
 
-reading_within-some : (n : ℕ) (bytes : List ℕ) (r : Record) → front_record bytes ≡ Some r → reading_within (suc n) bytes ≡ onto r (reading_within n (drop (length (spelling_of r)) bytes))
+reading_within-some : (n : ℕ) (bytes : List ℕ) (r : Record) → front_record bytes ≡ Some r → reading_within (suc n) bytes ≡ record_onto r (reading_within n (drop (length (spelling_of r)) bytes))
 unfolding reading_within
 reading_within-some n bytes r e = rw e refl
 
@@ -97,14 +97,14 @@ reading_within_enough (suc n) (suc m) bytes h k =
     let shorter : length (drop (length (spelling_of r)) bytes) + 16 ≤ length bytes
     = omega (arith, length-drop (length (spelling_of r)) bytes, spelling_long r, b.fits) in
     reading_within-some n bytes r e
-    ∙ ap (onto r) (reading_within_enough n m (drop (length (spelling_of r)) bytes) (omega arith) (omega arith))
+    ∙ ap (record_onto r) (reading_within_enough n m (drop (length (spelling_of r)) bytes) (omega arith) (omega arith))
     ∙ sym (reading_within-some m bytes r e))
 
 pub reading_of-none : (bytes : List ℕ) → front_record bytes ≡ None → reading_of bytes ≡ nothing_read bytes
 unfolding reading_of
 reading_of-none bytes e = reading_within-none (length bytes) bytes e
 
-pub reading_of-some : (bytes : List ℕ) (r : Record) → front_record bytes ≡ Some r → reading_of bytes ≡ onto r (reading_of (drop (length (spelling_of r)) bytes))
+pub reading_of-some : (bytes : List ℕ) (r : Record) → front_record bytes ≡ Some r → reading_of bytes ≡ record_onto r (reading_of (drop (length (spelling_of r)) bytes))
 unfolding reading_of
 reading_of-some bytes r e =
     let b : Begins bytes r = front_record_begins bytes r e in
@@ -112,20 +112,20 @@ reading_of-some bytes r e =
     = omega (arith, length-drop (length (spelling_of r)) bytes, spelling_long r, b.fits) in
     let one : length bytes ≡ suc (length bytes - 1) = omega arith in
     ap (λ n. reading_within n bytes) one ∙ reading_within-some (length bytes - 1) bytes r e
-    ∙ ap (onto r) (reading_within_enough (length bytes - 1) (length (drop (length (spelling_of r)) bytes)) (drop (length (spelling_of r)) bytes) (omega arith) (omega arith))
+    ∙ ap (record_onto r) (reading_within_enough (length bytes - 1) (length (drop (length (spelling_of r)) bytes)) (drop (length (spelling_of r)) bytes) (omega arith) (omega arith))
 
 -- a valid record is read first, and then what follows
-pub reading_of-spelling_of : (r : Record) (more : List ℕ) → is_valid r ≡ true → reading_of (spelling_of r ++ more) ≡ onto r (reading_of more)
+pub reading_of-spelling_of : (r : Record) (more : List ℕ) → is_valid r ≡ true → reading_of (spelling_of r ++ more) ≡ record_onto r (reading_of more)
 reading_of-spelling_of r more h =
     reading_of-some (spelling_of r ++ more) r (front_record-spelling_of r more h)
-    ∙ ap (λ bytes. onto r (reading_of bytes)) (drop_at (spelling_of r) more (length (spelling_of r)) refl)
+    ∙ ap (λ bytes. record_onto r (reading_of bytes)) (drop_at (spelling_of r) more (length (spelling_of r)) refl)
 
-pub reading_of-spellings : (rs : List Record) (more : List ℕ) → AreValid rs → reading_of (spellings_of rs ++ more) ≡ after_records rs (reading_of more)
+pub reading_of-spellings : (rs : List Record) (more : List ℕ) → AreValid rs → reading_of (spellings_of rs ++ more) ≡ records_onto rs (reading_of more)
 reading_of-spellings [] more h = refl
 reading_of-spellings (r ∷ rs) more h =
     ap reading_of (append_assoc (spelling_of r) (spellings_of rs) more)
     ∙ reading_of-spelling_of r (spellings_of rs ++ more) h.0
-    ∙ ap (onto r) (reading_of-spellings rs more h.1)
+    ∙ ap (record_onto r) (reading_of-spellings rs more h.1)
 
 -- the stream is its whole records and the rest, which begins with no record
 pub record Splits (bytes : List ℕ) (rs : List Record) (rest : List ℕ) : Type 0 where
@@ -150,7 +150,7 @@ splits_within (suc n) bytes h =
     let shorter : length later + 16 ≤ length bytes
     = omega (arith, length-drop (length (spelling_of r)) bytes, spelling_long r, b.fits) in
     let s : Splits later (records_of later) (rest_of later) = splits_within n later (omega arith) in
-    split_by bytes (onto r (reading_of later)) (reading_of-some bytes r e)
+    split_by bytes (record_onto r (reading_of later)) (reading_of-some bytes r e)
     (record {
       whole = b.spelled ∙ ap (λ xs. spelling_of r ++ xs) s.whole
           ∙ sym (append_assoc (spelling_of r) (spellings_of (records_of later)) (rest_of later));
@@ -164,7 +164,7 @@ splits bytes = splits_within (length bytes) bytes (omega arith)
 -- and it is so in one way only
 pub reading_of-splits : (bytes : List ℕ) (rs : List Record) (rest : List ℕ) → Splits bytes rs rest → reading_of bytes ≡ record { records = rs; rest = rest }
 reading_of-splits bytes rs rest s =
-    ap reading_of s.whole ∙ reading_of-spellings rs rest s.valid ∙ ap (after_records rs) (reading_of-none rest s.stops)
+    ap reading_of s.whole ∙ reading_of-spellings rs rest s.valid ∙ ap (records_onto rs) (reading_of-none rest s.stops)
     ∙ ap (λ xs. record { records = xs; rest = rest }) (append-nil rs)
 
 pub length-rest_of : (bytes : List ℕ) → length (spellings_of (records_of bytes)) + length (rest_of bytes) ≡ length bytes
@@ -172,7 +172,7 @@ length-rest_of bytes =
     sym (ap length (splits bytes).whole ∙ length-append (spellings_of (records_of bytes)) (rest_of bytes))
 
 -- what more bytes give
-pub reading_of-append : (bytes more : List ℕ) → reading_of (bytes ++ more) ≡ after_records (records_of bytes) (reading_of (rest_of bytes ++ more))
+pub reading_of-append : (bytes more : List ℕ) → reading_of (bytes ++ more) ≡ records_onto (records_of bytes) (reading_of (rest_of bytes ++ more))
 reading_of-append bytes more =
     let s : Splits bytes (records_of bytes) (rest_of bytes) = splits bytes in
     ap (λ xs. reading_of (xs ++ more)) s.whole

@@ -19,8 +19,8 @@ abbrev pub nothing_taken : Decoding
 nothing_taken = record { records = []; rest = []; before = 0; bad = None }
 
 -- the next bytes are taken; at a bad field the bytes after the last whole record go
-abbrev pub taken : Decoding → List ℕ → Decoding
-taken d bytes = record {
+abbrev pub with_bytes : Decoding → List ℕ → Decoding
+with_bytes d bytes = record {
   records = d.records ++ records_of bytes;
   rest = if is_some (first_bad bytes) then [] else rest_of bytes;
   before = d.before + (length bytes - length (rest_of bytes));
@@ -29,7 +29,7 @@ taken d bytes = record {
 
 -- the stream goes on with this piece; after a bad field nothing more is taken
 unfoldable pub after_piece : Decoding → List ℕ → Decoding
-after_piece d piece = if is_some d.bad then d else taken d (d.rest ++ piece)
+after_piece d piece = if is_some d.bad then d else with_bytes d (d.rest ++ piece)
 
 -- what a decoder has of a whole stream, before it gave any record
 abbrev pub from_the_start : List ℕ → Decoding

@@ -3,7 +3,7 @@ use Rattle.std.specs.Prelude.{ℕ, ◌==◌, ◌&&◌, not, nat_le, Bool, Option
 use Rattle.xemem_wire.specs.declared.format.WireFault.{WireFault}
 use Rattle.xemem_wire.specs.declared.format.WireFault.TheVariants as faults
 use Rattle.xemem_wire.specs.declared.format.BadField.{BadField}
-use Rattle.xemem_wire.specs.Table.{is_built, is_length, is_enclave, is_destination, is_call, u8_at, u16_at, u32_at}
+use Rattle.xemem_wire.specs.Table.{is_kind_built, is_length, is_enclave, is_destination, is_call, u8_at, u16_at, u32_at}
 use Rattle.xemem_language.specs.Destinations.{destination_of}
 
 -- a field is judged as soon as that many bytes of the record are there, by these bytes
@@ -29,7 +29,7 @@ abbrev pub version_check : Check
 version_check = record { needs = 5; place = 4; fault = faults.Version; is_met = λ front. u8_at front 4 == 1 }
 
 abbrev pub kind_check : Check
-kind_check = record { needs = 6; place = 5; fault = faults.Kind; is_met = λ front. is_built (kind_at front) }
+kind_check = record { needs = 6; place = 5; fault = faults.Kind; is_met = λ front. is_kind_built (kind_at front) }
 
 abbrev pub kind_length_check : Check
 kind_length_check = record {

@@ -10,7 +10,7 @@ abbrev pub decoded : List ℕ → ℕ → Option BadField → Decoding
 decoded bytes before bad = record { records = records_of bytes; rest = rest_of bytes; before = before; bad = bad }
 
 -- how a decoder keeps its bytes: the next record begins at given, and the rest at whole
-pub record IsKept (bytes : List ℕ) (given whole : ℕ) (bad : Option BadField) : Type 0 where
+pub record KeepsBytes (bytes : List ℕ) (given whole : ℕ) (bad : Option BadField) : Type 0 where
   pub order : given ≤ whole
   pub within : whole ≤ length bytes
   pub rest : rest_of (drop given bytes) ≡ drop whole bytes

@@ -3,7 +3,7 @@ use Rattle.std.specs.Prelude.{ℕ, ◌≡◌, ◌&&◌, Bool, true, List, [], �
 use Rattle.std.specs.List.{AllByRecursion, flat_map}
 use Rattle.std.specs.Int.{w16, w32, to_le_bytes}
 use Rattle.xemem_language.specs.declared.record.Record.{Record}
-use Rattle.xemem_wire.specs.Table.{kind_of, is_built, is_enclave, is_destination, is_call}
+use Rattle.xemem_wire.specs.Table.{kind_of, is_kind_built, is_enclave, is_destination, is_call}
 use Rattle.xemem_language.specs.Destinations.{destination_number}
 
 -- length, version, kind, origin, destination, zero, call
@@ -19,7 +19,7 @@ spelling_of r = header_of 16 r
 -- every number of the record is one that its field may have
 unfoldable pub is_valid : Record → Bool
 is_valid r =
-    is_built (kind_of r.body) && is_enclave r.origin.0
+    is_kind_built (kind_of r.body) && is_enclave r.origin.0
     && is_destination (kind_of r.body) r.dest && is_call (kind_of r.body) r.call
 
 abbrev pub AreValid : List Record → Type 0

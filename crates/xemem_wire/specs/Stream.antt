@@ -28,11 +28,11 @@ pub record Reading : Type 0 where
   pub records : List Record
   pub rest : List ℕ
 
-abbrev pub onto : Record → Reading → Reading
-onto r reading = record { records = r ∷ reading.records; rest = reading.rest }
+abbrev pub record_onto : Record → Reading → Reading
+record_onto r reading = record { records = r ∷ reading.records; rest = reading.rest }
 
-abbrev pub after_records : List Record → Reading → Reading
-after_records rs reading = record { records = rs ++ reading.records; rest = reading.rest }
+abbrev pub records_onto : List Record → Reading → Reading
+records_onto rs reading = record { records = rs ++ reading.records; rest = reading.rest }
 
 abbrev pub nothing_read : List ℕ → Reading
 nothing_read bytes = record { records = []; rest = bytes }
@@ -41,7 +41,7 @@ nothing_read bytes = record { records = []; rest = bytes }
 unfoldable pub reading_within : ℕ → List ℕ → Reading
 reading_within zero bytes = nothing_read bytes
 reading_within (suc most) bytes =
-    option_map_or (λ r. onto r (reading_within most (drop (length (spelling_of r)) bytes))) (front_record bytes)
+    option_map_or (λ r. record_onto r (reading_within most (drop (length (spelling_of r)) bytes))) (front_record bytes)
     (nothing_read bytes)
 
 -- the whole records of a stream up to the first bad field, and the bytes after them

@@ -29,8 +29,8 @@ kind_of (bodies.Dead enclave) = 19
 kind_of (bodies.Confirm enclave) = 20
 
 -- the kinds that are built
-abbrev pub is_built : ℕ → Bool
-is_built kind = nat_le 1 kind && nat_le kind 4
+abbrev pub is_kind_built : ℕ → Bool
+is_kind_built kind = nat_le 1 kind && nat_le kind 4
 
 -- the body of a built kind
 abbrev pub body_of : ℕ → Body

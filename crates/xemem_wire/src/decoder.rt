@@ -25,13 +25,13 @@ pub struct Decoder {
 impl Model for Decoder {
     ghost use Rattle.std.specs.Prelude.{drop};
     ghost use Rattle.xemem_wire.specs.Decoding.{Decoding};
-    ghost use Rattle.xemem_wire.specs.Kept.{decoded, IsKept};
+    ghost use Rattle.xemem_wire.specs.Kept.{decoded, KeepsBytes};
 
     ghost Value = { Decoding };
 
     ghost view = { λ d. decoded (drop d.given d.bytes.items) d.before d.bad };
 
-    ghost invariant = { λ d. IsKept d.bytes.items d.given d.whole d.bad };
+    ghost invariant = { λ d. KeepsBytes d.bytes.items d.given d.whole d.bad };
 }
 
 /// Drops the first `n` bytes.

@@ -1,6 +1,6 @@
 // Which field of a record's front is the first that isn't allowed.
 ghost use Rattle.std.specs.Prelude.{◌≡◌, ℕ, ◌+◌, ◌<◌, ◌≤◌, length, IfSome};
-ghost use Rattle.xemem_wire.specs.Table.{u16_at, u32_at, is_undirected, has_call, is_built, is_enclave, is_destination, is_call};
+ghost use Rattle.xemem_wire.specs.Table.{u16_at, u32_at, is_undirected, has_call, is_kind_built, is_enclave, is_destination, is_call};
 ghost use Rattle.xemem_language.specs.Destinations.{destination_of};
 ghost use Rattle.xemem_wire.specs.Faults.{is_failed, range_check, version_check, kind_check, kind_length_check, origin_check, destination_check, zero_check, call_check, fault_of};
 
@@ -47,7 +47,7 @@ pub(crate) fn has_call(kind: u8) -> bool
 
 /// Whether records of that kind are built.
 pub(crate) fn is_built(kind: u8) -> bool
-    ensures { result ≡ is_built kind }
+    ensures { result ≡ is_kind_built kind }
 {
     matches!(kind, 1..=4)
 }

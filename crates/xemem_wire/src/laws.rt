@@ -4,7 +4,7 @@ ghost use Rattle.std.specs.List.{flat_map, AllByRecursion};
 ghost use Rattle.std.specs.Option.{option_map};
 ghost use Rattle.xemem_wire.specs.Table.{u32_at};
 ghost use Rattle.xemem_wire.specs.Spelling.{spelling_of, spellings_of, is_valid, AreValid};
-ghost use Rattle.xemem_wire.specs.Stream.{reading_of, records_of, rest_of, onto, after_records, nothing_read, first_bad, moved, IsSplit};
+ghost use Rattle.xemem_wire.specs.Stream.{reading_of, records_of, rest_of, record_onto, records_onto, nothing_read, first_bad, moved, IsSplit};
 ghost use Rattle.xemem_wire.specs.Decoding.{Decoding, nothing_taken, after_piece, from_the_start};
 ghost use Rattle.xemem_language.specs.declared.record.Record.{Record};
 ghost use Rattle.xemem_wire.specs.declared.format.BadField.{BadField};
@@ -25,9 +25,9 @@ pub fn one_split()
 /// What valid records spell is read as these records, and then as what follows.
 pub fn spellings_are_read()
     ensures first { (r : Record) (more : List ℕ) → is_valid r ≡ true →
-        reading_of (spelling_of r ++ more) ≡ onto r (reading_of more) }
+        reading_of (spelling_of r ++ more) ≡ record_onto r (reading_of more) }
     ensures all { (rs : List Record) (more : List ℕ) → AreValid rs →
-        reading_of (spellings_of rs ++ more) ≡ after_records rs (reading_of more) }
+        reading_of (spellings_of rs ++ more) ≡ records_onto rs (reading_of more) }
     ensures bad { (rs : List Record) (more : List ℕ) → AreValid rs →
         first_bad (spellings_of rs ++ more) ≡ option_map (moved (length (spellings_of rs))) (first_bad more) }
 {}
@@ -44,7 +44,7 @@ pub fn spelling_length()
 pub fn cut_spelling()
     ensures reading { (rs : List Record) (r : Record) (n : ℕ) → AreValid rs → is_valid r ≡ true →
         n < length (spelling_of r) → reading_of (spellings_of rs ++ take n (spelling_of r))
-        ≡ after_records rs (nothing_read (take n (spelling_of r))) }
+        ≡ records_onto rs (nothing_read (take n (spelling_of r))) }
     ensures fine { (rs : List Record) (r : Record) (n : ℕ) → AreValid rs → is_valid r ≡ true →
         n < length (spelling_of r) → first_bad (spellings_of rs ++ take n (spelling_of r)) ≡ None }
 {}

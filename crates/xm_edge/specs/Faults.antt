@@ -2,8 +2,8 @@
 use Rattle.std.specs.Prelude.{◌≡◌, ◌-◌, ◌+◌, ◌^◌, ◌≤◌, ℕ, min, OnErr, OnOk, MatchResult, Result}
 
 -- a count after one more, which stands still at the last value of a u64
-abbrev pub counted : ℕ → ℕ
-counted n = min (n + 1) (2 ^ 64 - 1)
+abbrev pub count_after : ℕ → ℕ
+count_after n = min (n + 1) (2 ^ 64 - 1)
 
 -- the count rose, or stands at the last value of a u64
 abbrev pub Rose : ℕ → ℕ → Type 0
@@ -17,4 +17,4 @@ pub record HasCause {T E : Type 0} (before now : ℕ) (result : Result T E) : Ty
 
 -- an error is counted once, and a success not at all
 abbrev pub CountsErrors : {T E : Type 0} → ℕ → ℕ → Result T E → Type 0
-CountsErrors before now result = MatchResult result (λ _. now ≡ before) (λ _. now ≡ counted before)
+CountsErrors before now result = MatchResult result (λ _. now ≡ before) (λ _. now ≡ count_after before)

@@ -3,7 +3,7 @@ ghost use Rattle.std.specs.Prelude.{◌≡◌, ◌<◌, ◌↔◌, [], length, t
 ghost use Rattle.std.specs.Io.{ReadsAtMost, WritesAtMost};
 ghost use Rattle.std.specs.Io.KnownBytes.{ReadConsumes, WriteAppends};
 ghost use Rattle.xm_edge.specs.Ends.{GivesNoneAtEnd};
-ghost use Rattle.xm_edge.specs.Faults.{HasCause, CountsErrors, counted};
+ghost use Rattle.xm_edge.specs.Faults.{HasCause, CountsErrors, count_after};
 ghost use Rattle.xm_edge.specs.Memory.{FailsAt, IsListedNext};
 
 use crate::{ReadFailed, Sink, Source, WriteFailed};
@@ -22,9 +22,9 @@ pub struct MemSource {
 
 impl Model for MemSource {
     ghost use Rattle.std.specs.Prelude.{◌≤◌, drop, vec_len};
-    ghost use Rattle.xm_edge.specs.Memory.{Reading};
+    ghost use Rattle.xm_edge.specs.Memory.{SourceState};
 
-    ghost Value = { Reading };
+    ghost Value = { SourceState };
 
     ghost view = { λ s. record { left = drop s.at s.bytes.items; calls = s.calls; failing = s.failing.items; faults = s.faults } };
 
@@ -62,7 +62,7 @@ impl Source for MemSource {
         ensures full { IfOk result (λ n. n ≡ min (length into.old) (length self.old.left)) }
         ensures fails { IsErr result ↔ IsListedNext self.old.failing self.old.calls }
         ensures counts { CountsErrors self.old.faults self.new.faults result }
-        ensures called { self.new.calls ≡ counted self.old.calls }
+        ensures called { self.new.calls ≡ count_after self.old.calls }
         ensures same { self.new.failing ≡ self.old.failing }
     {
         self.calls = self.calls.saturating_add(1);
@@ -160,7 +160,7 @@ impl Sink for MemSink {
         ensures cause { HasCause self.old.faults self.new.faults result }
         ensures fails { IsErr result ↔ FailsAt self.old (length piece.now) }
         ensures counts { CountsErrors self.old.faults self.new.faults result }
-        ensures called { self.new.calls ≡ counted self.old.calls }
+        ensures called { self.new.calls ≡ count_after self.old.calls }
         ensures same { (self.new.room ≡ self.old.room) × (self.new.failing ≡ self.old.failing) }
     {
         self.calls = self.calls.saturating_add(1);

@@ -30,7 +30,7 @@ impl<A: AddressSpace> State<A> {
     // The neighbour tells the way. Answers whether it wasn't known.
     pub fn told(&mut self, from: Enclave) -> bool
         ensures first { result ≡ not (knows_way self.old) }
-        ensures after { self.new ≡ (if knows_way self.old then self.old else spec.with_way self.old from) }
+        ensures after { self.new ≡ (if knows_way self.old then self.old else spec.with_way_over self.old from) }
     {
         self.routes.here(side_of(self.parent, from))
     }
@@ -85,7 +85,7 @@ impl<A: AddressSpace> State<A> {
     // Makes the way back to an enclave its route, and gives it, where there is one.
     pub fn learn(&mut self, of: Enclave) -> Result<Option<Enclave>, AllocError>
         ensures over { IfOk result (λ over. over ≡ at self.old.ways.backs of.0) }
-        ensures after { OnOk result (self.new ≡ spec.with_route self.old of (at self.old.ways.backs of.0)) }
+        ensures after { OnOk result (self.new ≡ spec.with_route_over self.old of (at self.old.ways.backs of.0)) }
     {
         let Some(over) = self.routes.learn(of)? else {
             return Ok(None);
