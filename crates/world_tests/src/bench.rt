@@ -35,10 +35,10 @@ impl Model for Bench {
 fn adopt(rt: &impl Abort, node: &mut Node<PageTable>, child: u16, out: &mut Lines)
     requires child { (1 ≤ child) × (child ≤ 255) }
     requires other { child ≢ node.old.view.me.0 }
-    requires new_child { at node.old.view.children child ≡ None }
+    requires new_child { at node.old.view.core.children child ≡ None }
     requires new_feed { at node.old.feeds child ≡ None }
     ensures me { node.new.view.me ≡ node.old.view.me }
-    ensures children { (k : ℕ) → k ≢ child → at node.new.view.children k ≡ at node.old.view.children k }
+    ensures children { (k : ℕ) → k ≢ child → at node.new.view.core.children k ≡ at node.old.view.core.children k }
     ensures feeds { (k : ℕ) → k ≢ child → at node.new.feeds k ≡ at node.old.feeds k }
     ensures is_open { IsSome (at node.new.feeds child) }
 {
@@ -74,7 +74,7 @@ impl Bench {
     #[tactic(auto, unfolding(xm_num::specs::Rows::at, xm_num::specs::Rows::put, xm_num::specs::Rows::less))]
     fn of(rt: &impl Abort, alloc: Global, node: Node<PageTable>) -> Bench
         requires me { node.view.me.0 ≡ 4 }
-        requires children { node.view.children ≡ [] }
+        requires children { node.view.core.children ≡ [] }
         requires feeds { node.feeds ≡ put [] 2 nothing_taken }
     {
         let mut node = node;
