@@ -1,8 +1,11 @@
 // Worked examples: the contract of a function with an empty body, which compares the definitions with what was wanted of them.
 ghost use Rattle.std.specs.Prelude.{◌≡◌, ◌++◌, ◌∷◌, [], None, Some, false, true, codes};
 ghost use Rattle.xm_num.specs.declared.Cause.TheVariants as causes;
+ghost use Rattle.enclave_rules.specs.Core.{host};
+ghost use Rattle.enclave_rules.specs.Steps.{record_lines, here_of, register_of, admit_of};
 ghost use Rattle.global_model.specs.Refusals.{refusal_of};
 ghost use Rattle.worked_examples.specs.Examples.{Gives, at_line, text, smallest, smallest_journal, refused, refused_journal, one_byte_short, one_byte_short_journal, discovered, discovered_journal, child_memory, child_memory_journal, no_host_born, no_host_born_journal, settled, settled_journal, late_name_server, late_name_server_journal, server_first, server_first_journal, blocks_first, blocks_first_journal, refused_calls, refused_calls_journal, crowd, boot_under, start_at, two_lines, two_lines_journal};
+ghost use Rattle.worked_examples.specs.Records.{learned, numbered, dropped, noted};
 ghost use Rattle.scenario_text.specs.Scenario.{Faulty, Unbuilt};
 ghost use Rattle.scenario_text.specs.declared.SyntaxFault.TheVariants as faults;
 
@@ -43,4 +46,15 @@ pub fn crowds_are_refused()
     ensures last_start { refusal_of (crowd 0 1023) (start_at 0) ≡ None }
     ensures all_started { refusal_of (crowd 0 1024) (start_at 0) ≡ Some causes.TooMany }
     ensures started_elsewhere { refusal_of (crowd 0 1024) (start_at 1) ≡ Some causes.NoEnclave }
+{}
+
+/// An enclave that knows its way and is admitted drops what brings it nothing: a second here, a second admit, an admit for an enclave to
+/// which it has no way back, a register that would go back to where it came from, and a record of its own. No journal brings it
+/// such records so far.
+pub fn needless_records_are_dropped()
+    ensures second_here { record_lines learned (numbered 2) (here_of (numbered 2)) ≡ dropped }
+    ensures second_admit { record_lines learned host (admit_of host (numbered 1)) ≡ dropped }
+    ensures admit_without_a_way_back { record_lines learned host (admit_of host (numbered 5)) ≡ dropped }
+    ensures register_from_the_way { record_lines learned host (register_of (numbered 5)) ≡ noted 5 host }
+    ensures own_register { record_lines learned (numbered 2) (register_of (numbered 1)) ≡ dropped }
 {}

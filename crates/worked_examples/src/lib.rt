@@ -3,4 +3,4 @@
 
 mod examples;
 
-pub use examples::{crowds_are_refused, worked_examples};
+pub use examples::{crowds_are_refused, needless_records_are_dropped, worked_examples};
