@@ -49,8 +49,8 @@ pub fn crowds_are_refused()
 {}
 
 /// An enclave that knows its way and is admitted drops what brings it nothing: a second here, a second admit, an admit for an enclave to
-/// which it has no way back, a register that would go back to where it came from, and a record of its own. No journal brings it
-/// such records so far.
+/// which it has no way back, a register that would go back to where it came from, and a record of its own. No worked scenario
+/// brings such records.
 pub fn needless_records_are_dropped()
     ensures second_here { record_lines learned (numbered 2) (here_of (numbered 2)) ≡ dropped }
     ensures second_admit { record_lines learned host (admit_of host (numbered 1)) ≡ dropped }
