@@ -122,13 +122,105 @@ function chain(   child, i) {
     }
 }
 
+# A make, but for what comes between its issue and its answer.
+function issue(e, region, call) {
+    order("make " e " 1 " region " 0600")
+    tell("issue " e " 1 " call)
+}
+
+function answer(e, call, segid) {
+    tell("named " e " " call " " segid)
+    tell("answer " e " 1 " call " segid " segid)
+}
+
+# A record of so many bytes goes over, and what the receiver sends on.
+function passed(from, to, bytes, next_one, sent) {
+    tell("took " from " " to " " bytes)
+    tell("got " from " " to)
+    if (sent != "") tell("sent " to " " next_one " " sent)
+}
+
+# A segment over the whole chain: its request goes up through each enclave and its name down, and so does its end.
+function far(   line, i) {
+    chain()
+    order("proc 255 7 7")
+    tell("proc 255 1 7 7")
+    order("alloc 255 1 1 64")
+    line = "alloc 255 1 1"
+    for (i = 0; i < 64; i++) line = line " " 255 * 64 + i
+    tell(line)
+    issue(255, "4096 262144", 1)
+    tell("sent 255 254 namereq 255 65535 1")
+    order("settle 509")
+    for (i = 254; i > 0; i--) passed(i + 1, i, 16, i - 1, "namereq 255 65535 1")
+    passed(1, 0, 16)
+    tell("drew 255 1 1")
+    tell("sent 0 1 named 0 255 1 1")
+    for (i = 1; i < 255; i++) passed(i - 1, i, 24, i + 1, "named 0 255 1 1")
+    tell("waiting 509")
+    order("show names")
+    tell("name 1 255")
+    order("alloc 255 1 65 1")
+    tell("refused Busy")
+    order("settle 10000")
+    passed(254, 255, 24)
+    answer(255, 1, 1)
+    tell("settled 1")
+    order("alloc 255 1 65 1")
+    tell("refused NoFrames")
+    order("remove 255 1 1")
+    tell("remove 255 1")
+    tell("sent 255 254 unname 255 65535 1 1")
+    order("settle 10000")
+    for (i = 254; i > 0; i--) passed(i + 1, i, 24, i - 1, "unname 255 65535 1 1")
+    passed(1, 0, 24)
+    tell("unnamed 1")
+    tell("settled 255")
+    order("show names")
+}
+
+# A segment at its most pages, 4,096, and one of a page more. Then 1,000 segments of one page, of which each second one is removed.
+function segments(   line, i) {
+    birth_of_host(65, 65)
+    order("proc 0 7 7")
+    tell("proc 0 1 7 7")
+    order("alloc 0 1 1 4096")
+    line = "alloc 0 1 1"
+    for (i = 0; i < 4096; i++) line = line " " i
+    tell(line)
+    order("alloc 0 1 4097 1")
+    tell("alloc 0 1 4097 4096")
+    issue(0, "4096 16777216", 1)
+    tell("drew 0 1 1")
+    answer(0, 1, 1)
+    issue(0, "8192 16777216", 2)
+    tell("drew 0 2 2")
+    answer(0, 2, 2)
+    order("make 0 1 4096 16781312 0600")
+    tell("refused TooLarge")
+    for (i = 3; i <= 1002; i++) {
+        issue(0, 4096 * i " 4096", i)
+        tell("drew 0 " i " " i)
+        answer(0, i, i)
+    }
+    for (i = 2; i <= 1002; i += 2) {
+        order("remove 0 1 " i)
+        tell("remove 0 " i)
+        tell("unnamed " i)
+    }
+    order("show names")
+    for (i = 1; i <= 1002; i += 2) tell("name " i " 0")
+}
+
 BEGIN {
     scenario = made "/scenario"
     journal = made "/journal"
-    if (name == "") print "processes children chain words_met words_passed words_at_a_command words_of_two_blocks"
+    if (name == "") print "processes children chain far segments words_met words_passed words_at_a_command words_of_two_blocks"
     else if (name == "processes") processes()
     else if (name == "children") children()
     else if (name == "chain") chain()
+    else if (name == "far") far()
+    else if (name == "segments") segments()
     # 15 + 1,364 * 12,292 = 16,766,303 words, and 10,913 = 1,559 * 7 more fit.
     else if (name == "words_met") shows(1, 1364, 1559)
     # The last line that fits is that of block 3,635.

@@ -2,5 +2,5 @@ pub mod ReaderLemmas
 pub mod SlotLemmas
 pub mod FormLemmas
 pub mod CommandLemmas
-pub mod LineLemmas
+pub mod WordsOf
 pub mod Placed

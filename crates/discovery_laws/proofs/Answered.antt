@@ -28,7 +28,11 @@ use Rattle.discovery_laws.proofs.Effects.{asked_leaves}
 use Rattle.discovery_laws.proofs.Asking.{is_query, is_here, is_query_body, is_here_body, place, one_place, remembers, heres_flying, IsCounted, counted_sent, counted_got, counted_way, counted_asked}
 use Rattle.discovery_laws.proofs.Knowing.{known_sent, known_got, known_asked, known_way, way_knows, way_learned}
 use Rattle.discovery_laws.proofs.Newborn.{near_born, near_turned}
-use Rattle.discovery_laws.proofs.Calm.{counted_knowing, counted_owed, IsAsking, AreCalm, calm_line, calm_lines}
+use Rattle.discovery_laws.proofs.Calm.{counted_knowing, counted_owed, IsAsking, IsCalm, AreCalm, calm_line, calm_lines}
+use Rattle.discovery_laws.proofs.Serving.{Serves, is_serving, serves_asked, serves_body}
+use Rattle.xm_num.specs.declared.Pid.{Pid}
+use Rattle.xemem_language.specs.declared.call.Call.{Call}
+use Rattle.global_model.specs.Pauses.{asked_lines}
 
 -- ---- strays
 
@@ -81,12 +85,37 @@ calm_admit v from r (Some d) calm = calm_either (eqb d.0 v.me.0) (cond v.core.ad
     (admit_over v from d r (at v.ways.backs d.0)) (calm_either v.core.admitted (drop_lines v) (lines.Admitted v.me ∷ []) (tt, tt) (tt, tt))
     (calm_over v from d r (at v.ways.backs d.0) calm)
 
+-- what serves calls asks for no way and tells none
+serving_calm : (body : Body) → is_serving body ≡ true → (is_query_body body || is_here_body body) ≡ false
+serving_calm bodies.NameReq is = refl
+serving_calm (bodies.Named segid) is = refl
+serving_calm (bodies.Unname segid) is = refl
+serving_calm _ is = absurd (cc)
+
+calm_serves : Serves IsCalm
+calm_serves = record {
+  dropped = λ e. tt;
+  issued = λ e p call. tt;
+  drew = λ e call segid. tt;
+  named = λ e call segid. tt;
+  unnamed = λ segid. tt;
+  removed = λ e segid. tt;
+  answered = λ e p call segid. tt;
+  sent = λ x y r is. serving_calm r.body is;
+}
+
+pub calm_asked : (v : View) (p : Pid) (call : Call) → AreCalm (asked_lines v p call)
+calm_asked v p call = serves_asked IsCalm calm_serves v p call
+
 pub calm_body : (v : View) (from : Enclave) (r : Record) → (is_query r || is_here r) ≡ false → (body : Body)
     → (is_query_body body || is_here_body body) ≡ false → AreCalm (body_lines v from r body)
 calm_body v from r calm bodies.Query is = absurd (cc)
 calm_body v from r calm bodies.Here is = absurd (cc)
 calm_body v from r calm bodies.Register is = calm_register v from r calm
 calm_body v from r calm bodies.Admit is = calm_admit v from r r.dest calm
+calm_body v from r calm bodies.NameReq is = serves_body IsCalm calm_serves v from r bodies.NameReq refl (λ x. calm)
+calm_body v from r calm (bodies.Named segid) is = serves_body IsCalm calm_serves v from r (bodies.Named segid) refl (λ x. calm)
+calm_body v from r calm (bodies.Unname segid) is = serves_body IsCalm calm_serves v from r (bodies.Unname segid) refl (λ x. calm)
 calm_body v from r calm body is = (tt, tt)
 
 pub calm_record : (v : View) (from : Enclave) (r : Record) → (is_query r || is_here r) ≡ false → AreCalm (record_lines v from r)

@@ -15,7 +15,7 @@ use Rattle.enclave_rules.specs.Steps.{is_stray, here_of, register_of, told_asker
 use Rattle.global_model.specs.Facts.{Facts, after_line, after_lines, no_facts}
 use Rattle.global_model.specs.Channels.{is_neighbour}
 use Rattle.global_model.specs.Flow.{IsTree}
-use Rattle.global_model.specs.Pauses.{Step, Written, Hosts, Bears, Takes, Handles, written_by, MayCome, IsPause}
+use Rattle.global_model.specs.Pauses.{Step, Written, Hosts, Bears, Takes, Handles, Asks, asked_lines, written_by, MayCome, IsPause}
 use Rattle.global_model.specs.Tree.{parent_of}
 use Rattle.discovery_laws.proofs.Led.{IsLed}
 use Rattle.global_model.specs.Views.{view_of}
@@ -27,9 +27,9 @@ use Rattle.discovery_laws.proofs.Asking.{is_query, is_here, is_query_body, is_he
 use Rattle.discovery_laws.proofs.Knowing.{IsOwn}
 use Rattle.discovery_laws.proofs.Newborn.{near_apart}
 use Rattle.discovery_laws.proofs.Boots.{asked_host, asked_boot}
-use Rattle.discovery_laws.proofs.Calm.{IsAsking, calm_alone, calm_line}
+use Rattle.discovery_laws.proofs.Calm.{IsAsking, calm_alone, calm_line, calm_lines}
 use Rattle.discovery_laws.proofs.Underway.{first_has, next_flight}
-use Rattle.discovery_laws.proofs.Answered.{none_owed, stray_is, knows_way_is, calm_record, handles_calm, handles_query, handles_here}
+use Rattle.discovery_laws.proofs.Answered.{calm_asked, none_owed, stray_is, knows_way_is, calm_record, handles_calm, handles_query, handles_here}
 
 -- at a pause no answer is owed
 abbrev pub IsAsked : Facts → Type 0
@@ -82,6 +82,7 @@ pub asked_step : (laws : DiscoveryLaws) (G : Facts) (step : Step) → IsPause G 
 asked_step laws G (Written line) pause may old = calm_line laws.tree none_owed G line (calm_alone G line may.1) old
 asked_step laws G (Hosts ns blocks) pause may old = asked_host laws G pause old ns blocks may.1
 asked_step laws G (Bears child kind parent ns blocks) pause may old = asked_boot laws G pause old child parent kind ns blocks may.1 may.2
+asked_step laws G (Asks e p call) pause may old = calm_lines laws.tree none_owed (asked_lines (view_of G e) p call) G (calm_asked (view_of G e) p call) old
 asked_step laws G (Takes x y n) pause may old = calm_line laws.tree none_owed G (lines.Took x y n) tt old
 asked_step laws G (Handles x y r) pause may old =
     let first = next_flight G x.0 y.0 r may.others may.next in

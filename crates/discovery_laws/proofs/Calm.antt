@@ -8,6 +8,7 @@ use Rattle.xm_num.specs.declared.Enclave.{Enclave}
 use Rattle.xemem_language.specs.declared.record.Record.{Record}
 use Rattle.global_model.specs.Facts.{Facts, after_line, after_lines, fact_of, has_parent, is_holder, with_taken}
 use Rattle.global_model.specs.Channels.{is_child_of}
+use Rattle.global_model.specs.Parts.{Birth, Warning, Death, Receipt, Asking, Learning, Lacks}
 use Rattle.global_model.specs.Pauses.{MayStandAlone}
 use Rattle.global_model.specs.Tree.{IsRooted, parent_of}
 use Rattle.discovery_laws.specs.Known.{knows}
@@ -83,14 +84,8 @@ alike_took G x y n = record {
 
 -- it asks for no way, tells none, and bears no enclave
 abbrev pub IsCalm : Line → Type 0
-IsCalm (lines.Born e kind parent ns blocks) = ⊥
-IsCalm (lines.Told e of) = ⊥
-IsCalm (lines.Heard e of) = ⊥
-IsCalm (lines.Got x y) = ⊥
-IsCalm (lines.Asked e by) = ⊥
-IsCalm (lines.Way e over) = ⊥
 IsCalm (lines.Sent x y r) = (is_query r || is_here r) ≡ false
-IsCalm line = Unit {0}
+IsCalm line = Lacks (Birth ∷ Warning ∷ Death ∷ Receipt ∷ Asking ∷ Learning ∷ []) line
 
 abbrev pub AreCalm : List Line → Type 0
 AreCalm journal = AllByRecursion IsCalm journal

@@ -1,9 +1,11 @@
 -- Along every journal the way is asked for and known, registrations are at their stages, and no record is got twice.
-use Rattle.std.proofs.Common.{◌≡◌, ℕ, List, [], ◌∷◌, ◌++◌, Bool, true, false, cond, eqb, Some, refl, sym, ap, ◌∙◌, subst, arith}
+use Rattle.std.proofs.Common.{◌≡◌, ℕ, List, [], ◌∷◌, ◌++◌, Bool, true, false, cond, eqb, leb, Some, refl, sym, ap, ◌∙◌, subst, arith}
 use Rattle.std.specs.List.{AllByRecursion}
 use Rattle.std.proofs.lemmas.Bool.{eqb-true, false_from_ne_true}
 use Rattle.xm_num.specs.declared.Enclave.{Enclave}
 use Rattle.xm_num.specs.declared.Block.{Block}
+use Rattle.xm_num.specs.declared.Pid.{Pid}
+use Rattle.xemem_language.specs.declared.call.Call.{Call}
 use Rattle.xm_num.specs.declared.Kind.{Kind}
 use Rattle.xm_num.specs.declared.Kind.TheVariants as kinds
 use Rattle.xemem_language.specs.declared.record.Record.{Record}
@@ -16,21 +18,22 @@ use Rattle.enclave_rules.specs.Sending.{knows_way}
 use Rattle.global_model.specs.Facts.{Facts, after_line, after_lines, facts_at, is_admitted}
 use Rattle.global_model.specs.Flow.{IsTree}
 use Rattle.global_model.specs.Journals.{Follows, onto}
-use Rattle.global_model.specs.Pauses.{IsPause, MayCome, MayHandle, Step, Written, Hosts, Bears, Takes, Handles, written_by}
+use Rattle.global_model.specs.Parts.{Receipt, Lacks}
+use Rattle.global_model.specs.Pauses.{IsPause, MayCome, MayHandle, Step, Written, Hosts, Bears, Takes, Handles, Asks, asked_lines, written_by}
 use Rattle.global_model.specs.Views.{view_of}
 use Rattle.discovery_laws.specs.Known.{in_flight, is_admitted_at}
 use Rattle.discovery_laws.specs.Laws.{DiscoveryLaws}
-use Rattle.discovery_laws.specs.Once.{IsFirstNew, OnceAt, first_onto, is_alike, records_got}
+use Rattle.discovery_laws.specs.Once.{IsFirstNew, OnceAt, first_onto, is_alike, is_of_discovery, records_got}
 use Rattle.xemem_language.specs.Destinations.{destination_number}
 use Rattle.xemem_wire.specs.Table.{kind_of}
 use Rattle.discovery_laws.proofs.Underway.{bounded_got, next_flight}
 use Rattle.discovery_laws.proofs.Joined.{IsJoined}
 use Rattle.discovery_laws.proofs.Marks.{IsLasting, kept-trans, kept_got, kept_lines, mark, mark_kept}
-use Rattle.discovery_laws.proofs.Onces.{alike_mark, new_record}
+use Rattle.discovery_laws.proofs.Onces.{alike_kind, alike_mark, new_record}
 use Rattle.discovery_laws.proofs.Pausing.{aside_alone, none_admitted, unborn_enclave}
-use Rattle.discovery_laws.proofs.Received.{inner_record}
+use Rattle.discovery_laws.proofs.Received.{aside_asked, inner_record}
 use Rattle.discovery_laws.proofs.Registrations.{pause_bounded}
-use Rattle.discovery_laws.proofs.Unmoved.{AreWithinStep, IsWithinStep, inner_aside}
+use Rattle.discovery_laws.proofs.Unmoved.{AreWithinStep, IsWithinStep, inner_all, inner_aside}
 
 -- ---- what a step leaves of what is kept
 
@@ -73,9 +76,14 @@ kept_born G child kind parent ns blocks tree next = record {
         cc)
     by e false there is = is
 
+-- what is written for a call bears no enclave and gets no record
+pub inner_asked : (v : View) (p : Pid) (call : Call) → AreWithinStep (asked_lines v p call)
+inner_asked v p call = inner_all (asked_lines v p call) 0 (aside_asked v p call 0)
+
 pub kept_step : DiscoveryLaws → (G : Facts) (step : Step) → IsPause G → MayCome G step → IsLasting G (after_lines G (written_by G step))
 kept_step laws G (Written line) pause may = kept_lines laws.row G (line ∷ []) (inner_aside line 0 (aside_alone G line 0 may.1), tt) (pause_bounded G pause)
 kept_step laws G (Takes x y count) pause may = kept_lines laws.row G (lines.Took x y count ∷ []) (tt, tt) (pause_bounded G pause)
+kept_step laws G (Asks e p call) pause may = kept_lines laws.row G (asked_lines (view_of G e) p call) (inner_asked (view_of G e) p call) (pause_bounded G pause)
 kept_step laws G (Handles x y r) pause may =
     let G1 = after_line G (lines.Got x y) in
     let next = next_flight G x.0 y.0 r may.others may.next in
@@ -98,8 +106,7 @@ kept_step laws G (Bears child kind parent ns blocks) pause may =
 
 -- a line that gets no record
 abbrev pub IsGotless : Line → Type 0
-IsGotless (lines.Got x y) = ⊥
-IsGotless line = Unit {0}
+IsGotless line = Lacks (Receipt ∷ []) line
 
 abbrev pub AreGotless : List Line → Type 0
 AreGotless journal = AllByRecursion IsGotless journal
@@ -129,22 +136,25 @@ once_lines : (ls past : List Line) → AreGotless ls → Follows OnceAt past ls
 once_lines [] past none = tt
 once_lines (l ∷ ls) past none = (once_line l past none.0, once_lines ls (l ∷ past) none.1)
 
--- all of them are kept
+-- all of them that are of discovery are kept
 abbrev pub AreMarked : Facts → ℕ → List Record → Type 0
-AreMarked G y rs = AllByRecursion (λ q. mark G y q ≡ true) rs
+AreMarked G y rs = AllByRecursion (λ q. is_of_discovery q ≡ true → mark G y q ≡ true) rs
 
 marked_kept : (G H : Facts) (y : ℕ) (rs : List Record) → IsLasting G H → AreMarked G y rs → AreMarked H y rs
 marked_kept G H y [] kept all = tt
-marked_kept G H y (r ∷ rs) kept all = (mark_kept G H y (kind_of r.body) r.origin.0 (destination_number r.dest) kept all.0, marked_kept G H y rs kept all.1)
+marked_kept G H y (r ∷ rs) kept all =
+    (λ is. mark_kept G H y (kind_of r.body) r.origin.0 (destination_number r.dest) kept (all.0 is), marked_kept G H y rs kept all.1)
 
 -- a record of which nothing is kept is like none of them
-unlike : (G : Facts) (y : ℕ) (r : Record) (rs : List Record) → mark G y r ≡ false → AreMarked G y rs → AllByRecursion (λ q. is_alike r q ≡ false) rs
-unlike G y r [] none all = tt
-unlike G y r (q ∷ rs) none all = (
+unlike : (G : Facts) (y : ℕ) (r : Record) (rs : List Record) → is_of_discovery r ≡ true → mark G y r ≡ false → AreMarked G y rs
+    → AllByRecursion (λ q. is_alike r q ≡ false) rs
+unlike G y r [] of none all = tt
+unlike G y r (q ∷ rs) of none all = (
   false_from_ne_true (is_alike r q) (λ is.
-      let clash : false ≡ true = sym none ∙ alike_mark G y r q is ∙ all.0 in
+      let kind : is_of_discovery q ≡ true = ap (λ k. leb k 4) (sym (alike_kind r q is)) ∙ of in
+      let clash : false ≡ true = sym none ∙ alike_mark G y r q is ∙ all.0 kind in
       cc),
-  unlike G y r rs none all.1,
+  unlike G y r rs of none all.1,
 )
 
 -- ---- steps
@@ -176,21 +186,21 @@ goes_handled laws past x y r pause may old kept =
     let next = next_flight G x.0 y.0 r may.others may.next in
     record {
       once = (
-        subst (λ rs. IsFirstNew rs (records_got y.0 past)) (sym next.is) (unlike G y.0 r (records_got y.0 past) new.before (old.got y.0)),
+        subst (λ rs. IsFirstNew rs (records_got y.0 past)) (sym next.is) (λ of. unlike G y.0 r (records_got y.0 past) of (new of).before (old.got y.0)),
         once_lines own (lines.Got x y ∷ past) inner,
       );
       got = λ e. subst (AreMarked (after_lines G (lines.Got x y ∷ own)) e) (sym (same_got e own (lines.Got x y ∷ past) inner))
-          (by e (eqb y.0 e) refl new.after next.is (marked_kept G (after_lines G (lines.Got x y ∷ own)) e (records_got e past) kept (old.got e)));
+          (by e (eqb y.0 e) refl (λ of. (new of).after) next.is (marked_kept G (after_lines G (lines.Got x y ∷ own)) e (records_got e past) kept (old.got e)));
     }
   where
     by : (e : ℕ) (t : Bool) → eqb y.0 e ≡ t
-        → mark (after_lines (facts_at past) (lines.Got x y ∷ record_lines (view_of (facts_at past) y) x r)) y.0 r ≡ true
+        → (is_of_discovery r ≡ true → mark (after_lines (facts_at past) (lines.Got x y ∷ record_lines (view_of (facts_at past) y) x r)) y.0 r ≡ true)
         → in_flight (facts_at past) x.0 y.0 ≡ r ∷ (next_flight (facts_at past) x.0 y.0 r may.others may.next).others
         → AreMarked (after_lines (facts_at past) (lines.Got x y ∷ record_lines (view_of (facts_at past) y) x r)) e (records_got e past)
         → AreMarked (after_lines (facts_at past) (lines.Got x y ∷ record_lines (view_of (facts_at past) y) x r)) e
         (cond t (first_onto (in_flight (facts_at past) x.0 y.0) (records_got e past)) (records_got e past))
     by e true here new flight all = rw flight (
-      ap (λ n. mark (after_lines (facts_at past) (lines.Got x y ∷ record_lines (view_of (facts_at past) y) x r)) n r) (sym (eqb-true y.0 e here)) ∙ new,
+      λ of. ap (λ n. mark (after_lines (facts_at past) (lines.Got x y ∷ record_lines (view_of (facts_at past) y) x r)) n r) (sym (eqb-true y.0 e here)) ∙ new of,
       all,
     )
     by e false other new flight all = all

@@ -8,13 +8,13 @@ use Rattle.enclave_rules.specs.Core.{host}
 use Rattle.global_model.specs.Due.{journal_of}
 use Rattle.global_model.specs.Facts.{Facts, after_lines, facts_after, facts_at, no_facts}
 use Rattle.global_model.specs.Journals.{Follows, onto}
-use Rattle.global_model.specs.Pauses.{AreSteps, IsPause, MayCome, Step, Written, Hosts, Bears, Takes, Handles, written_by, written_in}
+use Rattle.global_model.specs.Pauses.{AreSteps, IsPause, MayCome, Step, Written, Hosts, Bears, Takes, Handles, Asks, asked_lines, written_by, written_in}
 use Rattle.global_model.specs.Place.{IsPlaced}
 use Rattle.global_model.specs.Views.{view_of}
 use Rattle.discovery_laws.specs.Laws.{DiscoveryLaws}
 use Rattle.discovery_laws.specs.Once.{OnceAt, IsOnce, records_got}
 use Rattle.discovery_laws.proofs.Joined.{IsJoined, joined_first, joined_step}
-use Rattle.discovery_laws.proofs.Discovered.{AreMarked, GoesOn, IsDiscovered, all_gotless, inner_birth, inner_either, goes_handled, goes_gotless, kept_step}
+use Rattle.discovery_laws.proofs.Discovered.{AreMarked, GoesOn, IsDiscovered, all_gotless, inner_asked, inner_birth, inner_either, goes_handled, goes_gotless, kept_step}
 use Rattle.discovery_laws.proofs.Pausing.{aside_alone}
 use Rattle.discovery_laws.proofs.Unmoved.{inner_aside}
 
@@ -24,6 +24,9 @@ goes_on : DiscoveryLaws → (past : List Line) (step : Step) → IsPause (facts_
     → GoesOn past (written_by (facts_at past) step)
 goes_on laws past (Written line) pause may old = goes_gotless past (line ∷ []) (all_gotless (line ∷ []) (inner_aside line 0 (aside_alone (facts_at past) line 0 may.1), tt)) (kept_step laws (facts_at past) (Written line) pause may) old
 goes_on laws past (Takes x y count) pause may old = goes_gotless past (lines.Took x y count ∷ []) (tt, tt) (kept_step laws (facts_at past) (Takes x y count) pause may) old
+goes_on laws past (Asks e p call) pause may old =
+    let v = view_of (facts_at past) e in
+    goes_gotless past (asked_lines v p call) (all_gotless (asked_lines v p call) (inner_asked v p call)) (kept_step laws (facts_at past) (Asks e p call) pause may) old
 goes_on laws past (Handles x y r) pause may old = goes_handled laws past x y r pause may old (kept_step laws (facts_at past) (Handles x y r) pause may)
 goes_on laws past (Hosts ns blocks) pause may old =
     goes_gotless past (written_by (facts_at past) (Hosts ns blocks)) (tt, all_gotless (cond ns (lines.Admitted host ∷ []) []) (inner_either ns (lines.Admitted host ∷ []) [] (tt, tt) tt)) (kept_step laws (facts_at past) (Hosts ns blocks) pause may) old

@@ -26,3 +26,4 @@ pub mod Onces
 pub mod Joined
 pub mod Discovered
 pub mod Journals
+pub mod Serving

@@ -8,7 +8,7 @@ use Rattle.xemem_language.specs.declared.record.Record.{Record}
 use Rattle.xemem_language.specs.declared.record.Body.{Body}
 use Rattle.xemem_language.specs.declared.record.Body.TheVariants as bodies
 use Rattle.xemem_language.specs.declared.line.Line.TheVariants as lines
-use Rattle.xemem_wire.specs.Table.{kind_of, is_kind_built, is_destination}
+use Rattle.xemem_wire.specs.Table.{kind_of, is_destination}
 use Rattle.xemem_wire.specs.Spelling.{is_valid}
 use Rattle.enclave_rules.specs.Steps.{record_lines}
 use Rattle.global_model.specs.Facts.{Facts, after_line, after_lines}
@@ -17,7 +17,7 @@ use Rattle.global_model.specs.Tree.{parent_of}
 use Rattle.global_model.specs.Views.{view_of}
 use Rattle.discovery_laws.specs.Known.{in_flight}
 use Rattle.discovery_laws.specs.Laws.{DiscoveryLaws}
-use Rattle.discovery_laws.specs.Once.{is_alike}
+use Rattle.discovery_laws.specs.Once.{is_alike, is_of_discovery}
 use Rattle.discovery_laws.proofs.Underway.{IsNextOf, bounded_got, drop-more, first_has, next_flight}
 use Rattle.discovery_laws.proofs.Flights.{count, one_if}
 use Rattle.discovery_laws.proofs.Asked.{IsAsked, asked_led}
@@ -29,6 +29,15 @@ use Rattle.discovery_laws.proofs.Registrations.{moves, pause_bounded}
 use Rattle.discovery_laws.proofs.Stages.{IsRegistered, is_about, is_about_by}
 
 -- ---- records that are alike
+
+pub alike_kind : (r q : Record) → is_alike r q ≡ true → kind_of r.body ≡ kind_of q.body
+alike_kind r q is =
+    let kinds = eqb (kind_of r.body) (kind_of q.body) in
+    let origins = eqb r.origin.0 q.origin.0 in
+    let dests = eqb (destination_number r.dest) (destination_number q.dest) in
+    let three = (and_parts (kinds && origins && dests) (eqb r.call q.call) is).0 in
+    let two = and_parts (kinds && origins) dests three in
+    eqb-true (kind_of r.body) (kind_of q.body) (and_parts kinds origins two.0).0
 
 pub alike_mark : (G : Facts) (y : ℕ) (r q : Record) → is_alike r q ≡ true → mark G y r ≡ mark G y q
 alike_mark G y r q is =
@@ -45,7 +54,6 @@ alike_mark G y r q is =
 -- ---- a valid record
 
 record IsProperKind (r : Record) : Type 0 where
-  built : is_kind_built (kind_of r.body) ≡ true
   dest : is_destination (kind_of r.body) r.dest ≡ true
 
 proper_kind : (r : Record) → is_valid r ≡ true → IsProperKind r
@@ -53,7 +61,7 @@ unfolding is_valid
 proper_kind r valid =
     let three = and_parts _ _ valid in
     let two = and_parts _ _ three.0 in
-    record { built = (and_parts _ _ two.0).0; dest = two.1 }
+    record { dest = two.1 }
 
 -- ---- queries and heres
 
@@ -171,14 +179,13 @@ module _ (laws : DiscoveryLaws) (G : Facts) (x y : Enclave) (r : Record) (pause 
   new_admit (Some e) is admit = new_about e.0
       (ap (is_about_by e.0 r) admit ∙ ap (λ dest. option_map_or (λ (d : Enclave). eqb d.0 e.0) dest false) is ∙ eq-eqb e.0 e.0 refl)
 
-  new_body : (body : Body) → r.body ≡ body → IsNew G x y r
-  new_body bodies.Query is = new_asking 1 (ap kind_of is) refl refl (own (ap (λ b. is_query_body b || is_here_body b) is)) (few_queries G asked x.0 y.0)
-  new_body bodies.Here is = new_asking 2 (ap kind_of is) refl refl (own (ap (λ b. is_query_body b || is_here_body b) is)) (few_heres G asked x.0 y.0)
-  new_body bodies.Register is = new_about r.origin.0 (ap (is_about_by r.origin.0 r) is ∙ eq-eqb r.origin.0 r.origin.0 refl)
-  new_body bodies.Admit is = new_admit r.dest refl is
-  new_body _ is =
-      let built = ap (λ b. is_kind_built (kind_of b)) (sym is) ∙ proper.built in
-      absurd (cc)
+  new_body : (body : Body) → r.body ≡ body → leb (kind_of body) 4 ≡ true → IsNew G x y r
+  new_body bodies.Query is of = new_asking 1 (ap kind_of is) refl refl (own (ap (λ b. is_query_body b || is_here_body b) is)) (few_queries G asked x.0 y.0)
+  new_body bodies.Here is of = new_asking 2 (ap kind_of is) refl refl (own (ap (λ b. is_query_body b || is_here_body b) is)) (few_heres G asked x.0 y.0)
+  new_body bodies.Register is of = new_about r.origin.0 (ap (is_about_by r.origin.0 r) is ∙ eq-eqb r.origin.0 r.origin.0 refl)
+  new_body bodies.Admit is of = new_admit r.dest refl is
+  new_body _ is of = absurd (cc)
 
-  pub new_record : IsNew G x y r
-  new_record = new_body r.body refl
+  -- one of discovery
+  pub new_record : is_of_discovery r ≡ true → IsNew G x y r
+  new_record of = new_body r.body refl of

@@ -13,7 +13,7 @@ use Rattle.enclave_rules.specs.Core.{host}
 use Rattle.enclave_rules.specs.Sending.{knows_way}
 use Rattle.global_model.specs.Facts.{Facts, EnclaveFact, after_line, after_lines, as_admitted, is_admitted, is_holder}
 use Rattle.global_model.specs.Flow.{IsTree}
-use Rattle.global_model.specs.Pauses.{IsPause, MayCome, MayStandAlone, Step, Written, Hosts, Bears, Takes, Handles, written_by}
+use Rattle.global_model.specs.Pauses.{IsPause, MayCome, MayStandAlone, Step, Written, Hosts, Bears, Takes, Handles, Asks, asked_lines, written_by}
 use Rattle.global_model.specs.Tree.{IsRooted, parent_of}
 use Rattle.global_model.specs.Views.{view_of}
 use Rattle.discovery_laws.specs.Known.{back_at, holds, is_admitted_at, knows, route_at, way_at}
@@ -22,6 +22,7 @@ use Rattle.discovery_laws.proofs.Underway.{IsBounded}
 use Rattle.discovery_laws.proofs.Stages.{Stage, Silent, Registering, Admitting, Ready, IsRegistered, IsStaged, about_in}
 use Rattle.discovery_laws.proofs.Unmoved.{holds_admitted, AreAside, IsAside, IsUnmoved, staged_stays, unmoved-trans, unmoved_lines}
 use Rattle.discovery_laws.proofs.Led.{IsLed}
+use Rattle.discovery_laws.proofs.Received.{aside_asked}
 use Rattle.discovery_laws.proofs.Trees.{AreBarren, IsBarren, grown_barren, grown_born, grown-trans}
 use Rattle.discovery_laws.proofs.Registrations.{handled, pause_bounded, registered_grown}
 
@@ -258,6 +259,8 @@ registered_step laws G (Takes x y count) pause may led led' rooted' d registered
     stays laws G (lines.Took x y count ∷ []) d pause.tree (pause_bounded G pause) (tt, tt) registered
 registered_step laws G (Handles x y r) pause may led led' rooted' d registered =
     handled laws G x y r pause may led led' rooted' d registered
+registered_step laws G (Asks e p call) pause may led led' rooted' d registered =
+    stays laws G (asked_lines (view_of G e) p call) d pause.tree (pause_bounded G pause) (aside_asked (view_of G e) p call d) registered
 registered_step laws G (Hosts ns blocks) pause may led led' rooted' d registered =
     let P : List Line → Type 0 = λ ls.
     IsRegistered (parent_of (after_lines G (lines.Born host kinds.Host host ns blocks ∷ ls))) (after_lines G (lines.Born host kinds.Host host ns blocks ∷ ls)).born

@@ -18,7 +18,11 @@ use Rattle.global_model.specs.Facts.{Facts, after_line}
 use Rattle.discovery_laws.specs.Known.{in_flight}
 use Rattle.discovery_laws.proofs.Stages.{about_in, is_about, is_about_by}
 use Rattle.discovery_laws.proofs.Underway.{flight_got}
-use Rattle.discovery_laws.proofs.Unmoved.{AreAside, AreWithinStep, IsUnmoved, inner_all}
+use Rattle.discovery_laws.proofs.Unmoved.{AreAside, AreWithinStep, IsAside, IsUnmoved, inner_all}
+use Rattle.discovery_laws.proofs.Serving.{Serves, is_serving, serves_asked, serves_body}
+use Rattle.xm_num.specs.declared.Pid.{Pid}
+use Rattle.xemem_language.specs.declared.call.Call.{Call}
+use Rattle.global_model.specs.Pauses.{asked_lines}
 
 -- ---- a record is got
 
@@ -114,12 +118,38 @@ aside_admit v from r d (Some e) other none = by (eqb e.0 v.me.0) refl v.core.adm
     by true is false = (λ me. apart (eqb-true e.0 v.me.0 is ∙ me), tt)
     by false is ready = aside_over v from e r d (at v.ways.backs e.0) other apart
 
+-- what serves calls says nothing of any registration
+serving_other : (d : ℕ) (r : Record) (body : Body) → is_serving body ≡ true → is_about_by d r body ≡ false
+serving_other d r bodies.NameReq is = refl
+serving_other d r (bodies.Named segid) is = refl
+serving_other d r (bodies.Unname segid) is = refl
+serving_other d r _ is = absurd (cc)
+
+pub aside_serves : (d : ℕ) → Serves (IsAside d)
+aside_serves d = record {
+  dropped = λ e. tt;
+  issued = λ e p call. tt;
+  drew = λ e call segid. tt;
+  named = λ e call segid. tt;
+  unnamed = λ segid. tt;
+  removed = λ e segid. tt;
+  answered = λ e p call segid. tt;
+  sent = λ x y r is. serving_other d r r.body is;
+}
+
+-- so does what is written for a call
+pub aside_asked : (v : View) (p : Pid) (call : Call) (d : ℕ) → AreAside d (asked_lines v p call)
+aside_asked v p call d = serves_asked (IsAside d) (aside_serves d) v p call
+
 aside_body : (v : View) (from : Enclave) (r : Record) (d : ℕ) (body : Body) → is_about d r ≡ false → is_about_by d r body ≡ false → MayHear v d body
     → AreAside d (body_lines v from r body)
 aside_body v from r d bodies.Query other none may = aside_query v from d
 aside_body v from r d bodies.Here other none may = aside_here v from d may
 aside_body v from r d bodies.Register other none may = aside_register v from r d other (eqb-false r.origin.0 d none)
 aside_body v from r d bodies.Admit other none may = aside_admit v from r d r.dest other none
+aside_body v from r d bodies.NameReq other none may = serves_body (IsAside d) (aside_serves d) v from r bodies.NameReq refl (λ x. other)
+aside_body v from r d (bodies.Named segid) other none may = serves_body (IsAside d) (aside_serves d) v from r (bodies.Named segid) refl (λ x. other)
+aside_body v from r d (bodies.Unname segid) other none may = serves_body (IsAside d) (aside_serves d) v from r (bodies.Unname segid) refl (λ x. other)
 aside_body v from r d _ other none may = (tt, tt)
 
 pub aside_record : (v : View) (from : Enclave) (r : Record) (d : ℕ) → is_about d r ≡ false → MayHear v d r.body → AreAside d (record_lines v from r)

@@ -108,11 +108,11 @@ hears : DiscoveryLaws → (G : Facts) (x y : Enclave) (r : Record) (rs : List Re
 hears laws G x y r rs tree bounded flight other none led rooted registered = elim (cases_Bool (is_stray (view_of G y) r)) [
   | inl stray ↦
       let dropped : AreAside y.0 (record_lines (view_of G y) x r) = rw stray (tt, tt) in
-      registered_grown laws G H tree (grown_handled laws G x y r) H y.0 (leaves laws G x y r rs y.0 bounded flight other dropped registered)
+      registered_grown laws G H tree (grown_handled G x y r) H y.0 (leaves laws G x y r rs y.0 bounded flight other dropped registered)
   | inr apt ↦ elim (here_or_not (view_of G y) y.0 r.body) [
     | inl here ↦ here_handled laws G x y r rs registered.stage bounded registered.is flight here apt none led rooted
     | inr may ↦
-        registered_grown laws G H tree (grown_handled laws G x y r) H y.0
+        registered_grown laws G H tree (grown_handled G x y r) H y.0
         (leaves laws G x y r rs y.0 bounded flight other (aside_record (view_of G y) x r y.0 other may) registered)
   ]
 ]
@@ -153,7 +153,7 @@ handled laws G x y r pause may led led' rooted' d registered = elim (cases_Bool 
     flight = (next_flight G x.0 y.0 r may.others may.next).is
 
     grown : IsRegistered (parent_of G) G.born H d → IsRegistered (parent_of H) H.born H d
-    grown = registered_grown laws G H tree (grown_handled laws G x y r) H d
+    grown = registered_grown laws G H tree (grown_handled G x y r) H d
 
     may_hear : (knows_way (view_of G y) ≡ true) ⊎ (y.0 ≢ d) → (body : Body) → MayHear (view_of G y) d body
     may_hear may bodies.Here = may

@@ -1,5 +1,5 @@
 -- The tree that later lines leave; a registration stays where it was when others are born.
-use Rattle.std.proofs.Common.{◌≡◌, ◌<◌, ◌≤◌, ℕ, List, [], ◌∷◌, Bool, true, false, cond, eqb, Some, refl, ◌∙◌, subst, arith, append-nil}
+use Rattle.std.proofs.Common.{◌≡◌, ◌<◌, ◌≤◌, ℕ, List, [], ◌∷◌, Bool, true, false, cond, eqb, Some, refl, ◌∙◌, arith}
 use Rattle.std.proofs.lemmas.Bool.{ne_eqb}
 use Rattle.std.specs.List.{AllByRecursion}
 use Rattle.xm_num.specs.declared.Enclave.{Enclave}
@@ -9,9 +9,11 @@ use Rattle.xemem_language.specs.declared.record.Record.{Record}
 use Rattle.xemem_language.specs.declared.line.Line.{Line}
 use Rattle.xemem_language.specs.declared.line.Line.TheVariants as lines
 use Rattle.xemem_language.specs.declared.command.Command.TheVariants as commands
-use Rattle.enclave_rules.specs.View.{AreOf, IsOf}
+use Rattle.discovery_laws.proofs.Received.{inner_record}
+use Rattle.discovery_laws.proofs.Unmoved.{AreWithinStep, IsWithinStep}
 use Rattle.enclave_rules.specs.Steps.{record_lines}
 use Rattle.global_model.specs.Facts.{Facts, after_line, after_lines, fact_of}
+use Rattle.global_model.specs.Parts.{Birth, Lacks}
 use Rattle.global_model.specs.Tree.{IsRooted, IsToward, distance, parent_of}
 use Rattle.global_model.specs.Views.{view_of}
 use Rattle.discovery_laws.specs.Laws.{DiscoveryLaws}
@@ -31,8 +33,7 @@ record IsSameTree (G H : Facts) : Type 0 where
 
 -- a line that bears no enclave
 abbrev pub IsBarren : Line → Type 0
-IsBarren (lines.Born e kind parent ns blocks) = ⊥
-IsBarren line = Unit {0}
+IsBarren line = Lacks (Birth ∷ []) line
 
 abbrev pub AreBarren : List Line → Type 0
 AreBarren journal = AllByRecursion IsBarren journal
@@ -56,20 +57,19 @@ grown_barren G ls barren =
     let born = same.born in
     record { parents = λ e some below. same.parents e; born = omega (arith, born) }
 
-own_barren : (y : Enclave) (line : Line) → IsOf y line → IsBarren line
-own_barren y (lines.Born e kind parent ns blocks) of = of
-own_barren y _ of = tt
+within_barren : (line : Line) → IsWithinStep line → IsBarren line
+within_barren (lines.Born e kind parent ns blocks) within = within
+within_barren _ within = tt
 
-all_barren : (y : Enclave) (ls : List Line) → AreOf y ls → AreBarren ls
-all_barren y [] of = tt
-all_barren y (l ∷ ls) of = (own_barren y l of.0, all_barren y ls of.1)
+all_barren : (ls : List Line) → AreWithinStep ls → AreBarren ls
+all_barren [] within = tt
+all_barren (l ∷ ls) within = (within_barren l within.0, all_barren ls within.1)
 
 -- what is written for a record bears none
-pub grown_handled : DiscoveryLaws → (G : Facts) (x y : Enclave) (r : Record) → IsGrown G (after_lines G (lines.Got x y ∷ record_lines (view_of G y) x r))
-grown_handled laws G x y r =
-    let own = lines.Got x y ∷ record_lines (view_of G y) x r in
-    let of : AreOf y own = subst (AreOf y) (append-nil own) (laws.step.own (view_of G y) x (r ∷ [])) in
-    grown_barren G own (all_barren y own of)
+pub grown_handled : (G : Facts) (x y : Enclave) (r : Record) → IsGrown G (after_lines G (lines.Got x y ∷ record_lines (view_of G y) x r))
+grown_handled G x y r =
+    let own = record_lines (view_of G y) x r in
+    grown_barren G (lines.Got x y ∷ own) (tt, all_barren own (inner_record (view_of G y) x r))
 
 -- the next enclave is born
 pub grown_born : (G : Facts) (child parent : Enclave) (kind : Kind) (ns : Bool) (blocks : List Block) → child.0 ≡ G.born

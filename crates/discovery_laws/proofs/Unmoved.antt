@@ -10,6 +10,7 @@ use Rattle.xemem_language.specs.declared.line.Line.{Line}
 use Rattle.xemem_language.specs.declared.line.Line.TheVariants as lines
 use Rattle.xemem_language.specs.declared.command.Command.TheVariants as commands
 use Rattle.global_model.specs.Facts.{Facts, after_line, after_lines, is_admitted, is_holder, with_taken}
+use Rattle.global_model.specs.Parts.{Birth, Death, Receipt, Lacks}
 use Rattle.discovery_laws.specs.Known.{backs_of, routes_of, back_at, holds, in_flight, is_admitted_at, knows, route_at, way_at}
 use Rattle.discovery_laws.specs.Laws.{WayPutLaws}
 use Rattle.discovery_laws.proofs.Effects.{asked_leaves, asked_leaves_rows, back_leaves, back_leaves_routes, back_puts, holder_kept, kept_by, route_leaves, route_leaves_backs, route_puts, way_learns, way_leaves}
@@ -102,15 +103,12 @@ staged_stays parent born G H d stage same staged = record {
 
 -- the line says nothing of d
 abbrev pub IsAside : ℕ → Line → Type 0
-IsAside d (lines.Born e kind parent ns blocks) = ⊥
-IsAside d (lines.Heard e of) = ⊥
-IsAside d (lines.Got x y) = ⊥
 IsAside d (lines.Sent x y r) = is_about d r ≡ false
 IsAside d (lines.Way e over) = e.0 ≢ d
 IsAside d (lines.Back e of over) = of.0 ≢ d
 IsAside d (lines.Route e of over) = of.0 ≢ d
 IsAside d (lines.Admitted e) = e.0 ≢ d
-IsAside d line = Unit {0}
+IsAside d line = Lacks (Birth ∷ Death ∷ Receipt ∷ []) line
 
 abbrev pub AreAside : ℕ → List Line → Type 0
 AreAside d journal = AllByRecursion (IsAside d) journal
@@ -249,10 +247,7 @@ unmoved_line rows G line d bounded aside = unmoved_by G (after_line G line) d (�
 
 -- a line within a step: it bears no enclave, hears of no death and gets no record
 abbrev pub IsWithinStep : Line → Type 0
-IsWithinStep (lines.Born e kind parent ns blocks) = ⊥
-IsWithinStep (lines.Heard e of) = ⊥
-IsWithinStep (lines.Got x y) = ⊥
-IsWithinStep line = Unit {0}
+IsWithinStep line = Lacks (Birth ∷ Death ∷ Receipt ∷ []) line
 
 abbrev pub AreWithinStep : List Line → Type 0
 AreWithinStep journal = AllByRecursion IsWithinStep journal

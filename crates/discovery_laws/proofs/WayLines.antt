@@ -21,9 +21,10 @@ use Rattle.enclave_rules.specs.Ways.{place_among}
 use Rattle.enclave_rules.specs.Sending.{knows_way, drop_lines}
 use Rattle.enclave_rules.specs.Steps.{is_stray, query_of, here_of, register_of, told_lines, child_lines, adopt_lines, birth_lines, host_lines, told_askers, body_lines, record_lines}
 use Rattle.global_model.specs.Facts.{Facts, after_line, after_lines, no_facts}
+use Rattle.global_model.specs.Parts.{Death, Learning, Lacks}
 use Rattle.global_model.specs.Place.{IsPlaced}
 use Rattle.global_model.specs.Due.{journal_of}
-use Rattle.global_model.specs.Pauses.{Step, Written, Hosts, Bears, Takes, Handles, written_by, written_in, MayCome, AreSteps}
+use Rattle.global_model.specs.Pauses.{Step, Written, Hosts, Bears, Takes, Handles, Asks, asked_lines, written_by, written_in, MayCome, AreSteps}
 use Rattle.global_model.specs.Views.{view_of}
 use Rattle.discovery_laws.specs.Laws.{DiscoveryLaws, FactLaws}
 use Rattle.discovery_laws.specs.Ways.{is_way_line, ways_in}
@@ -32,14 +33,12 @@ use Rattle.discovery_laws.proofs.Effects.{way_learns, asked_leaves, admitted_lea
 use Rattle.discovery_laws.proofs.Flights.{one_if}
 use Rattle.discovery_laws.proofs.Asking.{is_query_body, is_here_body}
 use Rattle.discovery_laws.proofs.Calm.{IsCalm, AreCalm, calm_alone}
-use Rattle.discovery_laws.proofs.Answered.{calm_body}
+use Rattle.discovery_laws.proofs.Answered.{calm_asked, calm_body}
 
 -- ---- lines by which no way is learned and no death heard
 
 abbrev IsWayless : Line → Type 0
-IsWayless (lines.Way e over) = ⊥
-IsWayless (lines.Heard e of) = ⊥
-IsWayless line = Unit {0}
+IsWayless line = Lacks (Death ∷ Learning ∷ []) line
 
 abbrev AreWayless : List Line → Type 0
 AreWayless journal = AllByRecursion IsWayless journal
@@ -177,6 +176,8 @@ step_told laws G e (Hosts ns blocks) may = wayless_told e (host_lines blocks ns)
 step_told laws G e (Bears child kind parent ns blocks) may =
     wayless_told e (birth_lines child kind parent blocks ns (G.heard parent.0) ++ adopt_lines (view_of G parent) child) G
     (wayless_birth child kind parent blocks ns (G.heard parent.0) (view_of G parent))
+step_told laws G e (Asks of p call) may =
+    wayless_told e (asked_lines (view_of G of) p call) G (all_wayless (asked_lines (view_of G of) p call) (calm_asked (view_of G of) p call))
 step_told laws G e (Takes x y n) may = wayless_told e (lines.Took x y n ∷ []) G (tt, tt)
 step_told laws G e (Handles x y r) may = record_told laws G e x y r
 

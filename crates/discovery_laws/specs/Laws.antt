@@ -5,9 +5,6 @@ use Rattle.xm_num.specs.Rows.{at, put}
 use Rattle.xm_num.specs.RowLaws.{RowLaws}
 use Rattle.xemem_language.specs.declared.command.Command.{Command}
 use Rattle.xemem_language.specs.declared.line.Line.{Line}
-use Rattle.xemem_language.specs.declared.record.Record.{Record}
-use Rattle.enclave_rules.specs.View.{AreOf, View}
-use Rattle.enclave_rules.specs.Steps.{lines_of_records}
 use Rattle.global_model.specs.Facts.{Facts, facts_after, after_lines, facts_at, no_facts}
 use Rattle.global_model.specs.Journals.{onto}
 use Rattle.global_model.specs.Flow.{IsFlowing, IsTree}
@@ -28,10 +25,6 @@ pub record FlowLaws : Type 0 where
   pub flowing : (commands : List Command) → IsPlaced commands → IsFlowing (facts_after (journal_of commands))
   pub steps : (commands : List Command) → IsPlaced commands → IsInSteps no_facts (journal_of commands)
 
--- what is written for records is at the enclave that got them
-pub record StepLaws : Type 0 where
-  pub own : (v : View) (x : Enclave) (rs : List Record) → AreOf v.me (lines_of_records v x rs)
-
 -- what a table has at a number after a change
 pub record WayPutLaws : Type 0 where
   pub ways : (table : List (ℕ × Enclave)) (k q : ℕ) (v : Enclave) → at (put table k v) q ≡ (if k == q then Some v else at table q)
@@ -49,7 +42,6 @@ pub record TreeLaws : Type 0 where
 pub record DiscoveryLaws : Type 0 where
   pub past : FactLaws
   pub journal : FlowLaws
-  pub step : StepLaws
   pub row : WayPutLaws
   pub table : RowLaws Enclave
   pub tree : TreeLaws

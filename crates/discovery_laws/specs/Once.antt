@@ -1,5 +1,5 @@
--- No record is got twice by an enclave.
-use Rattle.std.specs.Prelude.{◌≡◌, ℕ, List, [], ◌∷◌, Bool, false, ◌&&◌, ◌==◌, if◌then◌else◌}
+-- No record of discovery is got twice by an enclave.
+use Rattle.std.specs.Prelude.{◌≡◌, ℕ, List, [], ◌∷◌, Bool, true, false, ◌&&◌, ◌==◌, nat_le, if◌then◌else◌}
 use Rattle.std.specs.List.{AllByRecursion}
 use Rattle.xemem_language.specs.Destinations.{destination_number}
 use Rattle.xemem_language.specs.declared.record.Record.{Record}
@@ -28,12 +28,16 @@ records_got y (lines.Got x z ∷ past) =
     if z.0 == y then first_onto (in_flight (facts_at past) x.0 z.0) (records_got y past) else records_got y past
 records_got y (line ∷ past) = records_got y past
 
--- the next record of those under way is like none of these
+-- a query, a here, a register or an admit
+abbrev pub is_of_discovery : Record → Bool
+is_of_discovery r = nat_le (kind_of r.body) 4
+
+-- the next record of those under way, where it is one of discovery, is like none of these
 abbrev pub IsFirstNew : List Record → List Record → Type 0
 IsFirstNew [] got = Unit {0}
-IsFirstNew (r ∷ rs) got = AllByRecursion (λ q. is_alike r q ≡ false) got
+IsFirstNew (r ∷ rs) got = is_of_discovery r ≡ true → AllByRecursion (λ q. is_alike r q ≡ false) got
 
--- a record that is got is like none that the enclave got before
+-- a record of discovery that is got is like none that the enclave got before
 abbrev pub OnceAt : List Line → Line → Type 0
 OnceAt past (lines.Got x y) = IsFirstNew (in_flight (facts_at past) x.0 y.0) (records_got y.0 past)
 OnceAt past line = Unit {0}

@@ -12,7 +12,7 @@ ghost use Rattle.discovery_laws.specs.Ways.{IsLeading, ways_in};
 ghost use Rattle.discovery_laws.specs.Once.{IsOnce};
 
 use global_model::{
-    journals_are_carried, journals_are_in_steps, lines_are_seen, pasts_grow, trees_have_paths,
+    journals_are_carried, journals_are_in_steps, pasts_grow, trees_have_paths,
 };
 use xm_num::Enclave;
 use xm_num::laws::{row_laws, rows};
@@ -25,7 +25,6 @@ fn laws()
     journals_are_carried();
     journals_are_in_steps();
     trees_have_paths();
-    lines_are_seen();
     rows::<Enclave>();
     row_laws::<Enclave>();
 }
@@ -47,7 +46,7 @@ pub fn ways_come_once()
     laws();
 }
 
-/// No enclave gets two records of one kind with the same origin, destination and call.
+/// No enclave gets two queries, heres, registers or admits with the same origin, destination and call.
 pub fn records_come_once()
     ensures { (commands : List Commands) → IsPlaced commands → IsOnce (journal_of commands) }
 {

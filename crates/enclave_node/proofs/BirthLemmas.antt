@@ -17,6 +17,7 @@ use Rattle.xemem_language.specs.declared.line.Line.TheVariants as lines
 use Rattle.enclave_rules.specs.Core.{unborn_core, AreDeaths, with_death, as_born}
 use Rattle.enclave_rules.specs.Ways.{no_ways}
 use Rattle.enclave_rules.specs.Memory.{no_memory}
+use Rattle.name_server.specs.Names.{no_names}
 use Rattle.enclave_rules.specs.Host.{no_host}
 use Rattle.enclave_rules.specs.Hand.{Nothing}
 use Rattle.enclave_rules.specs.View.{View, own_lines, born_line, unborn_view}
@@ -56,7 +57,7 @@ told v e known (d ∷ heard) rest ascend =
 
 -- a child as the line of its birth leaves it
 abbrev new_child : Enclave → Kind → Enclave → List Block → Bool → View
-new_child me kind parent blocks holder = record { me = me; core = as_born kind parent holder blocks unborn_core; ways = no_ways; memory = no_memory; host = no_host }
+new_child me kind parent blocks holder = record { me = me; core = as_born kind parent holder blocks unborn_core; ways = no_ways; memory = no_memory; exports = []; names = no_names; host = no_host }
 
 born : (me : Enclave) (kind : Kind) (parent : Enclave) (blocks : List Block) (holder : Bool) → 1 ≤ me.0
     → born_line (unborn_view 0 me) (lines.Born me kind parent holder blocks) ≡ new_child me kind parent blocks holder

@@ -1,10 +1,13 @@
 pub mod ListLemmas
 pub mod RowLemmas
-pub mod NumberLemmas
 pub mod FrameLemmas
-pub mod MemoryLemmas
+pub mod GiveLemmas
 pub mod PoolLemmas
 pub mod BirthLemmas
 pub mod ReceiveLemmas
 pub mod SideLemmas
 pub mod WayLemmas
+pub mod EstateLemmas
+pub mod SpaceLemmas
+pub mod TiedLemmas
+pub mod NameLemmas

@@ -11,7 +11,9 @@ use Rattle.xemem_language.specs.declared.line.Line.TheVariants as lines
 use Rattle.enclave_rules.specs.Ways.{WaysView, place_among}
 use Rattle.enclave_rules.specs.Hand.{Hand, Nothing}
 use Rattle.enclave_rules.specs.View.{View, own_line, own_lines}
-use Rattle.enclave_rules.specs.Sending.{knows_way, drop_lines}
+use Rattle.route_learn.specs.declared.Way.{Way}
+use Rattle.route_learn.specs.declared.Way.TheVariants as way_kinds
+use Rattle.enclave_rules.specs.Sending.{To, knows_way, drop_lines, route_or, way_to}
 use Rattle.enclave_rules.specs.Steps.{register_of, here_lines, told_askers}
 use Rattle.enclave_node.specs.Sides.{enclave_of, side_of, rows_by_number, with_way_over, with_route_over, learned_lines}
 use Rattle.enclave_node.proofs.RowLemmas.{put_map, less_map, at_map, next_map, ascending_map, numbers_map, rows_from, first_of_rows}
@@ -104,6 +106,27 @@ pub back_at : (v now : View) (r : RouteView) (of : Enclave) (found : Option Neig
     → option_map (enclave_of v.core.parent) found ≡ at now.ways.backs of.0
 back_at v now r of found is sees looked =
     ap (option_map (enclave_of v.core.parent)) looked ∙ sym (at_map (enclave_of v.core.parent) r.back of.0) ∙ ap (λ w. at w.ways.backs of.0) (sym sees ∙ is)
+
+-- the neighbour of a way
+abbrev pub over_of : Enclave → Way → Option Enclave
+over_of p (way_kinds.Over n) = Some (enclave_of p n)
+over_of p way = None
+
+-- the way to an enclave
+pub way_to_seen : (v now : View) (r : RouteView) (of : Enclave) (found : Way) → v ≡ now → v ≡ seen v r → found ≡ ways.way_toward r of
+    → over_of v.core.parent found ≡ way_to now (To of)
+way_to_seen v now r of found is sees looked =
+    ap (over_of v.core.parent) looked ∙ by (at r.routes of.0) r.holder r.way
+    ∙ ap (λ o. route_or o (if r.holder then None else option_map (enclave_of v.core.parent) r.way)) (sym (at_map (enclave_of v.core.parent) r.routes of.0))
+    ∙ ap (λ w. way_to w (To of)) (sym sees ∙ is)
+  where
+    by : (route : Option Neighbour) (holder : Bool) (way : Option Neighbour)
+        → over_of v.core.parent (ways.way_along (record r { holder = holder; way = way }) route)
+        ≡ route_or (option_map (enclave_of v.core.parent) route) (if holder then None else option_map (enclave_of v.core.parent) way)
+    by (Some n) holder way = refl
+    by None true way = refl
+    by None false None = refl
+    by None false (Some n) = refl
 
 -- learned routes
 pub next_seen : (v now : View) (r : RouteView) (low : ℕ) (found : Option ℕ) → v ≡ now → v ≡ seen v r → found ≡ next_from r.routes low → found ≡ next_from now.ways.routes low

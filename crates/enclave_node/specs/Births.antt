@@ -8,6 +8,7 @@ use Rattle.xemem_language.specs.declared.line.Line.{Line}
 use Rattle.xemem_language.specs.declared.line.Line.TheVariants as lines
 use Rattle.enclave_rules.specs.Core.{host}
 use Rattle.enclave_rules.specs.Ways.{no_ways}
+use Rattle.name_server.specs.Names.{no_names}
 use Rattle.enclave_rules.specs.Memory.{no_memory}
 use Rattle.enclave_rules.specs.Host.{HostView, no_host, with_birth}
 use Rattle.enclave_rules.specs.View.{View, unborn_host}
@@ -69,5 +70,7 @@ born_view b = record {
   };
   ways = no_ways;
   memory = no_memory;
+  exports = [];
+  names = no_names;
   host = host_view b.host;
 }

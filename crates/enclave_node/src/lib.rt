@@ -7,9 +7,10 @@ mod feeds;
 mod frames;
 mod host;
 mod lists;
+mod memory;
 mod node;
-mod process;
 mod sides;
+mod spaces;
 mod state;
 
 pub use node::{Node, NodeFault};

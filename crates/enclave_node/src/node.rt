@@ -316,6 +316,7 @@ impl<A: AddressSpace> Node<A> {
         match what {
             Show::Routes => self.state.show_routes(&mut fresh)?,
             Show::Pool => self.state.show_pool(&mut fresh)?,
+            Show::Names => self.state.show_names(&mut fresh)?,
         }
         out.append(&mut fresh)
     }

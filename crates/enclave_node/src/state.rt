@@ -11,14 +11,15 @@ ghost use Rattle.enclave_rules.specs.Steps as steps;
 ghost use Rattle.enclave_node.specs.Births.{born_view};
 
 mod calls;
+mod naming;
 mod records;
 mod ways;
 
 use crate::children::Children;
-use crate::frames::Frames;
 use crate::host::HostPart;
-use crate::process::Process;
+use crate::memory::Memory;
 use frame_pool::PoolFault;
+use name_server::Names;
 use page_table::AddressSpace;
 use route_learn::Routes;
 use std::alloc::{AllocError, Global};
@@ -45,12 +46,12 @@ pub struct State<A: AddressSpace> {
     me: Enclave,
     kind: Kind,
     parent: Enclave,
-    blocks: BlockList,
     admitted: bool,
     heard: EnclaveList,
     routes: Routes,
-    frames: Frames,
-    processes: Vec<Process<A>>,
+    memory: Memory<A>,
+    // Empty but at the holder of the name server.
+    names: Names,
     children: Children,
     host: Option<HostPart>,
 }
@@ -59,7 +60,7 @@ impl<A: AddressSpace> Model for State<A> {
     ghost use Rattle.enclave_rules.specs.View.{View};
     ghost use Rattle.std.specs.Prelude.{option_map};
     ghost use Rattle.enclave_node.specs.Births.{host_view};
-    ghost use Rattle.enclave_node.specs.Layout.{IsKept, memory_of};
+    ghost use Rattle.enclave_rules.specs.Core.{AreDeaths};
     ghost use Rattle.enclave_node.specs.Sides.{enclave_of, rows_by_number};
 
     ghost Value = { View };
@@ -69,7 +70,7 @@ impl<A: AddressSpace> Model for State<A> {
       core = record {
         kind = s.kind;
         parent = s.parent;
-        blocks = s.blocks;
+        blocks = s.memory.blocks;
         holder = s.routes.holder;
         admitted = s.admitted;
         heard = s.heard;
@@ -81,11 +82,13 @@ impl<A: AddressSpace> Model for State<A> {
         backs = rows_by_number s.parent s.routes.back;
         routes = rows_by_number s.parent s.routes.routes;
       };
-      memory = memory_of s.processes.items;
+      memory = s.memory.memory;
+      exports = s.memory.exports;
+      names = s.names;
       host = host_view s.host;
     } };
 
-    ghost invariant = { λ s. IsKept s.blocks s.heard s.frames (memory_of s.processes.items) };
+    ghost invariant = { λ s. AreDeaths s.heard };
 }
 
 // A record of an enclave that names no destination.
@@ -114,18 +117,18 @@ impl<A: AddressSpace> State<A> {
         requires heard { AreDeaths birth.heard }
         ensures { IfOk result (λ state. state ≡ born_view birth) }
     {
-        let frames = Frames::new(alloc, birth.blocks.as_slice())?;
+        let routes = Routes::new(alloc, birth.holder)?;
+        let names = Names::new(alloc)?;
         Ok(State {
             alloc,
             me: birth.me,
             kind: birth.kind,
             parent: birth.parent,
-            blocks: birth.blocks,
             admitted: birth.holder,
             heard: birth.heard,
-            routes: Routes::new(alloc, birth.holder)?,
-            frames,
-            processes: Vec::new(alloc),
+            routes,
+            memory: Memory::new(alloc, birth.blocks)?,
+            names,
             children: Children::new(alloc),
             host: birth.host,
         })
@@ -204,18 +207,14 @@ impl<A: AddressSpace> State<A> {
             me: _,
             kind: _,
             parent: _,
-            blocks: _,
             admitted: _,
             heard: _,
             routes: _,
-            frames: _,
-            mut processes,
+            memory,
+            names: _,
             children: _,
             host: _,
         } = self;
-        while let Some(process) = processes.pop() {
-            process.close();
-        }
-        processes.destroy_empty();
+        memory.close();
     }
 }

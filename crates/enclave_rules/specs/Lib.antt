@@ -3,9 +3,12 @@ pub mod Pages
 pub mod Core
 pub mod Ways
 pub mod Memory
-pub mod Host
 pub mod Hand
+pub mod Exports
+pub mod Names
+pub mod Host
 pub mod View
 pub mod Sending
 pub mod Steps
+pub mod Segments
 pub mod Calls

@@ -1,54 +1,65 @@
--- The processes of an enclave, their pages, and the frames that are in no use.
-use Rattle.std.specs.Prelude.{◌+◌, ℕ, List, [], map, filter, Bool, not, ◌&&◌, ◌==◌}
+-- The processes of an enclave, their pages and their waiting calls, and the frames that are in no use.
+use Rattle.std.specs.Prelude.{◌+◌, ℕ, List, [], map, filter, Bool, true, not, ◌||◌, ◌&&◌, ◌==◌, is_some}
 use Rattle.std.specs.List.{list_any}
 use Rattle.std.specs.Option.{option_map_or}
 use Rattle.xm_num.specs.declared.Block.{Block}
+use Rattle.xm_num.specs.declared.CallNo.{CallNo}
 use Rattle.xm_num.specs.declared.Frame.{Frame}
 use Rattle.xm_num.specs.declared.Page.{Page}
-use Rattle.xm_num.specs.Rows.{at, put, put_all}
+use Rattle.xm_num.specs.declared.Pid.{Pid}
+use Rattle.xm_num.specs.Rows.{at, less, put, put_all}
 use Rattle.xemem_language.specs.declared.line.Line.{Line}
 use Rattle.xemem_language.specs.declared.line.Line.TheVariants as lines
+use Rattle.attach_map.specs.declared.Pending.TheVariants as pendings
+use Rattle.attach_map.specs.Attaching.{ProcessState, AttacherState, waiting_call_of}
+use Rattle.exporter_pins.specs.Holdings.{Export, is_covered}
 use Rattle.enclave_rules.specs.Pages.{frames_of, own_page}
 
--- a process: its user and group, and its pages, ascending
-pub record ProcessView : Type 0 where
-  pub uid : ℕ
-  pub gid : ℕ
-  pub pages : List (ℕ × Page)
+abbrev pub no_memory : AttacherState
+no_memory = record { started = 0; processes = []; issued = 0; waiting = [] }
 
--- how many processes were started, and those that live, by their numbers
-pub record MemoryView : Type 0 where
-  pub started : ℕ
-  pub processes : List (ℕ × ProcessView)
-
-abbrev pub no_memory : MemoryView
-no_memory = record { started = 0; processes = [] }
-
-abbrev pub new_process : ℕ → ℕ → ProcessView
+abbrev pub new_process : ℕ → ℕ → ProcessState
 new_process uid gid = record { uid = uid; gid = gid; pages = [] }
 
 -- the process with these frames as own pages from that one on
-abbrev pub with_pages : ℕ → List Frame → ProcessView → ProcessView
+abbrev pub with_pages : ℕ → List Frame → ProcessState → ProcessState
 with_pages page frames process = record process { pages = put_all process.pages page (map own_page frames) }
 
 -- a process that lives, changed so
-abbrev pub with_process : ℕ → (ProcessView → ProcessView) → MemoryView → MemoryView
+abbrev pub with_process : ℕ → (ProcessState → ProcessState) → AttacherState → AttacherState
 with_process p change m = option_map_or (λ process. record m { processes = put m.processes p (change process) }) (at m.processes p) m
 
+-- the process's next call waits; so far only a make does
+abbrev pub with_issued : Pid → CallNo → AttacherState → AttacherState
+with_issued p call m = record m {
+  issued = m.issued + 1;
+  waiting = put m.waiting call.0 (record { call = call; pid = p; living = true; what = pendings.Make });
+}
+
+-- the call waits no longer
+abbrev pub with_answered : CallNo → AttacherState → AttacherState
+with_answered call m = record m { waiting = less m.waiting call.0 }
+
+-- a call of the process waits
+abbrev pub is_busy : AttacherState → ℕ → Bool
+is_busy m p = is_some (waiting_call_of m.waiting p)
+
 -- what a line at the enclave changes of it
-abbrev pub memory_line : MemoryView → Line → MemoryView
-memory_line m (lines.Proc e p uid gid) = record { started = m.started + 1; processes = put m.processes p.0 (new_process uid gid) }
+abbrev pub memory_line : AttacherState → Line → AttacherState
+memory_line m (lines.Proc e p uid gid) = record m { started = m.started + 1; processes = put m.processes p.0 (new_process uid gid) }
 memory_line m (lines.Alloc e p page frames) = with_process p.0 (with_pages page.0 frames) m
+memory_line m (lines.Issue e p call) = with_issued p call m
+memory_line m (lines.AnswerSegid e p call segid) = with_answered call m
 memory_line m line = m
 
 -- one of the pages is an own page with the frame
 abbrev pub has_own : ℕ → List (ℕ × Page) → Bool
 has_own f pages = list_any (λ row. row.1.own && (row.1.frame.0 == f)) pages
 
--- the frame is in use
-abbrev pub is_used : MemoryView → ℕ → Bool
+-- an own page of a process has the frame
+abbrev pub is_used : AttacherState → ℕ → Bool
 is_used m f = list_any (λ row. has_own f row.1.pages) m.processes
 
--- the frames of the blocks that are in no use, in their order
-abbrev pub unused : List Block → MemoryView → List Frame
-unused blocks m = filter (λ f. not (is_used m f.0)) (frames_of blocks)
+-- the frames of the blocks that are in no use, in their order: no own page and no export has them
+abbrev pub unused : List Block → AttacherState → List (ℕ × Export) → List Frame
+unused blocks m exports = filter (λ f. not (is_used m f.0 || is_covered exports f.0)) (frames_of blocks)

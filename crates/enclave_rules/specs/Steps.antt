@@ -4,6 +4,7 @@ use Rattle.std.specs.List.{list_any, range_with_len, flat_map}
 use Rattle.std.specs.Option.{option_map_or}
 use Rattle.xm_num.specs.declared.Enclave.{Enclave}
 use Rattle.xm_num.specs.declared.Pid.{Pid}
+use Rattle.xm_num.specs.declared.Segid.{Segid}
 use Rattle.xm_num.specs.declared.Vpn.{Vpn}
 use Rattle.xm_num.specs.declared.Frame.{Frame}
 use Rattle.xm_num.specs.declared.Block.{Block}
@@ -24,10 +25,12 @@ use Rattle.xemem_language.specs.declared.line.Line.TheVariants as lines
 use Rattle.enclave_rules.specs.Pages.{allows}
 use Rattle.enclave_rules.specs.Core.{host}
 use Rattle.enclave_rules.specs.Ways.{place_among}
-use Rattle.enclave_rules.specs.Memory.{ProcessView, unused}
+use Rattle.attach_map.specs.Attaching.{ProcessState}
+use Rattle.enclave_rules.specs.Memory.{is_busy, unused}
 use Rattle.enclave_rules.specs.Hand.{Reads}
 use Rattle.enclave_rules.specs.View.{View, own_lines}
-use Rattle.enclave_rules.specs.Sending.{Next, Server, knows_way, drop_lines, send_lines}
+use Rattle.enclave_rules.specs.Sending.{Next, Server, To, knows_way, drop_lines, send_lines}
+use Rattle.enclave_rules.specs.Segments.{name_lines, named_lines, unname_lines}
 
 abbrev pub refusal : Cause → List Line
 refusal cause = lines.Refused cause ∷ []
@@ -101,11 +104,27 @@ admit_to v from r (Some d) =
     if d.0 == v.me.0 then (if v.core.admitted then drop_lines v else lines.Admitted v.me ∷ [])
     else admit_over v from d r (at v.ways.backs d.0)
 
+-- the holder of the name server draws a segid, and another enclave passes the request on toward it
+abbrev pub name_request_lines : View → Enclave → Record → List Line
+name_request_lines v from r = if v.core.holder then name_lines v r.origin r.call else send_lines v (Some from) Server r
+
+-- the name of a segment is taken by the enclave that asked for it, and passed on toward it by another
+abbrev pub named_to : View → Enclave → Record → Segid → Option Enclave → List Line
+named_to v from r segid None = drop_lines v
+named_to v from r segid (Some d) = if d.0 == v.me.0 then named_lines v r.call segid else send_lines v (Some from) (To d) r
+
+-- the holder of the name server forgets a name of that owner, and another enclave passes the record on toward it
+abbrev pub unname_to : View → Enclave → Record → Segid → List Line
+unname_to v from r segid = if v.core.holder then unname_lines v r.origin segid else send_lines v (Some from) Server r
+
 abbrev pub body_lines : View → Enclave → Record → Body → List Line
 body_lines v from r bodies.Query = query_lines v from
 body_lines v from r bodies.Here = here_lines v from
 body_lines v from r bodies.Register = register_lines v from r
 body_lines v from r bodies.Admit = admit_to v from r r.dest
+body_lines v from r bodies.NameReq = name_request_lines v from r
+body_lines v from r (bodies.Named segid) = named_to v from r segid r.dest
+body_lines v from r (bodies.Unname segid) = unname_to v from r segid
 body_lines v from r body = drop_lines v
 
 abbrev pub knows_dead : View → Enclave → Bool
@@ -138,7 +157,7 @@ after_records v from (r ∷ rs) = after_records (after_record v from r) from rs
 -- ---- calls of processes
 
 -- the process of that number, where it lives
-abbrev pub process_at : View → Pid → Option ProcessView
+abbrev pub process_at : View → Pid → Option ProcessState
 process_at v p = at v.memory.processes p.0
 
 abbrev pub start_lines : View → ℕ → ℕ → List Line
@@ -146,15 +165,17 @@ start_lines v uid gid = lines.Proc v.me (record { 0 = v.memory.started + 1 }) ui
 
 -- the frames that the enclave can hand out, the lowest first
 abbrev pub unused_in : View → List Frame
-unused_in v = unused v.core.blocks v.memory
+unused_in v = unused v.core.blocks v.memory v.exports
 
--- the lowest unused frames become own pages, unless a page lies past the last one, is taken, or the frames don't reach
+-- the lowest unused frames become own pages, unless a call of the process waits, a page lies past the last one, is taken, or the
+-- frames don't reach
 abbrev pub own_lines_of : View → Pid → Vpn → ℕ → List (ℕ × Page) → List Line
 own_lines_of v p page count rows =
-    if nat_lt 16777216 (page.0 + count) then refusal causes.BadRange
+    if is_busy v.memory p.0 then refusal causes.Busy
+    else (if nat_lt 16777216 (page.0 + count) then refusal causes.BadRange
     else (if any_between rows page.0 (page.0 + count) then refusal causes.Taken
     else (if nat_lt (length (unused_in v)) count then refusal causes.NoFrames
-    else lines.Alloc v.me p page (take count (unused_in v)) ∷ []))
+    else lines.Alloc v.me p page (take count (unused_in v)) ∷ [])))
 
 abbrev pub alloc_lines : View → Pid → Vpn → ℕ → List Line
 alloc_lines v p page count = option_map_or (λ process. own_lines_of v p page count process.pages) (process_at v p) (refusal causes.NoProcess)

@@ -12,13 +12,14 @@ use Rattle.xemem_language.specs.declared.line.Line.TheVariants as lines
 use Rattle.global_model.specs.Facts.{Facts, after_line, after_lines}
 use Rattle.global_model.specs.Space.{Mapping}
 use Rattle.global_model.specs.Views.{view_of}
+use Rattle.enclave_rules.specs.Segments.{make_acts, name_rows, remove_acts}
 use Rattle.enclave_rules.specs.Steps.{route_lines}
 use Rattle.global_model.specs.Refusals.{refusal_of}
 use Rattle.global_model.specs.Due.{next_enclave, touched_lines, acts_of, command_lines, step_lines, journal_from}
 use Rattle.global_model.specs.Plain.{IsPlain, ArePlain, IsAct, AreActs, IsQuiet, BearsOne}
 use Rattle.global_model.specs.Journals.{do_commands}
 use Rattle.global_model.proofs.Pasts.{do_commands-append}
-use Rattle.global_model.proofs.Plain.{each-weaker, plain_host, plain_deliver, plain_settle, plain_routes, plain_show, plain_birth, plain_pool}
+use Rattle.global_model.proofs.Plain.{each-weaker, plain_host, plain_deliver, plain_settle, plain_routes, plain_show, plain_birth, plain_pool, plain_names, plain_make, plain_remove}
 
 act_plain : (line : Line) → IsPlain line → IsAct line
 act_plain (lines.Refused cause) plain = tt
@@ -45,6 +46,9 @@ acts_of-acts G (commands.Deliver x y count) = acts_plain _ (plain_deliver G x y 
 acts_of-acts G (commands.Settle most) = acts_plain _ (plain_settle most 0 G)
 acts_of-acts G (commands.ShowRoutes e) = acts_plain (route_lines (view_of G e)) (plain_routes (view_of G e))
 acts_of-acts G (commands.ShowLink x y) = acts_plain _ (plain_show G x y)
+acts_of-acts G (commands.Make e p addr size mode) = acts_plain (make_acts G.hand (view_of G e) p) (plain_make G.hand (view_of G e) p)
+acts_of-acts G (commands.Remove e p segid) = acts_plain (remove_acts (view_of G e) segid) (plain_remove (view_of G e) segid)
+acts_of-acts G commands.ShowNames = acts_plain (name_rows (G.names G.holder.0).pairs) (plain_names (G.names G.holder.0).pairs)
 acts_of-acts G commands.ShowPool = acts_plain _ (plain_pool G)
 acts_of-acts G _ = tt
 
@@ -86,6 +90,9 @@ quiet_plain G (commands.Deliver x y count) quiet = plain_deliver G x y count
 quiet_plain G (commands.Settle most) quiet = plain_settle most 0 G
 quiet_plain G (commands.ShowRoutes e) quiet = plain_routes (view_of G e)
 quiet_plain G (commands.ShowLink x y) quiet = plain_show G x y
+quiet_plain G (commands.Make e p addr size mode) quiet = plain_make G.hand (view_of G e) p
+quiet_plain G (commands.Remove e p segid) quiet = plain_remove (view_of G e) segid
+quiet_plain G commands.ShowNames quiet = plain_names (G.names G.holder.0).pairs
 quiet_plain G commands.ShowPool quiet = plain_pool G
 quiet_plain G _ quiet = tt
 

@@ -1,5 +1,5 @@
 -- What a command writes follows from the views of the enclaves that it names.
-use Rattle.std.proofs.Common.{subst, ◌≡◌, ◌+◌, ◌-◌, ◌/◌, ◌≤◌, ℕ, zero, suc, List, [], ◌∷◌, length, take, map, Bool, true, false, cond, not, ◌&&◌, leb, ltb, Option, None, Some, Result, Ok, Err, refl, sym, ap, ◌∙◌, arith}
+use Rattle.std.proofs.Common.{subst, ◌≡◌, ◌+◌, ◌-◌, ◌/◌, ◌≤◌, ℕ, zero, suc, List, [], ◌∷◌, length, take, map, Bool, true, false, cond, not, ◌&&◌, eqb, leb, ltb, Option, None, Some, Result, Ok, Err, refl, sym, ap, ◌∙◌, arith}
 use Rattle.std.specs.Prelude.{is_some, is_none}
 use Rattle.std.specs.List.{range_with_len, filter, list_any}
 use Rattle.std.specs.Option.{option_map, option_map_or}
@@ -26,17 +26,23 @@ use Rattle.xemem_language.specs.declared.call.NodeShow.{NodeShow}
 use Rattle.xemem_language.specs.Calls.{call_of, show_of}
 use Rattle.xemem_language.specs.declared.line.Line.{Line}
 use Rattle.xemem_language.specs.declared.line.Line.TheVariants as lines
-use Rattle.enclave_rules.specs.Calls.{call_lines, show_lines}
+use Rattle.xm_num.specs.declared.Segid.{Segid}
+use Rattle.xm_num.specs.Sizes.{page_bytes, most_pages}
+use Rattle.exporter_pins.specs.Holdings.{Export, live_export}
+use Rattle.enclave_rules.specs.Memory.{is_busy}
+use Rattle.enclave_rules.specs.Exports.{segid_number}
+use Rattle.enclave_rules.specs.Segments.{are_own_pages, name_rows}
+use Rattle.enclave_rules.specs.Calls.{call_lines, make_lines, refused_or, remove_lines, show_lines}
 use Rattle.enclave_rules.specs.Core.{host, is_guest, machine_frame}
-use Rattle.enclave_rules.specs.Memory.{ProcessView}
+use Rattle.attach_map.specs.Attaching.{ProcessState}
 use Rattle.enclave_rules.specs.Pages.{allows}
 use Rattle.enclave_rules.specs.Steps.{refusal, host_lines, process_at, unused_in, alloc_lines, page_answer, touch_answer, answer_lines, route_lines, state_lines, first_blocks}
-use Rattle.global_model.specs.Facts.{Facts, EnclaveFact, no_facts, fact_of, is_living_enclave, lives_at, runs, after_line}
+use Rattle.global_model.specs.Facts.{Facts, EnclaveFact, no_facts, fact_of, is_admitted, is_living_enclave, lives_at, runs, after_line}
 use Rattle.global_model.specs.Space.{mapping_of, pages_at, unused_frames, blocks_left}
-use Rattle.global_model.specs.Refusals.{is_taken, denies}
+use Rattle.global_model.specs.Refusals.{is_misaligned, is_outside, is_taken, denies}
 use Rattle.global_model.specs.Views.{view_of}
 use Rattle.global_model.specs.Due.{touched_lines, command_lines}
-use Rattle.global_model.specs.Known.{at_living, start_asked, boot_asked, IsAnswered}
+use Rattle.global_model.specs.Known.{at_living, names_asked, start_asked, boot_asked, IsAnswered}
 use Rattle.global_model.proofs.Runs.{filter_all}
 use Rattle.global_model.proofs.Lent.{unused_seen}
 use Rattle.global_model.proofs.Tree.{living_born, root_lives}
@@ -99,12 +105,12 @@ pool_answered G sound = rw (root_lives G sound.tree) (by (lives_at G 0))
 -- ---- the processes of a view
 
 -- a call of a process: a refusal where it doesn't live, else by its pages
-where_runs : (G : Facts) (e : Enclave) (p : Pid) (rest : Option Cause) (acts : List Line) (others : ProcessView → List Line)
-    → ((process : ProcessView) → at (G.memory e.0).processes p.0 ≡ Some process → option_map_or (λ c. lines.Refused c ∷ []) rest acts ≡ others process)
+where_runs : (G : Facts) (e : Enclave) (p : Pid) (rest : Option Cause) (acts : List Line) (others : ProcessState → List Line)
+    → ((process : ProcessState) → at (G.memory e.0).processes p.0 ≡ Some process → option_map_or (λ c. lines.Refused c ∷ []) rest acts ≡ others process)
     → option_map_or (λ c. lines.Refused c ∷ []) (cond (not (runs G e.0 p.0)) (Some causes.NoProcess) rest) acts ≡ option_map_or others (process_at (view_of G e) p) (refusal causes.NoProcess)
 where_runs G e p rest acts others same = by (at (G.memory e.0).processes p.0) refl
   where
-    by : (found : Option ProcessView) → at (G.memory e.0).processes p.0 ≡ found
+    by : (found : Option ProcessState) → at (G.memory e.0).processes p.0 ≡ found
         → option_map_or (λ c. lines.Refused c ∷ []) (cond (not (is_some found)) (Some causes.NoProcess) rest) acts ≡ option_map_or others found (refusal causes.NoProcess)
     by None is = refl
     by (Some process) is = same process is
@@ -120,8 +126,8 @@ abbrev AnyMapped : Type 0
 AnyMapped = (table : List (ℕ × Page)) (low high : ℕ) → any_between table low high ≡ list_any (λ k. is_some (at table k)) (range_with_len low (high - low))
 
 -- the pages of a process that is there
-pages_are : (G : Facts) (e p : ℕ) (process : ProcessView) → at (G.memory e).processes p ≡ Some process → pages_at G e p ≡ process.pages
-pages_are G e p process is = ap (λ o. option_map_or (λ (process : ProcessView). process.pages) o []) is
+pages_are : (G : Facts) (e p : ℕ) (process : ProcessState) → at (G.memory e).processes p ≡ Some process → pages_at G e p ≡ process.pages
+pages_are G e p process is = ap (λ o. option_map_or (λ (process : ProcessState). process.pages) o []) is
 
 taken_is : AnyMapped → (G : Facts) (e p page count : ℕ) → is_taken G e p page count ≡ any_between (pages_at G e p) page (page + count)
 taken_is any G e p page count =
@@ -134,11 +140,71 @@ alloc_answered any G sound e p page count =
     where_lives G e _ _ _ (λ living. where_runs G e p _ _ _ (λ process is.
     let free : unused_frames G e.0 ≡ unused_in (view_of G e) = unused_seen G e.0 living (sound.plain e.0) (sound.lent e.0 (living_born G e.0 sound.tree living)) in
     let taken : is_taken G e.0 p.0 page.0 count ≡ any_between process.pages page.0 (page.0 + count) = taken_is any G e.0 p.0 page.0 count ∙ ap (λ pages. any_between pages page.0 (page.0 + count)) (pages_are G e.0 p.0 process is) in
+    either_way (is_busy (G.memory e.0) p.0) causes.Busy _ _ _ (λ idle.
     either_way (ltb 16777216 (page.0 + count)) causes.BadRange _ _ _ (λ within.
     rw taken (either_way (any_between process.pages page.0 (page.0 + count)) causes.Taken _ _ _ (λ clear.
     subst (λ (fs : List Frame). option_map_or (λ c. lines.Refused c ∷ []) (cond (ltb (length (unused_frames G e.0)) count) (Some causes.NoFrames) None) (lines.Alloc e p page (take count (unused_frames G e.0)) ∷ [])
     ≡ cond (ltb (length fs) count) (refusal causes.NoFrames) (lines.Alloc e p page (take count fs) ∷ [])) free
-    (either_way (ltb (length (unused_frames G e.0)) count) causes.NoFrames None _ _ (λ enough. refl)))))))
+    (either_way (ltb (length (unused_frames G e.0)) count) causes.NoFrames None _ _ (λ enough. refl))))))))
+
+-- ---- makes and removes
+
+admitted_is : (o : Option EnclaveFact) → is_admitted o ≡ (fact_of o).admitted
+admitted_is None = refl
+admitted_is (Some fact) = refl
+
+-- the conditions of a make in their order, and the refusals by a view
+make_chain : (ready busy align empty large outside owned : Bool) (acts : List Line)
+    → option_map_or (λ c. lines.Refused c ∷ []) (cond (not ready) (Some causes.NotReady) (cond busy (Some causes.Busy) (cond align (Some causes.BadAlign)
+        (cond empty (Some causes.BadRange) (cond large (Some causes.TooLarge) (cond outside (Some causes.BadRange) (cond (not owned) (Some causes.NotMapped) None))))))) acts
+    ≡ refused_or (cond (not ready) (Some causes.NotReady) (cond busy (Some causes.Busy) None))
+        (refused_or (option_map_or (λ cause. Some cause) (cond align (Some causes.BadAlign) (cond empty (Some causes.BadRange) (cond large (Some causes.TooLarge)
+            (cond outside (Some causes.BadRange) None)))) (cond owned None (Some causes.NotMapped))) acts)
+make_chain false busy align empty large outside owned acts = refl
+make_chain true true align empty large outside owned acts = refl
+make_chain true false true empty large outside owned acts = refl
+make_chain true false false true large outside owned acts = refl
+make_chain true false false false true outside owned acts = refl
+make_chain true false false false false true owned acts = refl
+make_chain true false false false false false true acts = refl
+make_chain true false false false false false false acts = refl
+
+make_answered : (G : Facts) → (e : Enclave) (p : Pid) (addr size mode : ℕ)
+    → command_lines G (commands.Make e p addr size mode) ≡ at_living G e (make_lines (view_of G e) p addr size mode)
+make_answered G e p addr size mode =
+    where_lives G e _ _ _ (λ living. where_runs G e p _ _ _ (λ process is.
+    rw (admitted_is (G.enclave e.0), pages_are G e.0 p.0 process is)
+    (make_chain (fact_of (G.enclave e.0)).admitted (is_busy (G.memory e.0) p.0) (is_misaligned addr size) (eqb size 0) (ltb most_pages (size / page_bytes)) (is_outside addr size)
+        (are_own_pages process.pages (addr / page_bytes) (size / page_bytes)) _)))
+
+remove_chain : (ready busy : Bool) (p : ℕ) (found : Option (ℕ × Export)) (acts : List Line)
+    → option_map_or (λ c. lines.Refused c ∷ []) (cond (not ready) (Some causes.NotReady) (cond busy (Some causes.Busy) (cond (not (is_some found)) (Some causes.NoSegment)
+        (cond (not (option_map_or (λ row. eqb row.1.pid p) found false)) (Some causes.NotOwner) None)))) acts
+    ≡ refused_or (cond (not ready) (Some causes.NotReady) (cond busy (Some causes.Busy) None))
+        (refused_or (option_map_or (λ row. cond (eqb row.1.pid p) None (Some causes.NotOwner)) found (Some causes.NoSegment)) acts)
+remove_chain false busy p found acts = refl
+remove_chain true true p found acts = refl
+remove_chain true false p None acts = refl
+remove_chain true false p (Some row) acts = by (eqb row.1.pid p)
+  where
+    by : (same : Bool) → option_map_or (λ c. lines.Refused c ∷ []) (cond (not same) (Some causes.NotOwner) None) acts ≡ refused_or (cond same None (Some causes.NotOwner)) acts
+    by true = refl
+    by false = refl
+
+remove_answered : (G : Facts) → (e : Enclave) (p : Pid) (segid : Segid)
+    → command_lines G (commands.Remove e p segid) ≡ at_living G e (remove_lines (view_of G e) p segid)
+remove_answered G e p segid =
+    where_lives G e _ _ _ (λ living. where_runs G e p _ _ _ (λ process is.
+    rw (admitted_is (G.enclave e.0))
+    (remove_chain (fact_of (G.enclave e.0)).admitted (is_busy (G.memory e.0) p.0) p.0 (live_export (G.exports e.0) (segid_number segid)) _)))
+
+names_answered : (G : Facts) → command_lines G commands.ShowNames ≡ names_asked G
+names_answered G = by G.server
+  where
+    by : (b : Bool) → option_map_or (λ c. lines.Refused c ∷ []) (cond (not b) (Some causes.NotReady) None) (name_rows (G.names G.holder.0).pairs)
+        ≡ cond b (name_rows (G.names G.holder.0).pairs) (refusal causes.NotReady)
+    by true = refl
+    by false = refl
 
 -- ---- touches
 
@@ -155,7 +221,7 @@ page_answered fact plain e p page want (Some found) =
     by false = refl
 
 -- the lines of an answer that is looked up
-answer_found : (e : Enclave) (p : Pid) (answer : ProcessView → Result (Vpn × Frame) Cause) (process : Option ProcessView)
+answer_found : (e : Enclave) (p : Pid) (answer : ProcessState → Result (Vpn × Frame) Cause) (process : Option ProcessState)
     → answer_lines e p (option_map_or answer process (Err causes.NoProcess)) ≡ option_map_or (λ found. answer_lines e p (answer found)) process (refusal causes.NoProcess)
 answer_found e p answer None = refl
 answer_found e p answer (Some process) = refl
@@ -163,7 +229,7 @@ answer_found e p answer (Some process) = refl
 touch_answered : (G : Facts) → IsSound G → (e : Enclave) (p : Pid) (addr : ℕ) (want : Want) → command_lines G (commands.Touch e p addr want) ≡ at_living G e (answer_lines e p (touch_answer (view_of G e) p addr want))
 touch_answered G sound e p addr want =
     let page : Vpn = record { 0 = addr / 4096 } in
-    let answer : ProcessView → Result (Vpn × Frame) Cause = λ process. page_answer want page (at process.pages (addr / 4096)) in
+    let answer : ProcessState → Result (Vpn × Frame) Cause = λ process. page_answer want page (at process.pages (addr / 4096)) in
     rw (answer_found e p answer (process_at (view_of G e) p)) (where_lives G e _ _ _ (λ living. where_runs G e p _ _ (λ process. answer_lines e p (answer process)) (λ process is.
     rw (pages_are G e.0 p.0 process is) (page_answered (fact_of (G.enclave e.0)) (sound.plain e.0) e p page want (at process.pages (addr / 4096))))))
 
@@ -185,6 +251,12 @@ call_answered : AnyMapped → (G : Facts) → IsSound G → (command : Command) 
 call_answered any G sound (commands.Alloc e p page count) k is =
     let same : record { enclave = e; pid = p; call = calls.Alloc page count } ≡ k = cc in
     subst (λ (k : ProcessCall). command_lines G (commands.Alloc e p page count) ≡ at_living G k.enclave (call_lines (view_of G k.enclave) k.pid k.call)) same (alloc_answered any G sound e p page count)
+call_answered any G sound (commands.Make e p addr size mode) k is =
+    let same : record { enclave = e; pid = p; call = calls.Make addr size mode } ≡ k = cc in
+    subst (λ (k : ProcessCall). command_lines G (commands.Make e p addr size mode) ≡ at_living G k.enclave (call_lines (view_of G k.enclave) k.pid k.call)) same (make_answered G e p addr size mode)
+call_answered any G sound (commands.Remove e p segid) k is =
+    let same : record { enclave = e; pid = p; call = calls.Remove segid } ≡ k = cc in
+    subst (λ (k : ProcessCall). command_lines G (commands.Remove e p segid) ≡ at_living G k.enclave (call_lines (view_of G k.enclave) k.pid k.call)) same (remove_answered G e p segid)
 call_answered any G sound _ k is = cc
 
 show_answered : (G : Facts) → IsSound G → (command : Command) (s : NodeShow) → show_of command ≡ Some s
@@ -203,5 +275,6 @@ answered any G sound = record {
   proc = proc_answered G sound;
   call = call_answered any G sound;
   touch = touch_answered G sound;
+  names = names_answered G;
   show = show_answered G sound;
 }

@@ -12,7 +12,7 @@ use Rattle.global_model.specs.Flow.{IsFlowing}
 use Rattle.global_model.specs.Journals.{Follows}
 use Rattle.global_model.specs.Place.{IsPlaced}
 use Rattle.global_model.specs.Due.{journal_of}
-use Rattle.enclave_rules.specs.Memory.{ProcessView}
+use Rattle.attach_map.specs.Attaching.{ProcessState}
 use Rattle.xm_num.specs.declared.Page.{Page}
 use Rattle.xm_num.specs.Rows.{at}
 use Rattle.global_model.proofs.Rows.{all_at}
@@ -50,7 +50,7 @@ owned_facts G sound = record {
       ap (λ (f : Frame). is_lent_to e (G.block (f.0 / 64))) frame ∙ (found e p v process page one two).lent;
 }
   where
-    found : (e p v : ℕ) (process : ProcessView) (page : Page) → at (G.memory e).processes p ≡ Some process → at process.pages v ≡ Some page → IsOwned G.block e page
+    found : (e p v : ℕ) (process : ProcessState) (page : Page) → at (G.memory e).processes p ≡ Some process → at process.pages v ≡ Some page → IsOwned G.block e page
     found e p v process page one two =
         let all : OwnsAll G.block e process = all_at (OwnsAll G.block e) (G.memory e).processes p process (sound.owned e) one in
         all_at (IsOwned G.block e) process.pages v page all two

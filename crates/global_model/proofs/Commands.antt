@@ -34,9 +34,12 @@ use Rattle.global_model.proofs.Pasts.{after_lines-append}
 use Rattle.global_model.proofs.Refused.{AreUnmet, all_unmet, not_false}
 use Rattle.global_model.proofs.Tree.{near-turned, near_living, living_born, near_newborn}
 use Rattle.global_model.proofs.Sound.{IsSound, sound_line, sound_start, apt_append}
-use Rattle.global_model.proofs.Tells.{tells_bytes, tells_routes, tells_states}
-use Rattle.global_model.proofs.Writes.{each-append, each_either}
-use Rattle.global_model.proofs.Turns.{begin_turn, end_turn, lives_in, IsClose, IsProper, AreProper, IsUpTo, proper_lines, number_fits}
+use Rattle.global_model.proofs.Tells.{tells_bytes, tells_names, tells_routes, tells_states}
+use Rattle.xm_num.specs.declared.Segid.{Segid}
+use Rattle.xemem_language.specs.Ranges.{IsName}
+use Rattle.enclave_rules.specs.Segments.{make_acts, remove_acts}
+use Rattle.global_model.proofs.Writes.{each-append, each_either, writes_make, writes_remove}
+use Rattle.global_model.proofs.Turns.{begin_turn, end_turn, lives_in, IsClose, IsProper, AreProper, IsUpTo, proper_lines, number_fits, proper_writes, knows_proper}
 use Rattle.global_model.proofs.Deliveries.{proper_tells, deliver_up_to, settle_up_to}
 
 -- What holds wherever a command has ended, so many commands having been carried out. No enclave is born before the second.
@@ -233,6 +236,47 @@ run_alloc before G e p page count late ready =
     let unmet = all_unmet (conditions_of G c) none in
     run_line before B _ late begin (record { living = not_false _ unmet.0; running = not_false _ unmet.1.0; count = count; lowest = refl }) (λ a b. refl))
 
+-- ---- calls that may need the name server
+
+-- an enclave that lives, and the host with it
+record AreUp (B : Facts) (e : Enclave) : Type 0 where
+  own : lives_in B e.0 ≡ true
+  host : lives_in B 0 ≡ true
+
+are_up : (B : Facts) (e : Enclave) → IsSound B → is_living_enclave (B.enclave e.0) ≡ true → AreUp B e
+are_up B e sound living = record { own = living; host = sound.tree.root (omega (arith, living_born B e.0 sound.tree living)) }
+
+proper_make : (B : Facts) (e : Enclave) (p : Pid) → IsSound B → is_living_enclave (B.enclave e.0) ≡ true
+    → AreProper (is_neighbour B) (lives_in B) (make_acts B.hand (view_of B e) p)
+proper_make B e p sound living =
+    let up : AreUp B e = are_up B e sound living in
+    writes_make (IsProper (is_neighbour B) (lives_in B)) (λ x. is_neighbour B e.0 x.0 ≡ true) (λ r. is_valid r ≡ true) (view_of B e)
+    (proper_writes (is_neighbour B) (lives_in B) (view_of B e) up.own up.host) (knows_proper (is_neighbour B) (view_of B e) (sound.near e.0)) (λ m is. is)
+    (λ p call. up.own) B.hand p
+
+proper_remove : (B : Facts) (e : Enclave) (segid : Segid) → IsName segid.0 → IsSound B → is_living_enclave (B.enclave e.0) ≡ true
+    → AreProper (is_neighbour B) (lives_in B) (remove_acts (view_of B e) segid)
+proper_remove B e segid range sound living =
+    let up : AreUp B e = are_up B e sound living in
+    writes_remove (IsProper (is_neighbour B) (lives_in B)) (λ x. is_neighbour B e.0 x.0 ≡ true) (λ r. is_valid r ≡ true) (view_of B e)
+    (proper_writes (is_neighbour B) (lives_in B) (view_of B e) up.own up.host) segid (up.own, range) (knows_proper (is_neighbour B) (view_of B e) (sound.near e.0)) (λ m is. is)
+
+run_make : (before : ℕ) (G : Facts) (e : Enclave) (p : Pid) (addr size mode : ℕ) → 1 ≤ before → IsReadyAfter before G
+    → IsAptRun (before + 1) G (step_lines G (commands.Make e p addr size mode))
+run_make before G e p addr size mode late ready =
+    let c = commands.Make e p addr size mode in
+    let B = begun G c in
+    let begin : IsReadyAfter before B = record { sound = sound_line G (lines.Do c) ready.sound tt; got = ready.got; unborn = ready.unborn } in
+    run_proper before G c late tt begin (λ none. let unmet = all_unmet (conditions_of G c) none in proper_make B e p begin.sound (not_false _ unmet.0))
+
+run_remove : (before : ℕ) (G : Facts) (e : Enclave) (p : Pid) (segid : Segid) → 1 ≤ before → IsReadyAfter before G → IsName segid.0
+    → IsAptRun (before + 1) G (step_lines G (commands.Remove e p segid))
+run_remove before G e p segid late ready range =
+    let c = commands.Remove e p segid in
+    let B = begun G c in
+    let begin : IsReadyAfter before B = record { sound = sound_line G (lines.Do c) ready.sound tt; got = ready.got; unborn = ready.unborn } in
+    run_proper before G c late tt begin (λ none. let unmet = all_unmet (conditions_of G c) none in proper_remove B e segid range begin.sound (not_false _ unmet.0))
+
 proper_touched : (near : ℕ → ℕ → Bool) (lives : ℕ → Bool) (e : Enclave) (p : Pid) (page : Vpn) (mapping : Option Mapping)
     → AreProper near lives (touched_lines e p page mapping)
 proper_touched near lives e p page None = tt
@@ -293,6 +337,12 @@ module _ (before : ℕ) (G : Facts) (ready : IsReadyAfter before G) where
       let waiting = waiting_in G x.0 y.0 in
       run_told c (late_by _ may) tt (begin c tt (λ a b. refl) refl)
       (tells_bytes (IsProper (is_neighbour G) (lives_in G)) (proper_tells (is_neighbour G) (lives_in G)) x y (length waiting) 0 waiting)
+  run_step (commands.Make e p addr size mode) may range = run_make before G e p addr size mode (late_by _ may) ready
+  run_step (commands.Remove e p segid) may range = run_remove before G e p segid (late_by _ may) ready range.2
+  run_step commands.ShowNames may range =
+      let c = commands.ShowNames in
+      run_told c (late_by _ may) tt (begin c tt (λ a b. refl) refl)
+      (tells_names (IsProper (is_neighbour G) (lives_in G)) (λ segid owner range. range) (G.names G.holder.0).pairs (ready.sound.named G.holder.0))
   run_step commands.ShowPool may range =
       let c = commands.ShowPool in
       run_told c (late_by _ may) tt (begin c tt (λ a b. refl) refl)

@@ -18,9 +18,10 @@ use Rattle.global_model.specs.Apt.{IsTaking}
 use Rattle.global_model.proofs.Sound.{IsSound}
 use Rattle.global_model.proofs.Turns.{at_pair_same, IsTurn, begin_turn, lives_in, IsClose, IsUpTo, got_step}
 use Rattle.global_model.proofs.Deliveries.{took}
-use Rattle.global_model.proofs.Views.{about_record, seen_own, seen_other}
+use Rattle.global_model.proofs.Views.{about_record, IsHeldBy, seen_own, seen_other}
 use Rattle.global_model.proofs.Plain.{each-weaker}
-use Rattle.global_model.proofs.Seen.{IsLater, seen_by, about_later}
+use Rattle.global_model.specs.Parts.{Opening, Lacks}
+use Rattle.global_model.proofs.Seen.{seen_by, about_later}
 
 -- ---- the record that is got next
 
@@ -71,13 +72,14 @@ module _ (near : ℕ → ℕ → Bool) (lives : ℕ → Bool) (x y : Enclave) (c
       let answer = record_lines v x r in
       let K = after_line G (lines.Got x y) in
       let up : IsUpTo near lives x.0 y.0 rs G (handled_lines v x r) = got_step near lives x y close r rs G turn in
-      let about : AreAbout y answer = about_record v x r in
+      let held : IsHeldBy G.holder v = λ has. λ i. record { 0 = (turn.sound.server.held y.0 has).1 i } in
+      let about : AreAbout G.holder y answer = about_record G.holder v x r held in
       let hand : K.hand ≡ Reads r = hand_is (G.channel x.0 y.0) rs r (turn.arrives x.0 y.0 ∙ at_pair_same x.0 y.0 (λ none. r ∷ rs) (λ x y. [])) in
       let own : seen_lines G v (handled_lines v x r) ≡ after_record v x r
       = ap (λ w. seen_lines K w answer) (got_seen G x y v) ∙ seen_own answer K v (turn.sound.plain y.0) about ∙ ap (λ h. own_lines h v answer) hand in
       record {
         turn = up.turn;
-        view = seen_by (handled_lines v x r) G y (tt, each-weaker (IsAbout y) IsLater (about_later y) answer about) turn.sound up.apt ∙ own;
+        view = seen_by (handled_lines v x r) G y (tt, each-weaker (IsAbout G.holder y) (Lacks (Opening ∷ [])) (about_later G.holder y) answer about) turn.sound up.apt ∙ own;
         own = own;
         others = λ w apart. ap (λ u. seen_lines K u answer) (got_seen G x y w) ∙ seen_other answer K y w about apart;
       }

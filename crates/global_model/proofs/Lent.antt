@@ -12,10 +12,13 @@ use Rattle.frame_pool.specs.declared.BlockState.TheVariants as states
 use Rattle.frame_pool.specs.Blocks.{is_listed, is_free}
 use Rattle.xemem_language.specs.declared.line.Line.TheVariants as lines
 use Rattle.enclave_rules.specs.Core.{is_guest}
-use Rattle.enclave_rules.specs.Memory.{ProcessView, is_used, unused}
+use Rattle.attach_map.specs.Attaching.{ProcessState}
+use Rattle.xm_num.specs.declared.Frame.{Frame}
+use Rattle.exporter_pins.specs.Holdings.{Export, is_covered}
+use Rattle.enclave_rules.specs.Memory.{is_used, unused}
 use Rattle.enclave_rules.specs.Pages.{frame_list, frames_of}
 use Rattle.global_model.specs.Facts.{Facts, fact_of, is_living_enclave, after_line}
-use Rattle.global_model.specs.Space.{is_lent_to, is_own_frame, is_unused, unused_frames, blocks_left}
+use Rattle.global_model.specs.Space.{is_export_frame, is_lent_to, is_own_frame, is_unused, unused_frames, blocks_left}
 use Rattle.global_model.proofs.Runs.{filter_run-same, filter_groups, is_among, first_of_run, first_taken, first_passes}
 
 -- ---- blocks
@@ -133,13 +136,19 @@ frames_passing lent q pool =
 -- an enclave that is no virtual machine names frames as the machine does
 own_is_used : (G : Facts) (e f : ℕ) → is_guest (fact_of (G.enclave e)).kind ≡ false → is_own_frame G e f ≡ is_used (G.memory e) f
 own_is_used G e f plain =
-    ap (λ guest. list_any (λ (process : ℕ × ProcessView). list_any (λ (row : ℕ × Page). row.1.own && eqb (cond guest (get_or (frames_of (fact_of (G.enclave e)).blocks) row.1.frame.0 row.1.frame) row.1.frame).0 f) process.1.pages) (G.memory e).processes) plain
+    ap (λ guest. list_any (λ (process : ℕ × ProcessState). list_any (λ (row : ℕ × Page). row.1.own && eqb (cond guest (get_or (frames_of (fact_of (G.enclave e)).blocks) row.1.frame.0 row.1.frame) row.1.frame).0 f) process.1.pages) (G.memory e).processes) plain
+
+exported_seen : (G : Facts) (e f : ℕ) → is_guest (fact_of (G.enclave e)).kind ≡ false → is_export_frame G e f ≡ is_covered (G.exports e) f
+exported_seen G e f plain =
+    ap (λ guest. list_any (λ (row : ℕ × Export). list_any (λ (own : Frame). eqb (cond guest (get_or (frames_of (fact_of (G.enclave e)).blocks) own.0 own) own).0 f) row.1.frames) (G.exports e)) plain
 
 -- the unused frames, by the facts, are those that the enclave has in no use
 pub unused_seen : (G : Facts) (e : ℕ) → is_living_enclave (G.enclave e) ≡ true → is_guest (fact_of (G.enclave e)).kind ≡ false
-    → (fact_of (G.enclave e)).blocks ≡ lent_blocks G e → unused_frames G e ≡ unused (fact_of (G.enclave e)).blocks (G.memory e)
+    → (fact_of (G.enclave e)).blocks ≡ lent_blocks G e → unused_frames G e ≡ unused (fact_of (G.enclave e)).blocks (G.memory e) (G.exports e)
 unused_seen G e living plain lent =
     let lent_to : ℕ → Bool = λ b. is_lent_to e (G.block b) in
-    let same : filter (is_unused G e) (range_with_len 0 (64 * G.pool)) ≡ filter (λ f. lent_to (f / 64) && not (is_used (G.memory e) f)) (range_with_len 0 (64 * G.pool))
-    = filter_run-same (is_unused G e) (λ f. lent_to (f / 64) && not (is_used (G.memory e) f)) 0 (64 * G.pool) (λ f low high. rw (living, own_is_used G e f plain) refl) in
-    ap frame_list same ∙ frames_passing lent_to (λ f. not (is_used (G.memory e) f)) G.pool ∙ ap (λ bs. unused bs (G.memory e)) (sym lent)
+    let used : ℕ → Bool = λ f. is_used (G.memory e) f || is_covered (G.exports e) f in
+    let same : filter (is_unused G e) (range_with_len 0 (64 * G.pool)) ≡ filter (λ f. lent_to (f / 64) && not (used f)) (range_with_len 0 (64 * G.pool))
+    = filter_run-same (is_unused G e) (λ f. lent_to (f / 64) && not (used f)) 0 (64 * G.pool)
+        (λ f low high. rw (living, own_is_used G e f plain, exported_seen G e f plain) refl) in
+    ap frame_list same ∙ frames_passing lent_to (λ f. not (used f)) G.pool ∙ ap (λ bs. unused bs (G.memory e) (G.exports e)) (sym lent)

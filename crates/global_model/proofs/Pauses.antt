@@ -7,6 +7,7 @@ use Rattle.xm_num.specs.declared.Enclave.{Enclave}
 use Rattle.xm_num.specs.declared.Pid.{Pid}
 use Rattle.xm_num.specs.declared.Vpn.{Vpn}
 use Rattle.xm_num.specs.declared.Want.{Want}
+use Rattle.xm_num.specs.declared.Segid.{Segid}
 use Rattle.xm_num.specs.declared.Kind.{Kind}
 use Rattle.xm_num.specs.declared.Cause.{Cause}
 use Rattle.xemem_language.specs.declared.record.Record.{Record}
@@ -14,6 +15,7 @@ use Rattle.xemem_language.specs.declared.command.Command.{Command}
 use Rattle.xemem_language.specs.declared.command.Command.TheVariants as commands
 use Rattle.xemem_language.specs.declared.line.Line.{Line}
 use Rattle.xemem_language.specs.declared.line.Line.TheVariants as lines
+use Rattle.xemem_language.specs.declared.call.Call.TheVariants as calls
 use Rattle.xemem_language.specs.Ranges.{IsInRange}
 use Rattle.enclave_rules.specs.Core.{is_guest}
 use Rattle.enclave_rules.specs.Steps.{handled_lines}
@@ -25,12 +27,12 @@ use Rattle.global_model.specs.Space.{Mapping, space_of, blocks_left, unused_fram
 use Rattle.global_model.specs.Refusals.{conditions_of, refusal_of}
 use Rattle.global_model.specs.Place.{may_stand, IsPlacedAfter, IsPlaced}
 use Rattle.global_model.specs.Due.{next_enclave, touched_lines, got_lines, took_lines, deliver_lines, next_rest, first_waiting, settle_end, settle_from, acts_of, step_lines, journal_from, journal_of}
-use Rattle.global_model.specs.Pauses.{Step, Written, Hosts, Bears, Takes, Handles, written_by, written_in, MayStandAlone, MayCome, IsPause, AreSteps, IsInSteps}
+use Rattle.global_model.specs.Pauses.{Step, Written, Hosts, Bears, Takes, Handles, Asks, written_by, written_in, MayStandAlone, MayCome, IsPause, AreSteps, IsInSteps}
 use Rattle.global_model.proofs.Pasts.{after_lines-append}
 use Rattle.global_model.proofs.Refused.{all_unmet, not_false}
 use Rattle.global_model.proofs.Tree.{near-turned, living_born}
 use Rattle.global_model.proofs.Ways.{ways_near}
-use Rattle.global_model.proofs.Tells.{MayTell, tells_end, tells_bytes, tells_routes, tells_states}
+use Rattle.global_model.proofs.Tells.{MayTell, tells_end, tells_bytes, tells_names, tells_routes, tells_states}
 use Rattle.global_model.proofs.Writes.{EachIs}
 use Rattle.global_model.proofs.Sound.{IsSound, sound_line}
 use Rattle.global_model.proofs.Turns.{at_pair_same, IsTurn, begin_turn, end_turn, other_turn, lives_in, IsClose, IsProper, IsUpTo, proper_lines, got_step}
@@ -75,7 +77,7 @@ in_steps-append G ls ms first more =
 -- ---- pauses
 
 pause_sound : (G : Facts) → IsSound G → IsPause G
-pause_sound G sound = record { tree = sound.tree; ways = ways_near G sound.near; flows = sound.flows; apart = sound.apart }
+pause_sound G sound = record { tree = sound.tree; server = sound.server; ways = ways_near G sound.near; flows = sound.flows; apart = sound.apart }
 
 -- ---- lines by themselves
 
@@ -244,6 +246,22 @@ module _ (G : Facts) (sound : IsSound G) (got : NothingArrives G) where
       with_refusal c tt after got (λ none. one_in_steps B (Written (lines.Alloc e p page (take count (unused_frames B e.0)))) (pause_sound B after)
       (got, record { count = count; lowest = refl; allowed = none }))
 
+  make_in_steps : (e : Enclave) (p : Pid) (addr size mode : ℕ) → IsInSteps G (step_lines G (commands.Make e p addr size mode))
+  make_in_steps e p addr size mode =
+      let c = commands.Make e p addr size mode in
+      let B = begun G c in
+      let after : IsSound B = sound_line G (lines.Do c) sound tt in
+      with_refusal c tt after got (λ none. one_in_steps B (Asks e p (calls.Make addr size mode)) (pause_sound B after)
+      (got, record { command = c; asks = refl; allowed = none; hand = refl }))
+
+  remove_in_steps : (e : Enclave) (p : Pid) (segid : Segid) → IsInSteps G (step_lines G (commands.Remove e p segid))
+  remove_in_steps e p segid =
+      let c = commands.Remove e p segid in
+      let B = begun G c in
+      let after : IsSound B = sound_line G (lines.Do c) sound tt in
+      with_refusal c tt after got (λ none. one_in_steps B (Asks e p (calls.Remove segid)) (pause_sound B after)
+      (got, record { command = c; asks = refl; allowed = none; hand = refl }))
+
   touch_in_steps : (e : Enclave) (p : Pid) (addr : ℕ) (want : Want) → IsInSteps G (step_lines G (commands.Touch e p addr want))
   touch_in_steps e p addr want =
       let c = commands.Touch e p addr want in
@@ -307,6 +325,12 @@ command_in_steps before G ready (commands.ShowLink x y) may range =
     let c = commands.ShowLink x y in
     let waiting = waiting_in (begun G c) x.0 y.0 in
     shows_in_steps G ready.sound ready.got c tt (sound_line G (lines.Do c) ready.sound tt) ready.got (tells_bytes StandsAlone tells_aside x y (length waiting) 0 waiting)
+command_in_steps before G ready (commands.Make e p addr size mode) may range = make_in_steps G ready.sound ready.got e p addr size mode
+command_in_steps before G ready (commands.Remove e p segid) may range = remove_in_steps G ready.sound ready.got e p segid
+command_in_steps before G ready commands.ShowNames may range =
+    let c = commands.ShowNames in
+    shows_in_steps G ready.sound ready.got c tt (sound_line G (lines.Do c) ready.sound tt) ready.got
+    (tells_names StandsAlone (λ segid owner range. record { proper = λ near lives. range; alone = λ G. tt }) (G.names G.holder.0).pairs (ready.sound.named G.holder.0))
 command_in_steps before G ready commands.ShowPool may range =
     let c = commands.ShowPool in
     shows_in_steps G ready.sound ready.got c tt (sound_line G (lines.Do c) ready.sound tt) ready.got

@@ -9,7 +9,11 @@ use Rattle.xemem_language.specs.declared.line.Line.{Line}
 use Rattle.xemem_language.specs.declared.line.Line.TheVariants as lines
 use Rattle.global_model.specs.Facts.{Facts, after_line, after_lines}
 use Rattle.global_model.specs.Channels.{waiting_in, arriving}
+use Rattle.xm_num.specs.declared.Pid.{Pid}
+use Rattle.xm_num.specs.declared.Segid.{Segid}
 use Rattle.enclave_rules.specs.Core.{host}
+use Rattle.enclave_rules.specs.Hand.{Hand}
+use Rattle.enclave_rules.specs.Segments.{make_acts, name_rows, remove_acts}
 use Rattle.enclave_rules.specs.View.{View}
 use Rattle.enclave_rules.specs.Sending.{knows_way}
 use Rattle.global_model.specs.Views.{view_of}
@@ -17,7 +21,7 @@ use Rattle.enclave_rules.specs.Steps.{query_of, record_lines, child_lines, told_
 use Rattle.global_model.specs.Due.{got_lines, took_lines, deliver_lines, link_lines, next_rest, first_waiting, settle_end, settle_from}
 use Rattle.global_model.specs.Plain.{IsPlain, ArePlain}
 use Rattle.global_model.proofs.Tells.{MayTell, tells_told, tells_bytes, tells_end, tells_routes, tells_states}
-use Rattle.global_model.proofs.Writes.{EachIs, each-append, each_either, writes_record}
+use Rattle.global_model.proofs.Writes.{EachIs, KnowsNear, MayWrite, each-append, each_either, writes_make, writes_record, writes_remove}
 
 plain-append : (ls ms : List Line) → ArePlain ls → ArePlain ms → ArePlain (ls ++ ms)
 plain-append ls ms first more = each-append IsPlain ls ms first more
@@ -48,23 +52,39 @@ plain_tells = record {
   held = λ b e. tt;
 }
 
+plain_writes : (v : View) → MayWrite IsPlain (λ x. Unit {0}) (λ sent. Unit {0}) v
+plain_writes v = record {
+  dropped = tt;
+  admitted = tt;
+  asked = λ x near. tt;
+  way = λ x near. tt;
+  back = λ d x near. tt;
+  route = λ d x near. tt;
+  drew = λ held e call segid range. tt;
+  named = λ call segid range. tt;
+  unnamed = λ held segid range. tt;
+  answered = λ p call segid range. tt;
+  sent = λ x sent near good. tt;
+}
+
+knows_any : (v : View) → KnowsNear (λ x. Unit {0}) v
+knows_any v = record { way = λ x is. tt; askers = λ k d lt. tt; backs = λ k d lt. tt; routes = λ k d lt. tt }
+
 -- what is written for a record, whatever the enclave knows and is sent
 plain_record : (v : View) (from : Enclave) (r : Record) → ArePlain (record_lines v from r)
 plain_record v from r =
-    writes_record IsPlain (λ x. Unit {0}) (λ sent. Unit {0}) v
-    (record {
-      dropped = tt;
-      admitted = tt;
-      asked = λ x near. tt;
-      way = λ x near. tt;
-      back = λ d x near. tt;
-      route = λ d x near. tt;
-      sent = λ x sent near good. tt;
-    })
+    writes_record IsPlain (λ x. Unit {0}) (λ sent. Unit {0}) v (plain_writes v)
     from r
-    (record { way = λ x is. tt; askers = λ k d lt. tt; backs = λ k d lt. tt })
+    (knows_any v)
     tt
-    (record { here = tt; register = tt; admit = tt; passed = tt })
+    (record { here = tt; register = tt; admit = tt; made = λ m valid. tt; passed = tt })
+
+-- what is written for a make and a remove
+pub plain_make : (hand : Hand) (v : View) (p : Pid) → ArePlain (make_acts hand v p)
+plain_make hand v p = writes_make IsPlain (λ x. Unit {0}) (λ sent. Unit {0}) v (plain_writes v) (knows_any v) (λ m valid. tt) (λ p call. tt) hand p
+
+pub plain_remove : (v : View) (segid : Segid) → ArePlain (remove_acts v segid)
+plain_remove v segid = writes_remove IsPlain (λ x. Unit {0}) (λ sent. Unit {0}) v (plain_writes v) segid tt (knows_any v) (λ m valid. tt)
 
 -- ---- the lines of the commands over channels
 
@@ -119,6 +139,10 @@ plain_host ns = plain_either ns (lines.Admitted host ∷ []) [] (tt, tt) tt
 
 pub plain_routes : (v : View) → ArePlain (route_lines v)
 plain_routes v = tells_routes IsPlain plain_tells v
+
+pub plain_names : (pairs : List (ℕ × Enclave)) → ArePlain (name_rows pairs)
+plain_names [] = tt
+plain_names (row ∷ pairs) = (tt, plain_names pairs)
 
 pub plain_pool : (G : Facts) → ArePlain (state_lines 0 (map G.block (range_with_len 0 G.pool)))
 plain_pool G = tells_states IsPlain plain_tells 0 (map G.block (range_with_len 0 G.pool))

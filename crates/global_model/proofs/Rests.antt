@@ -32,7 +32,11 @@ use Rattle.global_model.proofs.Tells.{MayTell, tells_bytes, tells_routes, tells_
 use Rattle.global_model.proofs.Pasts.{Follows-append, facts_at-onto}
 use Rattle.global_model.proofs.Settles.{IsInner, IsSettled, deliveries-append, inner_deliver, settle_flows, settled_before, settled_by}
 use Rattle.global_model.proofs.Waiting.{none_rests, rests_none}
-use Rattle.global_model.proofs.Writes.{EachIs, each-append, each_either}
+use Rattle.xm_num.specs.declared.Segid.{Segid}
+use Rattle.enclave_rules.specs.Hand.{Hand}
+use Rattle.enclave_rules.specs.Names.{segid_of}
+use Rattle.enclave_rules.specs.Segments.{make_acts, name_rows, remove_acts}
+use Rattle.global_model.proofs.Writes.{EachIs, KnowsNear, MayWrite, each-append, each_either, writes_make, writes_remove}
 
 -- ---- inner lines
 
@@ -98,6 +102,30 @@ inner_tells = record {
   lent = λ b e. tt;
   held = λ b e. tt;
 }
+
+inner_writes : (v : View) → MayWrite IsInner (λ x. Unit {0}) (λ r. Unit {0}) v
+inner_writes v = record {
+  dropped = tt;
+  admitted = tt;
+  asked = λ x near. tt;
+  way = λ x near. tt;
+  back = λ d x near. tt;
+  route = λ d x near. tt;
+  drew = λ held e call segid range. tt;
+  named = λ call segid range. tt;
+  unnamed = λ held segid range. tt;
+  answered = λ p call segid range. tt;
+  sent = λ x r near good. tt;
+}
+
+inner_knows : (v : View) → KnowsNear (λ x. Unit {0}) v
+inner_knows v = record { way = λ x is. tt; askers = λ k d lt. tt; backs = λ k d lt. tt; routes = λ k d lt. tt }
+
+inner_make : (hand : Hand) (v : View) (p : Pid) → EachIs IsInner (make_acts hand v p)
+inner_make hand v p = writes_make IsInner (λ x. Unit {0}) (λ r. Unit {0}) v (inner_writes v) (inner_knows v) (λ m valid. tt) (λ p call. tt) hand p
+
+inner_remove : (v : View) (segid : Segid) → EachIs IsInner (remove_acts v segid)
+inner_remove v segid = writes_remove IsInner (λ x. Unit {0}) (λ r. Unit {0}) v (inner_writes v) segid tt (inner_knows v) (λ m valid. tt)
 
 -- ---- a settle
 
@@ -165,6 +193,15 @@ rests_acts past (commands.Settle most) sound none = rests_settle past most sound
 rests_acts past (commands.ShowRoutes e) sound none =
     rests_inner (route_lines (view_of (facts_at past) e)) (lines.Do (commands.ShowRoutes e) ∷ past) (tells_routes IsInner inner_tells (view_of (facts_at past) e))
 rests_acts past (commands.ShowLink x y) sound none = rests_inner _ _ (tells_bytes IsInner inner_tells x y _ 0 (waiting_in (facts_at past) x.0 y.0))
+rests_acts past (commands.Make e p addr size mode) sound none =
+    let H = facts_at (lines.Do (commands.Make e p addr size mode) ∷ past) in
+    rests_inner (make_acts H.hand (view_of H e) p) _ (inner_make H.hand (view_of H e) p)
+rests_acts past (commands.Remove e p segid) sound none =
+    let H = facts_at (lines.Do (commands.Remove e p segid) ∷ past) in
+    rests_inner (remove_acts (view_of H e) segid) _ (inner_remove (view_of H e) segid)
+rests_acts past commands.ShowNames sound none =
+    let G = facts_at past in
+    rests_inner (name_rows (G.names G.holder.0).pairs) _ (inner_map (λ (row : ℕ × Enclave). lines.Name (segid_of row.0) row.1) (G.names G.holder.0).pairs (λ row. tt))
 rests_acts past commands.ShowPool sound none =
     let G = facts_at past in rests_inner _ _ (tells_states IsInner inner_tells 0 (map G.block (range_with_len 0 G.pool)))
 rests_acts past _ sound none = tt

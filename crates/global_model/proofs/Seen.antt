@@ -19,6 +19,7 @@ use Rattle.global_model.specs.Apt.{IsApt, AreApt}
 use Rattle.global_model.specs.Place.{IsPlaced}
 use Rattle.global_model.specs.Journals.{Follows}
 use Rattle.global_model.specs.Due.{command_lines, step_lines, journal_of}
+use Rattle.global_model.specs.Parts.{Opening, Lacks}
 use Rattle.global_model.specs.Plain.{IsAct}
 use Rattle.global_model.specs.Handled.{SeenAt}
 use Rattle.global_model.proofs.Pasts.{facts_by-more}
@@ -26,7 +27,7 @@ use Rattle.global_model.proofs.Tree.{child_under, living_born}
 use Rattle.global_model.proofs.Runs.{map_run-same, filter_run-none}
 use Rattle.global_model.proofs.Lent.{IsOfPool}
 use Rattle.global_model.proofs.Sound.{IsSound, no_fact, sound_line, sound_start}
-use Rattle.global_model.proofs.Shown.{SeesLine, same_core, ways_shown, memory_shown, shown_admitted}
+use Rattle.global_model.proofs.Shown.{SeesLine, same_core, ways_shown, memory_shown, exports_shown, names_shown, call_shown, shown_admitted}
 use Rattle.global_model.proofs.Births.{shown_born}
 use Rattle.global_model.proofs.Writes.{EachIs}
 use Rattle.global_model.proofs.Plain.{each-weaker}
@@ -40,13 +41,9 @@ unmoved : (at : Bool) (v : View) → v ≡ cond at v v
 unmoved true v = refl
 unmoved false v = refl
 
--- a line that doesn't make the pool, which is before all enclaves
-abbrev pub IsLater : Line → Type 0
-IsLater (lines.Do (commands.Pool blocks)) = ⊥
-IsLater line = Unit {0}
-
-pub shown_line : (G : Facts) (line : Line) (k : Enclave) → IsLater line → IsSound G → IsApt G line → SeesLine G k line
-shown_line G (lines.Do (commands.Pool blocks)) k later sound apt = absurd later
+-- a line that begins no command
+pub shown_line : (G : Facts) (line : Line) (k : Enclave) → Lacks (Opening ∷ []) line → IsSound G → IsApt G line → SeesLine G k line
+shown_line G (lines.Do command) k later sound apt = absurd later
 shown_line G (lines.Born e kind parent ns blocks) k later sound apt = shown_born G e kind parent ns blocks sound apt k
 shown_line G (lines.Told e of) k later sound apt = absurd apt
 shown_line G (lines.Heard e of) k later sound apt = absurd apt
@@ -57,29 +54,40 @@ shown_line G (lines.Asked e by) k later sound apt = ways_shown G e k (lines.Aske
 shown_line G (lines.Way e over) k later sound apt = ways_shown G e k (lines.Way e over)
 shown_line G (lines.Back e of over) k later sound apt = ways_shown G e k (lines.Back e of over)
 shown_line G (lines.Route e of over) k later sound apt = ways_shown G e k (lines.Route e of over)
-shown_line G line k later sound apt = unmoved (is_at k line) (view_of G k)
+shown_line G (lines.Issue e p call) k later sound apt = call_shown G e k (lines.Issue e p call)
+shown_line G (lines.Drew e call segid) k later sound apt = names_shown G k (lines.Drew e call segid)
+shown_line G (lines.Named e call segid) k later sound apt = exports_shown G e k (lines.Named e call segid)
+shown_line G (lines.Unnamed segid) k later sound apt = names_shown G k (lines.Unnamed segid)
+shown_line G (lines.Remove e segid) k later sound apt = exports_shown G e k (lines.Remove e segid)
+shown_line G (lines.AnswerSegid e p call segid) k later sound apt = memory_shown G e k (lines.AnswerSegid e p call segid)
+shown_line G line k later sound apt = unmoved (is_at G.holder k line) (view_of G k)
 
-pub seen_by : (ls : List Line) (G : Facts) (k : Enclave) → EachIs IsLater ls → IsSound G → AreApt G ls → view_of (after_lines G ls) k ≡ seen_lines G (view_of G k) ls
+pub seen_by : (ls : List Line) (G : Facts) (k : Enclave) → EachIs (Lacks (Opening ∷ [])) ls → IsSound G → AreApt G ls → view_of (after_lines G ls) k ≡ seen_lines G (view_of G k) ls
 seen_by [] G k later sound apt = refl
 seen_by (l ∷ ls) G k later sound apt =
     seen_by ls (after_line G l) k later.1 (sound_line G l sound apt.0) apt.1
     ∙ ap (λ v. seen_lines (after_line G l) v ls) (shown_line G l k later.0 sound apt.0)
 
--- acts make no pool, and no line about an enclave does
-act_later : (line : Line) → IsAct line → IsLater line
+-- acts begin no command, and no line about an enclave does
+act_later : (line : Line) → IsAct line → Lacks (Opening ∷ []) line
 act_later (lines.Do command) act = absurd act
 act_later _ act = tt
 
-pub about_later : (y : Enclave) (line : Line) → IsAbout y line → IsLater line
-about_later y (lines.Do command) about = absurd about
-about_later y _ about = tt
+pub about_later : (holder y : Enclave) (line : Line) → IsAbout holder y line → Lacks (Opening ∷ []) line
+about_later holder y (lines.Do command) about = absurd about
+about_later holder y _ about = tt
 
 -- ---- commands
 
+-- a `do` line leaves the views of those that live: the pool is made before them
+opened_same : (G : Facts) (c : Command) (e : Enclave) → IsSound G → IsApt G (lines.Do c) → is_living_enclave (G.enclave e.0) ≡ true
+    → view_of (after_line G (lines.Do c)) e ≡ view_of G e
+opened_same G (commands.Pool blocks) e sound apt living = let born = living_born G e.0 sound.tree living in absurd (omega (arith, born, apt))
+opened_same G _ e sound apt living = refl
+
 -- along a journal, the view of an enclave that lives after a line is what the line leaves of its view
 seen_at : (past : List Line) (line : Line) → IsSound (facts_at past) → IsApt (facts_at past) line → SeenAt past line
-seen_at past (lines.Do (commands.Pool blocks)) sound apt e living =
-    let born = living_born (facts_at past) e.0 sound.tree living in absurd (omega (arith, born, apt))
+seen_at past (lines.Do command) sound apt e living = opened_same (facts_at past) command e sound apt living
 seen_at past line sound apt e living = shown_line (facts_at past) line e tt sound apt
 
 follows_seen : (ls past : List Line) → IsSound (facts_at past) → AreApt (facts_at past) ls → Follows SeenAt past ls
@@ -92,7 +100,7 @@ journal_of-seen cs placed = follows_seen (journal_of cs) [] sound_start (runs_af
 -- what the last command of a scenario leaves of the view of an enclave that lives then
 begun_same : (G : Facts) (c : Command) (e : Enclave) → IsSound G → IsApt G (lines.Do c) → is_living_enclave ((after_lines G (step_lines G c)).enclave e.0) ≡ true
     → view_of (after_line G (lines.Do c)) e ≡ view_of G e
-begun_same G (commands.Pool blocks) e sound apt living = let born = living_born G e.0 sound.tree living in absurd (omega (arith, born, apt))
+begun_same G (commands.Pool blocks) e sound apt living = opened_same G (commands.Pool blocks) e sound apt living
 begun_same G _ e sound apt living = refl
 
 pub seen_after : (cs : List Command) (one : Command) → IsPlaced (cs ++ one ∷ []) → (e : Enclave) → is_living_enclave ((facts_after (journal_of (cs ++ one ∷ []))).enclave e.0) ≡ true
@@ -105,7 +113,7 @@ seen_after cs one placed e living =
     let begun : view_of H e ≡ view_of G e
     = begun_same G one e last.ready.sound last.run.apt.0 (ap (λ K. is_living_enclave (K.enclave e.0)) (sym more) ∙ living) in
     ap (λ K. view_of K e) more
-    ∙ seen_by (command_lines G one) H e (each-weaker IsAct IsLater act_later (command_lines G one) (command_lines-acts G one)) (sound_line G (lines.Do one) last.ready.sound last.run.apt.0) last.run.apt.1
+    ∙ seen_by (command_lines G one) H e (each-weaker IsAct (Lacks (Opening ∷ [])) act_later (command_lines G one) (command_lines-acts G one)) (sound_line G (lines.Do one) last.ready.sound last.run.apt.0) last.run.apt.1
     ∙ ap (λ v. seen_lines H v (command_lines G one)) begun
 
 -- ---- who isn't born
@@ -142,8 +150,10 @@ unborn_known G sound e le =
     }) in
     let ways = sound.unaware e.0 le in
     let memory = sound.empty e.0 le in
+    let exports = sound.unasked e.0 le in
+    let names = sound.nameless e.0 le in
     let host = host_unborn G sound e le in
-    λ i. record { me = e; core = core i; ways = ways i; memory = memory i; host = host i }
+    λ i. record { me = e; core = core i; ways = ways i; memory = memory i; exports = exports i; names = names i; host = host i }
   where
     childless : (c : ℕ) → c < G.born → is_child_of G c e.0 ≡ false
     childless c born = false_from_ne_true (is_child_of G c e.0) (λ is. let under = child_under G c e.0 sound.tree is in omega (arith, under.above, born, le))

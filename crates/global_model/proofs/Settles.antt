@@ -17,8 +17,9 @@ use Rattle.enclave_rules.specs.Steps.{record_lines, handled_lines}
 use Rattle.global_model.specs.Refusals.{refusal_of}
 use Rattle.xemem_language.specs.Ranges.{IsInRange}
 use Rattle.global_model.specs.Place.{may_stand, IsPlacedAfter, IsPlaced}
-use Rattle.global_model.specs.Due.{got_lines, deliver_lines, next_rest, first_waiting, settle_end, settle_from, command_lines, journal_of}
+use Rattle.global_model.specs.Due.{got_lines, deliver_lines, next_rest, first_waiting, settle_end, settle_from, command_lines, journal_of, rest_of_record}
 use Rattle.global_model.specs.Journals.{is_delivery, deliveries_in}
+use Rattle.global_model.specs.Parts.{Opening, Closing, Delivery, Lacks}
 use Rattle.global_model.specs.Flow.{IsTree, IsFlowing}
 use Rattle.global_model.specs.Rest.{IsAtRest, EndsSettle}
 use Rattle.global_model.proofs.Pasts.{after_lines-append, facts_by-more}
@@ -29,7 +30,7 @@ use Rattle.global_model.proofs.Plain.{each-weaker}
 use Rattle.global_model.specs.Apt.{NothingArrives}
 use Rattle.global_model.proofs.Sound.{IsSound, sound_line, sound_flowing}
 use Rattle.global_model.proofs.Turns.{begin_turn, end_turn, lives_in}
-use Rattle.global_model.proofs.Waiting.{IsWaiting, first_waits, first_some, rest_waits, none_rests, rests_none}
+use Rattle.global_model.proofs.Waiting.{IsWaiting, RecordsAreShort, first_waits, first_some, rest_short, rest_waits, none_rests, rests_none}
 use Rattle.global_model.proofs.Deliveries.{settle_at, settle_up_to}
 use Rattle.global_model.proofs.Commands.{runs_after, sound_after}
 
@@ -40,40 +41,51 @@ deliveries-append ls ms = ap length (filter-append is_delivery ls ms) ∙ length
 
 -- the line neither begins a command nor ends a settle
 abbrev pub IsInner : Line → Type 0
-IsInner (lines.Do command) = ⊥
-IsInner (lines.Settled made) = ⊥
-IsInner (lines.Waiting made) = ⊥
-IsInner line = Unit {0}
+IsInner line = Lacks (Opening ∷ Closing ∷ []) line
 
 -- nor is it a delivery
 abbrev IsOther : Line → Type 0
-IsOther line = (is_delivery line ≡ false) × IsInner line
+IsOther line = Lacks (Opening ∷ Closing ∷ Delivery ∷ []) line
+
+other_inner : (line : Line) → IsOther line → IsInner line
+other_inner (lines.Took x y count) other = absurd other
+other_inner (lines.End x y torn) other = absurd other
+other_inner _ other = other
+
+no_delivery : (line : Line) → IsOther line → is_delivery line ≡ false
+no_delivery (lines.Took x y count) other = absurd other
+no_delivery (lines.End x y torn) other = absurd other
+no_delivery _ other = refl
 
 no_deliveries : (ls : List Line) → EachIs IsOther ls → deliveries_in ls ≡ 0
 no_deliveries [] each = refl
-no_deliveries (l ∷ ls) each = rw (each.0.0) (no_deliveries ls each.1)
+no_deliveries (l ∷ ls) each = rw (no_delivery l each.0) (no_deliveries ls each.1)
 
 others_record : (v : View) (from : Enclave) (r : Record) → EachIs IsOther (record_lines v from r)
 others_record v from r =
     let all : (rows : List (ℕ × Enclave)) → AllRows (λ x. Unit {0}) rows = λ rows k d lt. tt in
     writes_record IsOther (λ x. Unit {0}) (λ r. Unit {0}) v
     (record {
-      dropped = (refl, tt);
-      admitted = (refl, tt);
-      asked = λ x near. (refl, tt);
-      way = λ x near. (refl, tt);
-      back = λ d x near. (refl, tt);
-      route = λ d x near. (refl, tt);
-      sent = λ x r near good. (refl, tt);
+      dropped = tt;
+      admitted = tt;
+      asked = λ x near. tt;
+      way = λ x near. tt;
+      back = λ d x near. tt;
+      route = λ d x near. tt;
+      drew = λ held e call segid range. tt;
+      named = λ call segid range. tt;
+      unnamed = λ held segid range. tt;
+      answered = λ p call segid range. tt;
+      sent = λ x r near good. tt;
     })
-    from r (record { way = λ x is. tt; askers = all v.ways.askers; backs = all v.ways.backs }) tt
-    (record { here = tt; register = tt; admit = tt; passed = tt })
+    from r (record { way = λ x is. tt; askers = all v.ways.askers; backs = all v.ways.backs; routes = all v.ways.routes }) tt
+    (record { here = tt; register = tt; admit = tt; made = λ m valid. tt; passed = tt })
 
 others_got : (G : Facts) (x y : Enclave) (rs : List Record) → EachIs IsOther (got_lines G x y rs)
 others_got G x y [] = tt
 others_got G x y (r ∷ rs) =
     let own = handled_lines (view_of G y) x r in
-    each-append IsOther own (got_lines (after_lines G own) x y rs) ((refl, tt), others_record (view_of G y) x r)
+    each-append IsOther own (got_lines (after_lines G own) x y rs) (tt, others_record (view_of G y) x r)
     (others_got (after_lines G own) x y rs)
 
 -- a delivery of what waits is one
@@ -93,7 +105,7 @@ inner_deliver G x y count =
     let H = after_line G (lines.Took x y n) in
     let rs = arriving (H.channel x.0 y.0) in
     each_either IsInner (eqb (length (waiting_in G x.0 y.0)) 0) (lines.Idle x y ∷ []) (lines.Took x y n ∷ got_lines H x y rs) (tt, tt)
-    (tt, each-weaker IsOther IsInner (λ line other. other.1) (got_lines H x y rs) (others_got H x y rs))
+    (tt, each-weaker IsOther IsInner other_inner (got_lines H x y rs) (others_got H x y rs))
 
 -- ---- how a settle ends
 
@@ -235,10 +247,12 @@ placed_after (first ∷ cs) before c placed may range =
     let same : before + suc (length cs) ≡ before + 1 + length cs = omega arith in
     (placed.0, placed.1, placed_after cs (before + 1) c placed.2 (ap (λ n. may_stand n c) (sym same) ∙ may) range)
 
-pub journal_of-placed : (cs : List Command) (x y : Enclave) → IsPlaced cs → first_waiting (facts_after (journal_of cs)) ≡ Some (x, y)
+pub journal_of-placed : RecordsAreShort → (cs : List Command) (x y : Enclave) → IsPlaced cs → first_waiting (facts_after (journal_of cs)) ≡ Some (x, y)
     → IsPlaced (cs ++ commands.Deliver x y (next_rest (facts_after (journal_of cs)) x y) ∷ [])
-journal_of-placed cs x y placed is =
+journal_of-placed short cs x y placed is =
     let G = facts_after (journal_of cs) in
+    let most : rest_of_record (G.channel x.0 y.0).taken (G.channel x.0 y.0).sent ≤ 16404
+    = rest_short short (G.channel x.0 y.0).taken (G.channel x.0 y.0).sent ((sound_after cs placed).flows x.0 y.0).valid in
     let tree : IsTree G = (sound_after cs placed).tree in
     let found : IsWaiting G x y = first_waits G x y tree is in
     let rest = rest_waits G x y found.some in
@@ -247,7 +261,7 @@ journal_of-placed cs x y placed is =
     let few : length cs ≤ 1 → G.born ≡ 0 = (runs_after cs placed).ready.unborn in
     let many : leb 2 (0 + length cs) ≡ true = le-leb 2 (0 + length cs) (by (length cs) G.born from few) in
     placed_after cs 0 (commands.Deliver x y (next_rest G x y)) placed (rw many refl)
-    ((omega arith, omega (arith, from, tree.most)), (omega arith, omega (arith, to, tree.most)), (rest.some, omega (arith, rest.most)))
+    ((omega arith, omega (arith, from, tree.most)), (omega arith, omega (arith, to, tree.most)), (rest.some, omega (arith, most)))
   where
     by : (n born : ℕ) → x.0 < born → (n ≤ 1 → born ≡ 0) → 2 ≤ 0 + n
     by zero born lt few = absurd (omega (arith, lt, few (omega arith)))

@@ -8,10 +8,12 @@ use Rattle.xemem_language.specs.declared.line.Line.TheVariants as lines
 use Rattle.enclave_rules.specs.Core.{CoreView, local_line}
 use Rattle.enclave_rules.specs.Ways.{ways_line}
 use Rattle.enclave_rules.specs.Memory.{memory_line}
+use Rattle.enclave_rules.specs.Exports.{exports_line}
+use Rattle.enclave_rules.specs.Names.{names_line}
 use Rattle.enclave_rules.specs.Host.{no_host}
-use Rattle.global_model.specs.Facts.{Facts, EnclaveFact, as_admitted, has_parent, fact_of, is_living_enclave, with_ways, with_memory, after_line}
+use Rattle.global_model.specs.Facts.{Facts, EnclaveFact, as_admitted, has_parent, fact_of, is_living_enclave, with_ways, with_memory, with_exports, with_names, with_call, after_line}
 use Rattle.global_model.specs.Views.{core_of, view_of, seen_line}
-use Rattle.global_model.proofs.Sound.{admitted_keeps, keeps_kind, keeps_blocks}
+use Rattle.global_model.proofs.Sound.{admitted_keeps, keeps_kind, keeps_blocks, keeps_ns}
 
 -- the line leaves of the enclave's view what it is to leave
 abbrev pub SeesLine : Facts → Enclave → Line → Type 0
@@ -58,15 +60,38 @@ memory_shown G a e line =
       | inr apart ↦ rw (ne_eqb a.0 e.0 apart, ne_eqb e.0 a.0 (λ same. apart (sym same))) refl
     ]
 
+pub exports_shown : (G : Facts) (a e : Enclave) (line : Line)
+    → view_of (with_exports a line G) e
+    ≡ cond (eqb a.0 e.0) (record (view_of G e) { exports = exports_line G.hand (G.memory e.0) (G.exports e.0) line }) (view_of G e)
+exports_shown G a e line =
+    elim (cases_eq a.0 e.0) [
+      | inl same ↦ rw (same, eq-eqb e.0 e.0 refl) refl
+      | inr apart ↦ rw (ne_eqb a.0 e.0 apart, ne_eqb e.0 a.0 (λ same. apart (sym same))) refl
+    ]
+
+pub names_shown : (G : Facts) (e : Enclave) (line : Line)
+    → view_of (with_names line G) e ≡ cond (eqb G.holder.0 e.0) (record (view_of G e) { names = names_line (G.names e.0) line }) (view_of G e)
+names_shown G e line =
+    elim (cases_eq G.holder.0 e.0) [
+      | inl same ↦ rw (same, eq-eqb e.0 e.0 refl) refl
+      | inr apart ↦ rw (ne_eqb G.holder.0 e.0 apart, ne_eqb e.0 G.holder.0 (λ same. apart (sym same))) refl
+    ]
+
+-- two parts change there
+pub call_shown : (G : Facts) (a e : Enclave) (line : Line)
+    → view_of (with_call a line G) e
+    ≡ cond (eqb a.0 e.0) (record (view_of G e) { memory = memory_line (G.memory e.0) (local_line (core_of G e.0).kind (core_of G e.0).blocks line); exports = exports_line G.hand (G.memory e.0) (G.exports e.0) line }) (view_of G e)
+call_shown G a e line =
+    elim (cases_eq a.0 e.0) [
+      | inl same ↦ rw (same, eq-eqb e.0 e.0 refl) refl
+      | inr apart ↦ rw (ne_eqb a.0 e.0 apart, ne_eqb e.0 a.0 (λ same. apart (sym same))) refl
+    ]
+
 -- ---- an admission
 
 keeps_parent : (o : Option EnclaveFact) → (fact_of (as_admitted o)).parent ≡ (fact_of o).parent
 keeps_parent None = refl
 keeps_parent (Some fact) = refl
-
-keeps_holder : (o : Option EnclaveFact) → (fact_of (as_admitted o)).ns ≡ (fact_of o).ns
-keeps_holder None = refl
-keeps_holder (Some fact) = refl
 
 keeps_living : (o : Option EnclaveFact) → is_living_enclave (as_admitted o) ≡ is_living_enclave o
 keeps_living None = refl
@@ -91,7 +116,7 @@ admitted_view G a e mark is =
       kind = kinds e.0;
       parent = parents e.0;
       blocks = admitted_keeps (λ o. (fact_of o).blocks) keeps_blocks G a e.0;
-      holder = admitted_keeps (λ o. (fact_of o).ns) keeps_holder G a e.0;
+      holder = admitted_keeps (λ o. (fact_of o).ns) keeps_ns G a e.0;
       admitted = is;
       heard = refl;
       children = λ i. map (λ c. (c, kinds c i)) (filter (λ c. not (eqb c 0) && family c i) (range_with_len 0 G.born));

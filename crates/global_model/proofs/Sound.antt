@@ -1,7 +1,7 @@
 -- What holds of the facts along a journal, and that apt lines keep it.
-use Rattle.std.proofs.Common.{◌≡◌, ◌≢◌, ◌+◌, ◌/◌, ◌<◌, ◌≤◌, ℕ, All, map, List, [], ◌∷◌, ◌++◌, Bool, true, false, cond, ◌&&◌, eqb, ltb, Option, None, Some, refl, sym, ap, ◌∙◌, subst, arith}
+use Rattle.std.proofs.Common.{◌≡◌, ◌≢◌, ◌⊎◌, inl, inr, ◌+◌, ◌/◌, ◌<◌, ◌≤◌, ℕ, All, map, List, [], ◌∷◌, ◌++◌, Bool, true, false, cond, ◌&&◌, ◌||◌, eqb, ltb, Option, None, Some, refl, sym, ap, ◌∙◌, subst, arith}
 use Rattle.std.specs.Prelude.{is_some}
-use Rattle.std.proofs.lemmas.Bool.{ne_eqb, le-ltb, eqb-true, eqb-false, and_parts}
+use Rattle.std.proofs.lemmas.Bool.{cases_eq, ne_eqb, le-ltb, eqb-true, eqb-false, and_parts, eq-eqb, or_right}
 use Rattle.xm_num.specs.declared.Enclave.{Enclave}
 use Rattle.xm_num.specs.declared.Kind.{Kind}
 use Rattle.xm_num.specs.declared.Block.{Block}
@@ -15,11 +15,24 @@ use Rattle.frame_pool.specs.Blocks.{is_free, is_listed}
 use Rattle.enclave_rules.specs.Core.{is_guest, local_frame, place_in}
 use Rattle.enclave_rules.specs.Pages.{frames_of}
 use Rattle.enclave_rules.specs.Ways.{WaysView, no_ways}
-use Rattle.enclave_rules.specs.Memory.{MemoryView, no_memory}
+use Rattle.attach_map.specs.Attaching.{AttacherState}
+use Rattle.std.specs.Map.{keys_of}
+use Rattle.std.specs.BTreeMap.{is_at}
+use Rattle.std.specs.Ordering.{nat_cmp}
+use Rattle.std.proofs.lemmas.Int.{ints}
+use Rattle.std.proofs.lemmas.List.Elements.{All-nil}
+use Rattle.std.proofs.lemmas.Map.Views.{All-keys-insert_entry, All-map-remove_entry}
+use Rattle.xm_num.specs.declared.Segid.{Segid}
+use Rattle.xm_num.specs.Rows.{put, less}
+use Rattle.xemem_language.specs.Ranges.{IsName}
+use Rattle.exporter_pins.specs.Holdings.{Export}
+use Rattle.name_server.specs.Names.{NamesState, no_names}
+use Rattle.enclave_rules.specs.Exports.{segid_number}
+use Rattle.enclave_rules.specs.Memory.{no_memory, with_issued, with_answered}
 use Rattle.enclave_rules.specs.Hand.{Hand}
 use Rattle.global_model.specs.Facts.{Facts, no_facts, EnclaveFact, ChannelFact, no_channel, fact_of, as_admitted, at_number, at_pair, lent_to, with_sent, with_taken, with_got, after_line, after_lines}
 use Rattle.global_model.specs.Channels.{is_neighbour}
-use Rattle.global_model.specs.Flow.{IsTree, IsFlow, IsFlowing}
+use Rattle.global_model.specs.Flow.{IsTree, IsFlow, IsFlowing, IsServer}
 use Rattle.global_model.specs.Apt.{IsBirth, IsNear, NothingArrives, IsApt, AreApt}
 use Rattle.global_model.proofs.Flow.{waiting_few, flow_sent, flow_taken, IsNextToGet, next_arrives}
 use Rattle.global_model.specs.Space.{is_lent_to}
@@ -28,18 +41,28 @@ use Rattle.global_model.proofs.Lent.{lent_blocks, IsOfPool, listed_is_free, lent
 use Rattle.global_model.proofs.Tree.{same_tree, living_tree, near-turned, living_born, tree_born, tree_admitted, near_admitted, near_grows, far_before}
 use Rattle.global_model.proofs.Ways.{NamesNear, AllNameNear, ways_near, none_near, near_more, near_asked, near_way, near_back, near_route, at_number_has}
 
+-- the segids of the names are in their range
+abbrev pub AreNames : List (ℕ × Enclave) → Type 0
+AreNames pairs = All (λ segid. segid ≤ 9223372036854775807) (keys_of pairs)
+
 -- The enclaves are a tree, none holds the name server before one is born, and none is a virtual machine. Nobody has heard of a death. Each block is free or lent, and an enclave's
 -- blocks are those that are lent to it. Those who aren't born know nothing, and the pages of processes are own ones of the enclave's blocks. Ways name neighbours, and records flow between
 -- neighbours alone.
 pub record IsSound (G : Facts) : Type 0 where
   pub tree : IsTree G
   pub unserved : G.born ≡ 0 → G.server ≡ false
+  pub seat : 0 < G.born → G.holder.0 < G.born
+  pub server : IsServer G
+  pub early : G.born ≡ 0 → G.holder.0 ≡ 0
   pub plain : (e : ℕ) → is_guest (fact_of (G.enclave e)).kind ≡ false
   pub heard : (e : ℕ) → G.heard e ≡ []
   pub pool : (b : ℕ) → b < G.pool → IsOfPool G.born (G.block b)
   pub lent : (e : ℕ) → e < G.born → (fact_of (G.enclave e)).blocks ≡ lent_blocks G e
   pub unaware : (e : ℕ) → G.born ≤ e → G.ways e ≡ no_ways
   pub empty : (e : ℕ) → G.born ≤ e → G.memory e ≡ no_memory
+  pub unasked : (e : ℕ) → G.born ≤ e → G.exports e ≡ []
+  pub nameless : (e : ℕ) → G.born ≤ e → G.names e ≡ no_names
+  pub named : (e : ℕ) → AreNames (G.names e).pairs
   pub owned : (e : ℕ) → Owns G.block e (G.memory e)
   pub near : AllNameNear (is_neighbour G) G.ways
   pub flows : (x y : ℕ) → IsFlow (G.channel x y)
@@ -90,19 +113,25 @@ not_near near x y a b is far is_x is_y =
 -- ---- lines that bear and admit nobody
 
 -- other ways, memory and channels
-sound_with : (G : Facts) (ways : ℕ → WaysView) (memory : ℕ → MemoryView) (starts : ℕ) (channel : ℕ → ℕ → ChannelFact) (hand : Hand) → IsSound G
+sound_with : (G : Facts) (ways : ℕ → WaysView) (memory : ℕ → AttacherState) (starts : ℕ) (channel : ℕ → ℕ → ChannelFact) (hand : Hand) → IsSound G
     → ((e : ℕ) → G.born ≤ e → ways e ≡ no_ways) → ((e : ℕ) → G.born ≤ e → memory e ≡ no_memory) → ((e : ℕ) → Owns G.block e (memory e)) → AllNameNear (is_neighbour G) ways
     → ((x y : ℕ) → IsFlow (channel x y)) → ((x y : ℕ) → is_neighbour G x y ≡ false → channel x y ≡ no_channel)
     → IsSound (record G { ways = ways; memory = memory; starts = starts; channel = channel; hand = hand })
 sound_with G ways memory starts channel hand sound unaware empty owned near flows apart = record {
   tree = same_tree G _ refl (λ k. refl) sound.tree;
   unserved = sound.unserved;
+  seat = sound.seat;
+  server = record { held = sound.server.held; seated = sound.server.seated };
+  early = sound.early;
   plain = sound.plain;
   heard = sound.heard;
   pool = sound.pool;
   lent = sound.lent;
   unaware = unaware;
   empty = empty;
+  unasked = sound.unasked;
+  nameless = sound.nameless;
+  named = sound.named;
   owned = owned;
   near = near;
   flows = flows;
@@ -118,11 +147,65 @@ sound_ways G e w sound born near =
     sound_with G (at_number e.0 w G.ways) G.memory G.starts G.channel G.hand sound (unborn_stay G.born G.ways no_ways e.0 w born sound.unaware) sound.empty sound.owned
     (at_number_has (λ e w. NamesNear (λ x. is_neighbour G e x.0 ≡ true) w) e.0 w G.ways near sound.near) sound.flows sound.apart
 
-sound_memory : (G : Facts) (e : Enclave) (m : MemoryView) (starts : ℕ) → IsSound G → e.0 < G.born → Owns G.block e.0 m
+sound_memory : (G : Facts) (e : Enclave) (m : AttacherState) (starts : ℕ) → IsSound G → e.0 < G.born → Owns G.block e.0 m
     → IsSound (record G { memory = at_number e.0 m G.memory; starts = starts })
 sound_memory G e m starts sound born owns =
     sound_with G G.ways (at_number e.0 m G.memory) starts G.channel G.hand sound sound.unaware (unborn_stay G.born G.memory no_memory e.0 m born sound.empty)
     (at_number_has (Owns G.block) e.0 m G.memory owns sound.owned) sound.near sound.flows sound.apart
+
+-- other exports, and other names
+sound_exports : (G : Facts) (e : Enclave) (exports : List (ℕ × Export)) → IsSound G → e.0 < G.born → IsSound (record G { exports = at_number e.0 exports G.exports })
+sound_exports G e exports sound born = record {
+  tree = same_tree G _ refl (λ k. refl) sound.tree;
+  unserved = sound.unserved;
+  seat = sound.seat;
+  server = record { held = sound.server.held; seated = sound.server.seated };
+  early = sound.early;
+  plain = sound.plain;
+  heard = sound.heard;
+  pool = sound.pool;
+  lent = sound.lent;
+  unaware = sound.unaware;
+  empty = sound.empty;
+  unasked = unborn_stay G.born G.exports [] e.0 exports born sound.unasked;
+  nameless = sound.nameless;
+  named = sound.named;
+  owned = sound.owned;
+  near = sound.near;
+  flows = sound.flows;
+  apart = sound.apart;
+}
+
+sound_names : (G : Facts) (names : NamesState) → IsSound G → G.holder.0 < G.born → AreNames names.pairs → IsSound (record G { names = at_number G.holder.0 names G.names })
+sound_names G names sound born ranges = record {
+  tree = same_tree G _ refl (λ k. refl) sound.tree;
+  unserved = sound.unserved;
+  seat = sound.seat;
+  server = record { held = sound.server.held; seated = sound.server.seated };
+  early = sound.early;
+  plain = sound.plain;
+  heard = sound.heard;
+  pool = sound.pool;
+  lent = sound.lent;
+  unaware = sound.unaware;
+  empty = sound.empty;
+  unasked = sound.unasked;
+  nameless = unborn_stay G.born G.names no_names G.holder.0 names born sound.nameless;
+  named = at_number_has (λ e n. AreNames n.pairs) G.holder.0 names G.names ranges sound.named;
+  owned = sound.owned;
+  near = sound.near;
+  flows = sound.flows;
+  apart = sound.apart;
+}
+
+-- the names with one more, and with one less
+names_put : (pairs : List (ℕ × Enclave)) (segid : Segid) (owner : Enclave) → IsName segid.0 → AreNames pairs → AreNames (put pairs (segid_number segid) owner)
+unfolding put
+names_put pairs segid owner range are = All-keys-insert_entry nat_cmp (segid_number segid) owner (λ n. n ≤ 9223372036854775807) pairs are (omega (arith, ints, range.0, range.1))
+
+names_less : (pairs : List (ℕ × Enclave)) (segid : ℕ) → AreNames pairs → AreNames (less pairs segid)
+unfolding less
+names_less pairs segid are = All-map-remove_entry (is_at (nat_cmp segid)) (λ row. row.0) (λ n. n ≤ 9223372036854775807) pairs are
 
 -- a channel between neighbours
 sound_channel : (G : Facts) (x y : ℕ) (change : ChannelFact → ChannelFact) (hand : Hand) → IsSound G → is_neighbour G x y ≡ true → IsFlow (change (G.channel x y))
@@ -141,6 +224,34 @@ by_lent k e states.Free true free is = cc
 by_lent k e (states.Lent o) true free is = let clash : false ≡ true = free refl in cc
 by_lent k e (states.Held o) true free is = cc
 
+-- who is born with the name server is the only one
+server_born : (G : Facts) (e : Enclave) (kind : Kind) (parent : Enclave) (ns : Bool) (blocks : List Block) → IsServer G → (ns && G.server) ≡ false
+    → (G.server ≡ true → G.holder.0 ≢ e.0) → IsServer (after_line G (lines.Born e kind parent ns blocks))
+server_born G e kind parent ns blocks server one apart = record { held = λ k. held k (eqb k e.0) refl ns one; seated = seated ns one }
+  where
+    fact : Bool → EnclaveFact
+    fact ns = record { kind = kind; parent = parent; blocks = blocks; ns = ns; living = true; admitted = false }
+
+    held : (k : ℕ) (here : Bool) → eqb k e.0 ≡ here → (ns : Bool) → (ns && G.server) ≡ false → (fact_of (cond here (Some (fact ns)) (G.enclave k))).ns ≡ true
+        → ((G.server || ns) ≡ true) × ((cond ns e G.holder).0 ≡ k)
+    held k true is true one has = (or_right G.server true refl, sym (eqb-true k e.0 is))
+    held k true is false one has = cc
+    held k false is true one has = let before = server.held k has in let clash : true ≡ false = sym before.0 ∙ one in cc
+    held k false is false one has = let before = server.held k has in (rw (before.0) refl, before.1)
+
+    seated : (ns : Bool) → (ns && G.server) ≡ false → (G.server || ns) ≡ true
+        → (fact_of (cond (eqb (cond ns e G.holder).0 e.0) (Some (fact ns)) (G.enclave (cond ns e G.holder).0))).ns ≡ true
+    seated true one is = rw (eq-eqb e.0 e.0 refl) refl
+    seated false one is = stays (eqb G.holder.0 e.0) refl (is_there G.server is)
+      where
+        is_there : (b : Bool) → (b || false) ≡ true → b ≡ true
+        is_there true is = refl
+        is_there false is = is
+
+        stays : (here : Bool) → eqb G.holder.0 e.0 ≡ here → G.server ≡ true → (fact_of (cond here (Some (fact false)) (G.enclave G.holder.0))).ns ≡ true
+        stays false other mark = server.seated mark
+        stays true same mark = absurd (apart mark (eqb-true G.holder.0 e.0 same))
+
 sound_born : (G : Facts) (e : Enclave) (kind : Kind) (parent : Enclave) (ns : Bool) (blocks : List Block) → IsSound G → IsBirth G e kind parent ns blocks
     → IsSound (after_line G (lines.Born e kind parent ns blocks))
 sound_born G e kind parent ns blocks sound birth =
@@ -149,12 +260,18 @@ sound_born G e kind parent ns blocks sound birth =
     record {
       tree = tree_born G e kind parent ns blocks sound.tree birth.room birth.next (λ some. let below = living_born G parent.0 sound.tree (birth.under some) in omega (arith, below, birth.next));
       unserved = λ none. absurd (omega (arith, none));
+      seat = λ some. by_seat ns;
+      server = server_born G e kind parent ns blocks sound.server birth.one (before_seat (cases_eq G.born 0));
+      early = λ none. absurd (omega (arith, none));
       plain = λ k. by_kind k (eqb k e.0);
       heard = sound.heard;
       pool = λ b within. pool_born G.born e (is_listed blocks b) (G.block b) birth.next (sound.pool b within);
       lent = λ k below. by_blocks k below (eqb k e.0) refl;
       unaware = λ k le. sound.unaware k (omega (arith, le));
       empty = λ k le. sound.empty k (omega (arith, le));
+      unasked = λ k le. sound.unasked k (omega (arith, le));
+      nameless = λ k le. sound.nameless k (omega (arith, le));
+      named = sound.named;
       owned = λ k. owns_more G.block H.block k (λ b is. stays k b is) (G.memory k) (sound.owned k);
       near = near_more (is_neighbour G) (is_neighbour H) G.ways grows sound.near;
       flows = sound.flows;
@@ -164,6 +281,18 @@ sound_born G e kind parent ns blocks sound birth =
     by_kind : (k : ℕ) (b : Bool) → is_guest (fact_of (cond b (Some (record { kind = kind; parent = parent; blocks = blocks; ns = ns; living = true; admitted = false })) (G.enclave k))).kind ≡ false
     by_kind k true = birth.plain
     by_kind k false = sound.plain k
+
+    by_seat : (b : Bool) → (cond b e G.holder).0 < G.born + 1
+    by_seat true = omega (arith, birth.next)
+    by_seat false = first (cases_eq G.born 0)
+      where
+        first : (G.born ≡ 0) ⊎ (G.born ≢ 0) → G.holder.0 < G.born + 1
+        first (inl none) = omega (arith, sound.early none)
+        first (inr some) = let below = sound.seat (omega (arith, some)) in omega (arith, below)
+
+    before_seat : (G.born ≡ 0) ⊎ (G.born ≢ 0) → G.server ≡ true → G.holder.0 ≢ e.0
+    before_seat (inl none) mark same = let clash : true ≡ false = sym mark ∙ sound.unserved none in cc
+    before_seat (inr some) mark same = let below = sound.seat (omega (arith, some)) in omega (arith, below, same, birth.next)
 
     stays : (k b : ℕ) → is_lent_to k (G.block b) ≡ true → is_lent_to k (lent_to blocks e G.block b) ≡ true
     stays k b is = by_lent k e (G.block b) (is_listed blocks b) (listed_is_free G blocks birth.count birth.lowest b) is
@@ -195,18 +324,34 @@ pub keeps_blocks : (o : Option EnclaveFact) → (fact_of (as_admitted o)).blocks
 keeps_blocks None = refl
 keeps_blocks (Some fact) = refl
 
+pub keeps_ns : (o : Option EnclaveFact) → (fact_of (as_admitted o)).ns ≡ (fact_of o).ns
+keeps_ns None = refl
+keeps_ns (Some fact) = refl
+
+server_admitted : (G : Facts) (a : Enclave) → IsServer G → IsServer (after_line G (lines.Admitted a))
+server_admitted G a server = record {
+  held = λ e is. server.held e (sym (admitted_keeps (λ o. (fact_of o).ns) keeps_ns G a e) ∙ is);
+  seated = λ mark. admitted_keeps (λ o. (fact_of o).ns) keeps_ns G a G.holder.0 ∙ server.seated mark;
+}
+
 sound_admitted : (G : Facts) (e : Enclave) → IsSound G → IsSound (after_line G (lines.Admitted e))
 sound_admitted G e sound =
     let H = after_line G (lines.Admitted e) in
     record {
       tree = tree_admitted G e sound.tree;
       unserved = sound.unserved;
+      seat = sound.seat;
+      server = server_admitted G e sound.server;
+      early = sound.early;
       plain = λ k. ap is_guest (admitted_keeps (λ o. (fact_of o).kind) keeps_kind G e k) ∙ sound.plain k;
       heard = sound.heard;
       pool = sound.pool;
       lent = λ k below. admitted_keeps (λ o. (fact_of o).blocks) keeps_blocks G e k ∙ sound.lent k below;
       unaware = sound.unaware;
       empty = sound.empty;
+      unasked = sound.unasked;
+      nameless = sound.nameless;
+      named = sound.named;
       owned = sound.owned;
       near = near_more (is_neighbour G) (is_neighbour H) G.ways (λ x y is. near_admitted G e x y ∙ is) sound.near;
       flows = sound.flows;
@@ -218,12 +363,18 @@ sound_pool : (G : Facts) (blocks : ℕ) → IsSound G → G.born ≡ 0 → IsSou
 sound_pool G blocks sound none = record {
   tree = same_tree G _ refl (λ k. refl) sound.tree;
   unserved = sound.unserved;
+  seat = sound.seat;
+  server = record { held = sound.server.held; seated = sound.server.seated };
+  early = sound.early;
   plain = sound.plain;
   heard = sound.heard;
   pool = λ b within. tt;
   lent = λ e below. absurd (omega (arith, below, none));
   unaware = sound.unaware;
   empty = sound.empty;
+  unasked = sound.unasked;
+  nameless = sound.nameless;
+  named = sound.named;
   owned = λ e. subst (Owns (λ b. states.Free) e) (sym (sound.empty e (omega (arith, none)))) (owns_none (λ b. states.Free) e);
   near = sound.near;
   flows = sound.flows;
@@ -254,6 +405,18 @@ sound_line G (lines.Alloc e p page frames) sound apt =
     let lent : All (λ f. is_lent_to e.0 (G.block (f.0 / 64)) ≡ true) (map (local_frame fact.kind fact.blocks) frames)
     = subst (All (λ f. is_lent_to e.0 (G.block (f.0 / 64)) ≡ true)) (sym (local_same fact.kind fact.blocks frames (sound.plain e.0) ∙ apt.lowest)) (unused_lent G e.0 apt.count) in
     sound_memory G e _ G.starts sound (living_born G e.0 sound.tree apt.living) (owns_pages G.block e.0 p.0 page.0 _ (G.memory e.0) lent (sound.owned e.0))
+sound_line G (lines.Issue e p call) sound apt =
+    let born = living_born G e.0 sound.tree apt in
+    let issued = with_issued p call (G.memory e.0) in
+    sound_exports (record G { memory = at_number e.0 issued G.memory }) e _ (sound_memory G e issued G.starts sound born (sound.owned e.0)) born
+sound_line G (lines.Drew e call segid) sound apt =
+    sound_names G _ sound (living_born G G.holder.0 sound.tree apt.living) (names_put (G.names G.holder.0).pairs segid e apt.range (sound.named G.holder.0))
+sound_line G (lines.Named e call segid) sound apt = sound_exports G e _ sound (living_born G e.0 sound.tree apt.living)
+sound_line G (lines.Unnamed segid) sound apt =
+    sound_names G _ sound (living_born G G.holder.0 sound.tree apt.living) (names_less (G.names G.holder.0).pairs (segid_number segid) (sound.named G.holder.0))
+sound_line G (lines.Remove e segid) sound apt = sound_exports G e _ sound (living_born G e.0 sound.tree apt.living)
+sound_line G (lines.AnswerSegid e p call segid) sound apt =
+    sound_memory G e (with_answered call (G.memory e.0)) G.starts sound (living_born G e.0 sound.tree apt.living) (sound.owned e.0)
 sound_line G (lines.Sent x y r) sound apt =
     sound_channel G x.0 y.0 (with_sent r) G.hand sound apt.between.near (flow_sent r (G.channel x.0 y.0) apt.valid (sound.flows x.0 y.0))
 sound_line G (lines.Took x y count) sound apt =
@@ -277,7 +440,7 @@ apt_append G (l ∷ ls) ms first more = (first.0, apt_append (after_line G l) ls
 
 -- where no record that is whole waits, all channels flow
 pub sound_flowing : (G : Facts) → IsSound G → NothingArrives G → IsFlowing G
-sound_flowing G sound none = record { tree = sound.tree; ways = ways_near G sound.near; flows = sound.flows; arrived = none; apart = sound.apart }
+sound_flowing G sound none = record { tree = sound.tree; server = sound.server; ways = ways_near G sound.near; flows = sound.flows; arrived = none; apart = sound.apart }
 
 -- before the first command
 pub sound_start : IsSound no_facts
@@ -286,12 +449,18 @@ sound_start = record {
       (λ e. let none : ltb e 0 ≡ false = le-ltb e 0 (omega arith) in record { known = sym none; above = λ p has some. cc })
       (λ e lt. absurd (omega (arith, lt)));
   unserved = λ none. refl;
+  seat = λ some. absurd (omega (arith, some));
+  server = record { held = λ e is. cc; seated = λ is. cc };
+  early = λ none. refl;
   plain = λ e. refl;
   heard = λ e. refl;
   pool = λ b within. absurd (omega (arith, within));
   lent = λ e below. absurd (omega (arith, below));
   unaware = λ e le. refl;
   empty = λ e le. refl;
+  unasked = λ e le. refl;
+  nameless = λ e le. refl;
+  named = λ e. All-nil _;
   owned = λ e. owns_none no_facts.block e;
   near = λ e. none_near (λ x. is_neighbour no_facts e x.0 ≡ true);
   flows = λ x y. record { valid = tt; taken = omega arith; got = omega arith };

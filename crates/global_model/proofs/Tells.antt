@@ -1,7 +1,14 @@
 -- What a command tells beside records: a property of each kind of line that is told is one of all of them.
-use Rattle.std.proofs.Common.{◌+◌, ◌≤◌, ℕ, zero, suc, List, [], ◌∷◌, length, map, drop, Bool, true, false, is_some, Option, None, Some, if◌then◌else◌, arith}
+use Rattle.std.proofs.Common.{◌+◌, ◌≤◌, ℕ, All, zero, suc, List, [], ◌∷◌, length, map, drop, Bool, true, false, is_some, Option, None, Some, if◌then◌else◌, arith}
 use Rattle.std.specs.Option.{option_map_or}
+use Rattle.std.specs.Map.{keys_of}
+use Rattle.std.proofs.lemmas.Int.{ints}
 use Rattle.std.proofs.lemmas.List.{length-take}
+use Rattle.std.proofs.lemmas.List.Elements.{All-head, All-tail}
+use Rattle.xm_num.specs.declared.Segid.{Segid}
+use Rattle.xemem_language.specs.Ranges.{IsName}
+use Rattle.enclave_rules.specs.Names.{segid_of}
+use Rattle.enclave_rules.specs.Segments.{name_rows}
 use Rattle.xm_num.specs.declared.Block.{Block}
 use Rattle.xm_num.specs.declared.Enclave.{Enclave}
 use Rattle.xemem_language.specs.declared.line.Line.{Line}
@@ -35,6 +42,17 @@ tells_end P settled waiting G made = by (is_some (first_waiting G))
     by : (b : Bool) → P (if b then lines.Waiting made else lines.Settled made)
     by true = waiting made
     by false = settled made
+
+-- names whose segids are in their range
+pub tells_names : (P : Line → Type 0) → ((segid : Segid) (owner : Enclave) → IsName segid.0 → P (lines.Name segid owner)) → (pairs : List (ℕ × Enclave))
+    → All (λ n. n ≤ 9223372036854775807) (keys_of pairs) → EachIs P (name_rows pairs)
+tells_names P name [] ranges = tt
+tells_names P name (row ∷ pairs) ranges =
+    let range = All-head (λ n. n ≤ 9223372036854775807) row.0 (keys_of pairs) ranges in
+    (
+      name (segid_of row.0) row.1 (omega (arith, ints), omega (arith, ints, range)),
+      tells_names P name pairs (All-tail (λ n. n ≤ 9223372036854775807) row.0 (keys_of pairs) ranges),
+    )
 
 module _ (P : Line → Type 0) (may : MayTell P) where
   pub tells_bytes : (x y : Enclave) (most at : ℕ) (bytes : List ℕ) → EachIs P (bytes_lines x y most at bytes)

@@ -4,6 +4,7 @@ use Rattle.std.proofs.Common.{◌≡◌, ◌<◌, ◌≤◌, ℕ, List, [], ◌�
 use Rattle.std.proofs.lemmas.Bool.{eqb-true, eq-eqb, and_parts, le-leb}
 use Rattle.xm_num.specs.declared.Enclave.{Enclave}
 use Rattle.xemem_language.specs.declared.record.Record.{Record}
+use Rattle.xemem_language.specs.Ranges.{IsName}
 use Rattle.xemem_wire.specs.Table.{is_enclave}
 use Rattle.xemem_wire.specs.Spelling.{is_valid, AreValid}
 use Rattle.xemem_language.specs.declared.line.Line.{Line}
@@ -14,6 +15,7 @@ use Rattle.global_model.specs.Facts.{Facts, at_pair, with_sent, with_got, is_liv
 use Rattle.global_model.specs.Channels.{is_neighbour, arriving}
 use Rattle.global_model.specs.Views.{view_of}
 use Rattle.global_model.specs.Due.{got_lines}
+use Rattle.global_model.specs.Parts.{Opening, Birth, Warning, Death, Kill, Start, Owning, Delivery, Receipt, Lacks}
 use Rattle.global_model.specs.Apt.{IsNear, IsGetting, NothingArrives, IsApt, AreApt}
 use Rattle.global_model.proofs.Pasts.{after_lines-append}
 use Rattle.global_model.proofs.Flow.{valid_arriving, arriving_sent, IsNextToGet, next_arrives}
@@ -21,7 +23,7 @@ use Rattle.global_model.proofs.Tree.{living_born, near_admitted}
 use Rattle.global_model.proofs.Ways.{NamesNear, near_more}
 use Rattle.global_model.proofs.Sound.{IsSound, sound_line, apt_append, at_pair_has, at_channel}
 use Rattle.global_model.proofs.Shown.{admitted-living}
-use Rattle.global_model.proofs.Writes.{EachIs, MaySend, writes_record}
+use Rattle.global_model.proofs.Writes.{EachIs, KnowsNear, MaySend, MayWrite, writes_record}
 
 pub at_pair_same : {A : Type 0} (x y : ℕ) (h : A → A) (f : ℕ → ℕ → A) → at_pair x y h f x y ≡ h (f x y)
 at_pair_same x y h f = rw (eq-eqb x x refl, eq-eqb y y refl) refl
@@ -69,23 +71,20 @@ pub record IsClose (near : ℕ → ℕ → Bool) (lives : ℕ → Bool) (e x : E
   pub beside : near e.0 x.0 ≡ true
 
 abbrev pub IsProper : (ℕ → ℕ → Bool) → (ℕ → Bool) → Line → Type 0
-IsProper near lives (lines.Do command) = ⊥
-IsProper near lives (lines.Born e kind parent ns blocks) = ⊥
-IsProper near lives (lines.Told e dead) = ⊥
-IsProper near lives (lines.Heard e dead) = ⊥
-IsProper near lives (lines.Proc e p uid gid) = ⊥
-IsProper near lives (lines.Alloc e p page frames) = ⊥
-IsProper near lives (lines.Took x y count) = ⊥
-IsProper near lives (lines.Got x y) = ⊥
-IsProper near lives (lines.Killed x cut) = ⊥
-IsProper near lives (lines.End x y torn) = ⊥
 IsProper near lives (lines.Admitted e) = lives e.0 ≡ true
 IsProper near lives (lines.Sent x y r) = IsClose near lives x y × (is_valid r ≡ true)
+IsProper near lives (lines.Issue e p call) = lives e.0 ≡ true
+IsProper near lives (lines.Drew e call segid) = (lives 0 ≡ true) × IsName segid.0
+IsProper near lives (lines.Named e call segid) = (lives e.0 ≡ true) × IsName segid.0
+IsProper near lives (lines.Unnamed segid) = (lives 0 ≡ true) × IsName segid.0
+IsProper near lives (lines.Remove e segid) = (lives e.0 ≡ true) × IsName segid.0
+IsProper near lives (lines.AnswerSegid e p call segid) = (lives e.0 ≡ true) × IsName segid.0
+IsProper near lives (lines.Name segid owner) = IsName segid.0
 IsProper near lives (lines.Asked e by) = IsClose near lives e by
 IsProper near lives (lines.Way e over) = IsClose near lives e over
 IsProper near lives (lines.Back e of over) = IsClose near lives e over
 IsProper near lives (lines.Route e of over) = IsClose near lives e over
-IsProper near lives line = Unit {0}
+IsProper near lives line = Lacks (Opening ∷ Birth ∷ Warning ∷ Death ∷ Kill ∷ Start ∷ Owning ∷ Delivery ∷ Receipt ∷ []) line
 
 abbrev pub AreProper : (ℕ → ℕ → Bool) → (ℕ → Bool) → List Line → Type 0
 AreProper near lives journal = EachIs (IsProper near lives) journal
@@ -124,6 +123,12 @@ module _ (near : ℕ → ℕ → Bool) (lives : ℕ → Bool) (x y : ℕ) (rs : 
   close_near : (G : Facts) (e z : Enclave) → IsTurn near lives x y rs G → IsClose near lives e z → IsNear G e z
   close_near G e z turn close = record { living = turn.alive e.0 ∙ close.living; near = turn.same e.0 z.0 ∙ close.beside }
 
+  -- where the host lives, so does the enclave with the name server
+  holder_lives : (G : Facts) → IsTurn near lives x y rs G → lives 0 ≡ true → is_living_enclave (G.enclave G.holder.0) ≡ true
+  holder_lives G turn host =
+      let born = living_born G 0 turn.sound.tree (turn.alive 0 ∙ host) in
+      turn.sound.tree.all_live G.holder.0 (turn.sound.seat born)
+
   proper_line : (line : Line) (G : Facts) → IsProper near lives line → IsTurn near lives x y rs G → IsOn G line
   proper_line (lines.Do command) G proper turn = absurd proper
   proper_line (lines.Born e kind parent ns blocks) G proper turn = absurd proper
@@ -154,6 +159,18 @@ module _ (near : ℕ → ℕ → Bool) (lives : ℕ → Bool) (x y : ℕ) (rs : 
   proper_line (lines.Way e over) G proper turn = goes_on G (lines.Way e over) turn (close_near G e over turn proper) (λ e. refl) (λ a b. refl)
   proper_line (lines.Back e of over) G proper turn = goes_on G (lines.Back e of over) turn (close_near G e over turn proper) (λ e. refl) (λ a b. refl)
   proper_line (lines.Route e of over) G proper turn = goes_on G (lines.Route e of over) turn (close_near G e over turn proper) (λ e. refl) (λ a b. refl)
+  proper_line (lines.Issue e p call) G proper turn = goes_on G (lines.Issue e p call) turn (turn.alive e.0 ∙ proper) (λ e. refl) (λ a b. refl)
+  proper_line (lines.Drew e call segid) G proper turn =
+      goes_on G (lines.Drew e call segid) turn (record { living = holder_lives G turn proper.0; range = proper.1 }) (λ e. refl) (λ a b. refl)
+  proper_line (lines.Named e call segid) G proper turn =
+      goes_on G (lines.Named e call segid) turn (record { living = turn.alive e.0 ∙ proper.0; range = proper.1 }) (λ e. refl) (λ a b. refl)
+  proper_line (lines.Unnamed segid) G proper turn =
+      goes_on G (lines.Unnamed segid) turn (record { living = holder_lives G turn proper.0; range = proper.1 }) (λ e. refl) (λ a b. refl)
+  proper_line (lines.Remove e segid) G proper turn =
+      goes_on G (lines.Remove e segid) turn (record { living = turn.alive e.0 ∙ proper.0; range = proper.1 }) (λ e. refl) (λ a b. refl)
+  proper_line (lines.AnswerSegid e p call segid) G proper turn =
+      goes_on G (lines.AnswerSegid e p call segid) turn (record { living = turn.alive e.0 ∙ proper.0; range = proper.1 }) (λ e. refl) (λ a b. refl)
+  proper_line (lines.Name segid owner) G proper turn = goes_on G (lines.Name segid owner) turn proper (λ e. refl) (λ a b. refl)
   proper_line line G proper turn = goes_on G line turn tt (λ e. refl) (λ a b. refl)
 
   pub proper_lines : (ls : List Line) (G : Facts) → AreProper near lives ls → IsTurn near lives x y rs G → IsUpTo near lives x y rs G ls
@@ -175,24 +192,36 @@ valid_origin r valid = let three = and_parts _ _ valid in let two = and_parts _ 
 may_send : (v : View) (r : Record) → is_enclave v.me.0 ≡ true → is_valid r ≡ true → is_enclave r.origin.0 ≡ true
     → MaySend (λ r. is_valid r ≡ true) v r
 unfolding is_valid
-may_send v r me valid other = record { here = rw me refl; register = rw me refl; admit = rw (me, other) refl; passed = valid }
+may_send v r me valid other = record { here = rw me refl; register = rw me refl; admit = rw (me, other) refl; made = λ m is. is; passed = valid }
+
+-- what an enclave that lives may write, where the host lives
+pub proper_writes : (near : ℕ → ℕ → Bool) (lives : ℕ → Bool) (v : View) → lives v.me.0 ≡ true → lives 0 ≡ true
+    → MayWrite (IsProper near lives) (λ x. near v.me.0 x.0 ≡ true) (λ r. is_valid r ≡ true) v
+proper_writes near lives v living host = record {
+  dropped = tt;
+  admitted = living;
+  asked = λ x is. here x is;
+  way = λ x is. here x is;
+  back = λ d x is. here x is;
+  route = λ d x is. here x is;
+  drew = λ held e call segid range. (host, range);
+  named = λ call segid range. (living, range);
+  unnamed = λ held segid range. (host, range);
+  answered = λ p call segid range. (living, range);
+  sent = λ x r is valid. (here x is, valid);
+}
+  where
+    here : (x : Enclave) → near v.me.0 x.0 ≡ true → IsClose near lives v.me x
+    here x is = record { living = living; beside = is }
+
+pub knows_proper : (near : ℕ → ℕ → Bool) (v : View) → NamesNear (λ x. near v.me.0 x.0 ≡ true) v.ways → KnowsNear (λ x. near v.me.0 x.0 ≡ true) v
+knows_proper near v known = record { way = known.way; askers = known.askers; backs = known.backs; routes = known.routes }
 
 proper_record : (near : ℕ → ℕ → Bool) (lives : ℕ → Bool) (v : View) (from : Enclave) (r : Record) → NamesNear (λ x. near v.me.0 x.0 ≡ true) v.ways
-    → IsClose near lives v.me from → is_enclave v.me.0 ≡ true → is_valid r ≡ true → AreProper near lives (record_lines v from r)
-proper_record near lives v from r known close me valid =
-    let here : (x : Enclave) → near v.me.0 x.0 ≡ true → IsClose near lives v.me x = λ x is. record { living = close.living; beside = is } in
-    writes_record (IsProper near lives) (λ x. near v.me.0 x.0 ≡ true) (λ r. is_valid r ≡ true) v
-    (record {
-      dropped = tt;
-      admitted = close.living;
-      asked = λ x is. here x is;
-      way = λ x is. here x is;
-      back = λ d x is. here x is;
-      route = λ d x is. here x is;
-      sent = λ x r is valid. (here x is, valid);
-    })
-    from r
-    (record { way = known.way; askers = known.askers; backs = known.backs }) close.beside (may_send v r me valid (valid_origin r valid))
+    → IsClose near lives v.me from → lives 0 ≡ true → is_enclave v.me.0 ≡ true → is_valid r ≡ true → AreProper near lives (record_lines v from r)
+proper_record near lives v from r known close host me valid =
+    writes_record (IsProper near lives) (λ x. near v.me.0 x.0 ≡ true) (λ r. is_valid r ≡ true) v (proper_writes near lives v close.living host)
+    from r (knows_proper near v known) close.beside (may_send v r me valid (valid_origin r valid))
 
 -- ---- records are got
 
@@ -231,9 +260,10 @@ module _ (near : ℕ → ℕ → Bool) (lives : ℕ → Bool) (x y : Enclave) (c
       = subst AreValid (turn.arrives x.0 y.0 ∙ at_pair_same x.0 y.0 (λ none. r ∷ rs) (λ x y. [])) (valid_arriving (G.channel x.0 y.0) (turn.sound.flows x.0 y.0)) in
       let first : IsUpTo near lives x.0 y.0 rs G (lines.Got x y ∷ []) = one_got r rs G turn in
       let me : is_enclave y.0 ≡ true = number_fits G.born y.0 turn.sound.tree.most (living_born G y.0 turn.sound.tree (turn.alive y.0 ∙ close.living)) in
+      let host : lives 0 ≡ true = sym (turn.alive 0) ∙ turn.sound.tree.root (omega (arith, living_born G y.0 turn.sound.tree (turn.alive y.0 ∙ close.living))) in
       let known = near_more (is_neighbour G) near G.ways (λ a b is. sym (turn.same a b) ∙ is) turn.sound.near y.0 in
       let answer : IsUpTo near lives x.0 y.0 rs (after_line G (lines.Got x y)) (record_lines (view_of G y) x r)
-      = proper_lines near lives x.0 y.0 rs (record_lines (view_of G y) x r) (after_line G (lines.Got x y)) (proper_record near lives (view_of G y) x r known close me valid.0) first.turn in
+      = proper_lines near lives x.0 y.0 rs (record_lines (view_of G y) x r) (after_line G (lines.Got x y)) (proper_record near lives (view_of G y) x r known close host me valid.0) first.turn in
       record { apt = (first.apt.0, answer.apt); turn = answer.turn }
 
   pub got_steps : (rs : List Record) (G : Facts) → IsTurn near lives x.0 y.0 rs G → IsUpTo near lives x.0 y.0 [] G (got_lines G x y rs)

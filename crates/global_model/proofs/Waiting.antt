@@ -4,7 +4,7 @@ use Rattle.std.specs.List.{AllByRecursion, range_with_len}
 use Rattle.std.proofs.lemmas.Bool.{eqb-true, eqb-false, eq-eqb, and_parts, leb-true, leb-false, ltb-true, ltb-false, lt-ltb, or_cases, both_ways, false_from_ne_true}
 use Rattle.xm_num.specs.declared.Enclave.{Enclave}
 use Rattle.xemem_language.specs.declared.record.Record.{Record}
-use Rattle.xemem_wire.specs.Spelling.{spelling_of, header_of}
+use Rattle.xemem_wire.specs.Spelling.{is_valid, spelling_of, AreValid}
 use Rattle.global_model.specs.Facts.{Facts, EnclaveFact, fact_of, has_parent, lives_at, no_channel}
 use Rattle.global_model.specs.Channels.{end_waits, is_child_of, is_neighbour, size_of, waiting_in, waiting_of}
 use Rattle.global_model.specs.Flow.{IsTree, IsFlowing}
@@ -15,15 +15,10 @@ use Rattle.global_model.proofs.Tree.{AllLive, child_near, child_under, is_child,
 
 -- ---- the rest of a record
 
-size_is : (r : Record) → size_of r ≡ 16
-unfolding spelling_of header_of
-size_is r = refl
-
--- where some bytes aren't taken, the rest of the next record has one or more, which are among them, and no more than a record
+-- where some bytes aren't taken, the rest of the next record has one or more, which are among them
 pub record IsRest (n : ℕ) (rs : List Record) (rest : ℕ) : Type 0 where
   pub some : 1 ≤ rest
   pub within : n + rest ≤ bytes_of rs
-  pub most : rest ≤ 16
 
 pub rest_is : (n : ℕ) (rs : List Record) → n < bytes_of rs → IsRest n rs (rest_of_record n rs)
 rest_is n [] more = absurd (omega (arith, more))
@@ -34,10 +29,22 @@ rest_is n (r ∷ rs) more = by (leb (size_of r) n) refl (λ some. rest_is (n - s
     by true is later =
         let le : size_of r ≤ n = leb-true (size_of r) n is in
         let rest = later (omega (arith, le, more, bytes-cons r rs)) in
-        record { some = rest.some; within = omega (arith, le, rest.within, bytes-cons r rs); most = rest.most }
+        record { some = rest.some; within = omega (arith, le, rest.within, bytes-cons r rs) }
     by false is later =
         let lt : n < size_of r = leb-false (size_of r) n is in
-        record { some = omega (arith, lt); within = omega (arith, lt, bytes-cons r rs); most = omega (arith, size_is r) }
+        record { some = omega (arith, lt); within = omega (arith, lt, bytes-cons r rs) }
+
+-- no record is longer than the longest
+abbrev pub RecordsAreShort : Type 0
+RecordsAreShort = (r : Record) → is_valid r ≡ true → length (spelling_of r) ≤ 16404
+
+pub rest_short : RecordsAreShort → (n : ℕ) (rs : List Record) → AreValid rs → rest_of_record n rs ≤ 16404
+rest_short short n [] valid = omega arith
+rest_short short n (r ∷ rs) valid = by (leb (size_of r) n) (rest_short short (n - size_of r) rs valid.1)
+  where
+    by : (b : Bool) → rest_of_record (n - size_of r) rs ≤ 16404 → cond b (rest_of_record (n - size_of r) rs) (size_of r - n) ≤ 16404
+    by true later = later
+    by false later = let most = short r valid.0 in omega (arith, most)
 
 -- ---- the channels of the children
 
@@ -150,7 +157,7 @@ rest_waits G x y some =
     let channel = G.channel x.0 y.0 in
     let few = waiting_few G x.0 y.0 in
     let rest = rest_is channel.taken channel.sent (omega (arith, some, few, waiting_size channel)) in
-    record { some = omega (arith, some, rest.some); within = omega (arith, rest.within); most = omega (arith, rest.most) }
+    record { some = omega (arith, some, rest.some); within = omega (arith, rest.within) }
 
 -- ---- rest
 

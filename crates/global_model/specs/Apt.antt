@@ -3,6 +3,7 @@
 use Rattle.std.specs.Prelude.{Some, ◌≡◌, ◌+◌, ◌/◌, ◌<◌, ◌≤◌, ℕ, List, [], ◌∷◌, length, take, Bool, ◌&&◌, true, false}
 use Rattle.xm_num.specs.declared.Enclave.{Enclave}
 use Rattle.xm_num.specs.declared.Pid.{Pid}
+use Rattle.xm_num.specs.declared.Segid.{Segid}
 use Rattle.xm_num.specs.declared.Frame.{Frame}
 use Rattle.xm_num.specs.declared.Block.{Block}
 use Rattle.xm_num.specs.declared.Kind.{Kind}
@@ -11,12 +12,13 @@ use Rattle.xemem_language.specs.declared.command.Command.TheVariants as commands
 use Rattle.xemem_language.specs.declared.line.Line.{Line}
 use Rattle.xemem_language.specs.declared.line.Line.TheVariants as lines
 use Rattle.xemem_language.specs.declared.record.Record.{Record}
+use Rattle.xemem_language.specs.Ranges.{IsName}
 use Rattle.xemem_wire.specs.Spelling.{is_valid}
 use Rattle.enclave_rules.specs.Core.{is_guest}
 use Rattle.global_model.specs.Channels.{arriving, is_neighbour, waiting_in}
 use Rattle.global_model.specs.Facts.{Facts, fact_of, after_line, facts_at, is_living_enclave, runs}
 use Rattle.global_model.specs.Space.{frame_of, blocks_left, is_lent_to, unused_frames}
-use Rattle.enclave_rules.specs.Memory.{ProcessView}
+use Rattle.attach_map.specs.Attaching.{ProcessState}
 use Rattle.xm_num.specs.declared.Page.{Page}
 use Rattle.xm_num.specs.Rows.{at}
 
@@ -65,6 +67,11 @@ pub record IsSending (G : Facts) (x y : Enclave) (r : Record) : Type 0 where
   pub between : IsNear G x y
   pub valid : is_valid r ≡ true
 
+-- a segid's number is in its range, and the enclave that writes of it lives
+pub record IsNaming (G : Facts) (e : Enclave) (segid : Segid) : Type 0 where
+  pub living : is_living_enclave (G.enclave e.0) ≡ true
+  pub range : IsName segid.0
+
 -- the pool comes before all enclaves
 abbrev pub IsAptCommand : Facts → Command → Type 0
 IsAptCommand G (commands.Pool blocks) = G.born ≡ 0
@@ -78,6 +85,13 @@ IsApt G (lines.Heard e dead) = ⊥
 IsApt G (lines.Admitted e) = is_living_enclave (G.enclave e.0) ≡ true
 IsApt G (lines.Proc e p uid gid) = (is_living_enclave (G.enclave e.0) ≡ true) × (p.0 ≡ (G.memory e.0).started + 1)
 IsApt G (lines.Alloc e p page frames) = IsOwning G e p frames
+IsApt G (lines.Issue e p call) = is_living_enclave (G.enclave e.0) ≡ true
+IsApt G (lines.Drew e call segid) = IsNaming G G.holder segid
+IsApt G (lines.Named e call segid) = IsNaming G e segid
+IsApt G (lines.Unnamed segid) = IsNaming G G.holder segid
+IsApt G (lines.Remove e segid) = IsNaming G e segid
+IsApt G (lines.AnswerSegid e p call segid) = IsNaming G e segid
+IsApt G (lines.Name segid owner) = IsName segid.0
 IsApt G (lines.Sent x y r) = IsSending G x y r
 IsApt G (lines.Took x y count) = IsTaking G x y count
 IsApt G (lines.Got x y) = IsGetting G x y
@@ -99,8 +113,8 @@ AptAt past line = IsApt (facts_at past) line
 
 -- each page of a process is an own one, of a frame in a block that is lent to its enclave
 pub record AreOwned (G : Facts) : Type 0 where
-  pub own : (e p v : ℕ) (process : ProcessView) (page : Page) → at (G.memory e).processes p ≡ Some process → at process.pages v ≡ Some page → page.own ≡ true
-  pub lent : (e p v : ℕ) (process : ProcessView) (page : Page) → at (G.memory e).processes p ≡ Some process → at process.pages v ≡ Some page
+  pub own : (e p v : ℕ) (process : ProcessState) (page : Page) → at (G.memory e).processes p ≡ Some process → at process.pages v ≡ Some page → page.own ≡ true
+  pub lent : (e p v : ℕ) (process : ProcessState) (page : Page) → at (G.memory e).processes p ≡ Some process → at process.pages v ≡ Some page
       → is_lent_to e (G.block ((frame_of (fact_of (G.enclave e)) page).0 / 64)) ≡ true
 
 abbrev pub OwnedAt : List Line → Line → Type 0

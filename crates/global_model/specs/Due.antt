@@ -11,6 +11,7 @@ use Rattle.xemem_language.specs.declared.line.Line.{Line}
 use Rattle.xemem_language.specs.declared.line.Line.TheVariants as lines
 use Rattle.xemem_language.specs.declared.record.Record.{Record}
 use Rattle.enclave_rules.specs.Steps.{adopt_lines, birth_lines, bytes_lines, host_lines, handled_lines, route_lines, state_lines}
+use Rattle.enclave_rules.specs.Segments.{make_acts, name_rows, remove_acts}
 use Rattle.global_model.specs.Channels.{arriving, end_waits, size_of, waiting_in}
 use Rattle.global_model.specs.Facts.{Facts, after_line, after_lines, fact_of, facts_at, no_facts}
 use Rattle.global_model.specs.Refusals.{refusal_of}
@@ -99,12 +100,15 @@ acts_of G (commands.Boot kind parent blocks ns) =
     birth_lines (next_enclave G) kind parent (take blocks (blocks_left G)) ns (G.heard parent.0) ++ adopt_lines (view_of G parent) (next_enclave G)
 acts_of G (commands.Proc e uid gid) = lines.Proc e (next_pid G e) uid gid ∷ []
 acts_of G (commands.Alloc e p at pages) = lines.Alloc e p at (take pages (unused_frames G e.0)) ∷ []
+acts_of G (commands.Make e p addr size mode) = make_acts G.hand (view_of G e) p
+acts_of G (commands.Remove e p segid) = remove_acts (view_of G e) segid
 acts_of G (commands.Touch e p addr want) = touched_lines e p (record { 0 = addr / 4096 }) (space_of G e.0 p.0 (addr / 4096))
 acts_of G (commands.Deliver x y count) = deliver_lines G x y count
 acts_of G (commands.Settle most) = settle_from most 0 G
 acts_of G (commands.ShowRoutes e) = route_lines (view_of G e)
 acts_of G (commands.ShowLink x y) = link_lines G x y
 acts_of G commands.ShowPool = state_lines 0 (map G.block (range_with_len 0 G.pool))
+acts_of G commands.ShowNames = name_rows (G.names G.holder.0).pairs
 acts_of G command = []
 
 -- What follows the `do` line of a command: its refusal, by the facts at that line, or its acts, by those after it.

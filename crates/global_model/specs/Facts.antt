@@ -16,7 +16,12 @@ use Rattle.xemem_language.specs.declared.line.Line.{Line}
 use Rattle.xemem_language.specs.declared.line.Line.TheVariants as lines
 use Rattle.enclave_rules.specs.Core.{host, local_line, with_death}
 use Rattle.enclave_rules.specs.Ways.{WaysView, no_ways, ways_line}
-use Rattle.enclave_rules.specs.Memory.{MemoryView, no_memory, memory_line}
+use Rattle.attach_map.specs.Attaching.{AttacherState}
+use Rattle.exporter_pins.specs.Holdings.{Export}
+use Rattle.name_server.specs.Names.{NamesState, no_names}
+use Rattle.enclave_rules.specs.Memory.{no_memory, memory_line}
+use Rattle.enclave_rules.specs.Exports.{exports_line}
+use Rattle.enclave_rules.specs.Names.{names_line}
 use Rattle.enclave_rules.specs.Hand.{Hand, Nothing, Reads, hand_of}
 
 pub record EnclaveFact : Type 0 where
@@ -40,19 +45,22 @@ abbrev pub no_channel : ChannelFact
 no_channel = record { sent = []; taken = 0; got = 0; cut = 0; end_taken = false }
 
 -- All facts. What is asked by a number is a function of it; a block beyond the pool has no state that counts. `born` counts the
--- enclaves, `starts` the processes that were started. `server` says that an enclave was born with the name server. A channel is
--- named by its sender and its receiver. Of each enclave, `ways` and `memory` are the parts of its view, and `heard` are the deaths
--- that it knows of. `hand` is what a step has at hand: the call for which the last `do` line asks, or the record of the last `got`.
+-- enclaves, `starts` the processes that were started. `server` says that an enclave was born with the name server, and `holder` which
+-- one; that is the host where none was. A channel is named by its sender and its receiver. Of each enclave, `ways`, `memory`,
+-- `exports` and `names` are the parts of its view, and `heard` are the deaths that it knows of. `hand` is what a step has at hand: the call for which the last `do` line asks, or the record of the last `got`.
 pub record Facts : Type 0 where
   pub pool : ℕ
   pub block : ℕ → BlockState
   pub born : ℕ
   pub enclave : ℕ → Option EnclaveFact
   pub server : Bool
+  pub holder : Enclave
   pub heard : ℕ → List Enclave
   pub ways : ℕ → WaysView
   pub starts : ℕ
-  pub memory : ℕ → MemoryView
+  pub memory : ℕ → AttacherState
+  pub exports : ℕ → List (ℕ × Export)
+  pub names : ℕ → NamesState
   pub channel : ℕ → ℕ → ChannelFact
   pub hand : Hand
 
@@ -63,10 +71,13 @@ no_facts = record {
   born = 0;
   enclave = λ e. None;
   server = false;
+  holder = host;
   heard = λ e. [];
   ways = λ e. no_ways;
   starts = 0;
   memory = λ e. no_memory;
+  exports = λ e. [];
+  names = λ e. no_names;
   channel = λ x y. no_channel;
   hand = Nothing;
 }
@@ -129,12 +140,25 @@ with_memory e line G =
     let fact = fact_of (G.enclave e.0) in
     record G { memory = at_number e.0 (memory_line (G.memory e.0) (local_line fact.kind fact.blocks line)) G.memory }
 
+-- a line of the layer of exports at the enclave, by what is at hand and by its processes
+abbrev pub with_exports : Enclave → Line → Facts → Facts
+with_exports e line G = record G { exports = at_number e.0 (exports_line G.hand (G.memory e.0) (G.exports e.0) line) G.exports }
+
+-- a line of the layer of names at the name server's enclave
+abbrev pub with_names : Line → Facts → Facts
+with_names line G = record G { names = at_number G.holder.0 (names_line (G.names G.holder.0) line) G.names }
+
+-- a call that is issued: it waits, and what it exports is asked
+abbrev pub with_call : Enclave → Line → Facts → Facts
+with_call e line G = record (with_memory e line G) { exports = at_number e.0 (exports_line G.hand (G.memory e.0) (G.exports e.0) line) G.exports }
+
 abbrev pub after_line : Facts → Line → Facts
 after_line G (lines.Do command) = record G { pool = pool_after command G.pool; block = block_after command G.block; hand = hand_of command }
 after_line G (lines.Born e kind parent ns blocks) = record G {
   block = lent_to blocks e G.block;
   born = G.born + 1;
   server = G.server || ns;
+  holder = if ns then e else G.holder;
   enclave = at_number e.0 (Some (record { kind = kind; parent = parent; blocks = blocks; ns = ns; living = true; admitted = false })) G.enclave;
 }
 after_line G (lines.Told e dead) = record G { heard = at_number e.0 (with_death dead (G.heard e.0)) G.heard }
@@ -146,6 +170,12 @@ after_line G (lines.Back e of over) = with_ways e (lines.Back e of over) G
 after_line G (lines.Route e of over) = with_ways e (lines.Route e of over) G
 after_line G (lines.Proc e p uid gid) = record (with_memory e (lines.Proc e p uid gid) G) { starts = G.starts + 1 }
 after_line G (lines.Alloc e p page frames) = with_memory e (lines.Alloc e p page frames) G
+after_line G (lines.Issue e p call) = with_call e (lines.Issue e p call) G
+after_line G (lines.Drew e call segid) = with_names (lines.Drew e call segid) G
+after_line G (lines.Named e call segid) = with_exports e (lines.Named e call segid) G
+after_line G (lines.Unnamed segid) = with_names (lines.Unnamed segid) G
+after_line G (lines.Remove e segid) = with_exports e (lines.Remove e segid) G
+after_line G (lines.AnswerSegid e p call segid) = with_memory e (lines.AnswerSegid e p call segid) G
 after_line G (lines.Sent x y r) = record G { channel = at_pair x.0 y.0 (with_sent r) G.channel }
 after_line G (lines.Took x y count) = record G { channel = at_pair x.0 y.0 (with_taken count) G.channel; hand = Nothing }
 after_line G (lines.Got x y) = record G { channel = at_pair x.0 y.0 with_got G.channel; hand = hand_after (G.channel x.0 y.0) }

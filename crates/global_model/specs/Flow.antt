@@ -4,7 +4,7 @@ use Rattle.xm_num.specs.declared.Enclave.{Enclave}
 use Rattle.xm_num.specs.Rows.{at}
 use Rattle.xemem_wire.specs.Spelling.{AreValid, spellings_of}
 use Rattle.global_model.specs.Channels.{arriving, is_child_of, is_neighbour, whole_records}
-use Rattle.global_model.specs.Facts.{ChannelFact, EnclaveFact, Facts, has_parent, lives_at, no_channel}
+use Rattle.global_model.specs.Facts.{ChannelFact, EnclaveFact, Facts, fact_of, has_parent, lives_at, no_channel}
 
 -- the enclaves below that number were born, and no others; each of them but the first has a parent with a lower number
 pub record IsBornBelow (born e : ℕ) (fact : Option EnclaveFact) : Type 0 where
@@ -21,6 +21,11 @@ pub record IsTree (G : Facts) : Type 0 where
   -- Whoever was born lives so far. It holds until enclaves die, and then goes with all that is drawn from it.
   pub all_live : (e : ℕ) → e < G.born → lives_at G e ≡ true
 
+-- the enclave that holds the name server is the one that was born with it, where one was
+pub record IsServer (G : Facts) : Type 0 where
+  pub held : (e : ℕ) → (fact_of (G.enclave e)).ns ≡ true → (G.server ≡ true) × (G.holder.0 ≡ e)
+  pub seated : G.server ≡ true → (fact_of (G.enclave G.holder.0)).ns ≡ true
+
 -- every record that was sent is valid, no more bytes are taken and cut off than were sent, and the records that were got are whole
 pub record IsFlow (channel : ChannelFact) : Type 0 where
   pub valid : AreValid channel.sent
@@ -34,9 +39,10 @@ pub record AreWays (G : Facts) : Type 0 where
   pub backs : (e d : ℕ) (x : Enclave) → at (G.ways e).backs d ≡ Some x → is_neighbour G e x.0 ≡ true
   pub routes : (e d : ℕ) (x : Enclave) → at (G.ways e).routes d ≡ Some x → is_neighbour G e x.0 ≡ true
 
--- each channel flows, all its whole records were got, and nothing was ever sent but between neighbours
+-- one enclave at most holds the name server, each channel flows, all its whole records were got, and nothing was ever sent but between neighbours
 pub record IsFlowing (G : Facts) : Type 0 where
   pub tree : IsTree G
+  pub server : IsServer G
   pub ways : AreWays G
   pub flows : (x y : ℕ) → IsFlow (G.channel x y)
   pub arrived : (x y : ℕ) → arriving (G.channel x y) ≡ []

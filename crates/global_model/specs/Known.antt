@@ -9,6 +9,7 @@ use Rattle.xemem_language.specs.declared.command.Command.{Command}
 use Rattle.xemem_language.specs.declared.command.Command.TheVariants as commands
 use Rattle.xemem_language.specs.declared.call.ProcessCall.{ProcessCall}
 use Rattle.xemem_language.specs.declared.call.NodeShow.{NodeShow}
+use Rattle.xemem_language.specs.declared.call.Show.TheVariants as shows
 use Rattle.xemem_language.specs.Calls.{call_of, show_of}
 use Rattle.xemem_language.specs.declared.line.Line.{Line}
 use Rattle.frame_pool.specs.Blocks.{free_blocks}
@@ -34,6 +35,10 @@ boot_asked G kind parent blocks ns =
     else (if nat_lt (length free) blocks then refusal causes.NoBlocks
     else birth_lines (next_enclave G) kind parent (take blocks free) ns (view_of G parent).core.heard ++ adopt_lines (view_of G parent) (next_enclave G)))
 
+-- the names are shown of the enclave that was born with the name server
+abbrev pub names_asked : Facts → List Line
+names_asked G = if G.server then show_lines (view_of G G.holder) shows.Names else refusal causes.NotReady
+
 -- each command's lines follow from which enclaves live, the views of those that it names, how many enclaves were born, and how
 -- many processes were started
 pub record IsAnswered (G : Facts) : Type 0 where
@@ -41,4 +46,5 @@ pub record IsAnswered (G : Facts) : Type 0 where
   pub proc : (e : Enclave) (uid gid : ℕ) → command_lines G (commands.Proc e uid gid) ≡ at_living G e (start_asked G e uid gid)
   pub touch : (e : Enclave) (p : Pid) (addr : ℕ) (want : Want) → command_lines G (commands.Touch e p addr want) ≡ at_living G e (answer_lines e p (touch_answer (view_of G e) p addr want))
   pub call : (command : Command) (k : ProcessCall) → call_of command ≡ Some k → command_lines G command ≡ at_living G k.enclave (call_lines (view_of G k.enclave) k.pid k.call)
+  pub names : command_lines G commands.ShowNames ≡ names_asked G
   pub show : (command : Command) (s : NodeShow) → show_of command ≡ Some s → command_lines G command ≡ at_living G s.enclave (show_lines (view_of G s.enclave) s.show)

@@ -10,6 +10,9 @@ pub use Rattle.enclave_rules.specs.Hand
 pub use Rattle.enclave_rules.specs.Pages
 pub use Rattle.enclave_rules.specs.View
 pub use Rattle.enclave_rules.specs.Sending
+pub use Rattle.enclave_rules.specs.Exports
+pub use Rattle.enclave_rules.specs.Names
+pub use Rattle.enclave_rules.specs.Segments
 pub use Rattle.enclave_rules.specs.Steps
 pub use Rattle.enclave_rules.specs.Calls
 pub mod Facts
@@ -17,6 +20,7 @@ pub mod Journals
 pub mod Views
 pub mod Apt
 pub mod Carriage
+pub mod Parts
 pub mod Plain
 pub mod Channels
 pub mod Space

@@ -7,8 +7,14 @@ use Rattle.xemem_language.specs.declared.line.Line.{Line}
 use Rattle.xemem_language.specs.declared.line.Line.TheVariants as lines
 use Rattle.xemem_language.specs.Ranges.{IsSpelled}
 
--- the line has a spelling, but perhaps for the record that it sends
+-- the line has a spelling, but perhaps for the record that it sends and the segid that it names
 abbrev pub IsTellable : Line → Type 0
+IsTellable (lines.Drew e call segid) = Unit {0}
+IsTellable (lines.Named e call segid) = Unit {0}
+IsTellable (lines.Unnamed segid) = Unit {0}
+IsTellable (lines.Remove e segid) = Unit {0}
+IsTellable (lines.AnswerSegid e p call segid) = Unit {0}
+IsTellable (lines.Name segid owner) = Unit {0}
 IsTellable (lines.Sent x y r) = Unit {0}
 IsTellable line = IsSpelled line
 

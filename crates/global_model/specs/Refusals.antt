@@ -1,6 +1,6 @@
 -- The conditions under which a command is refused.
-use Rattle.std.specs.Prelude.{◌+◌, ◌/◌, List, [], ◌∷◌, length, Bool, not, ◌&&◌, nat_le, nat_lt, if◌then◌else◌, Option, None, Some, ℕ, is_some, is_none, false}
-use Rattle.std.specs.List.{range_with_len, list_any}
+use Rattle.std.specs.Prelude.{◌+◌, ◌-◌, ◌/◌, ◌%◌, ◌||◌, ◌==◌, List, [], ◌∷◌, length, Bool, not, ◌&&◌, nat_le, nat_lt, if◌then◌else◌, Option, None, Some, ℕ, is_some, is_none, false}
+use Rattle.std.specs.List.{range_with_len, list_any, list_all}
 use Rattle.std.specs.Option.{option_map_or}
 use Rattle.xm_num.specs.declared.Cause.{Cause}
 use Rattle.xm_num.specs.declared.Cause.TheVariants as causes
@@ -9,10 +9,16 @@ use Rattle.xemem_language.specs.declared.command.Command.TheVariants as commands
 use Rattle.xm_num.specs.declared.Enclave.{Enclave}
 use Rattle.xm_num.specs.declared.Pid.{Pid}
 use Rattle.xm_num.specs.declared.Want.{Want}
+use Rattle.xm_num.specs.declared.Segid.{Segid}
+use Rattle.xm_num.specs.Sizes.{page_bytes, most_pages, last_page}
 use Rattle.enclave_rules.specs.Pages.{allows}
+use Rattle.enclave_rules.specs.Memory.{is_busy}
+use Rattle.enclave_rules.specs.Exports.{segid_number}
+use Rattle.exporter_pins.specs.Holdings.{live_export}
+use Rattle.enclave_rules.specs.Segments.{is_own_page}
 use Rattle.global_model.specs.Channels.{is_neighbour, was_born}
-use Rattle.global_model.specs.Facts.{Facts, is_living_enclave, runs}
-use Rattle.global_model.specs.Space.{Mapping, blocks_left, space_of, unused_frames}
+use Rattle.global_model.specs.Facts.{Facts, is_admitted, is_living_enclave, runs}
+use Rattle.global_model.specs.Space.{Mapping, blocks_left, pages_at, space_of, unused_frames}
 
 -- one of so many pages from that one on is mapped
 abbrev pub is_taken : Facts → ℕ → ℕ → ℕ → ℕ → Bool
@@ -32,6 +38,31 @@ no_enclave G e = when causes.NoEnclave (not (is_living_enclave (G.enclave e.0)))
 
 abbrev pub no_process : Facts → Enclave → Pid → Condition
 no_process G e p = when causes.NoProcess (not (runs G e.0 p.0))
+
+-- the enclave isn't admitted; a call of the process waits
+abbrev pub not_ready : Facts → Enclave → Condition
+not_ready G e = when causes.NotReady (not (is_admitted (G.enclave e.0)))
+
+abbrev pub busy : Facts → Enclave → Pid → Condition
+busy G e p = when causes.Busy (is_busy (G.memory e.0) p.0)
+
+-- an address and a size aren't whole pages; the first page is 0, or the last one is past the last of a space
+abbrev pub is_misaligned : ℕ → ℕ → Bool
+is_misaligned addr size = not (addr % page_bytes == 0) || not (size % page_bytes == 0)
+
+abbrev pub is_outside : ℕ → ℕ → Bool
+is_outside addr size = (addr / page_bytes == 0) || nat_lt last_page (addr / page_bytes + (size / page_bytes - 1))
+
+-- each of so many pages from that one on is an own one of the process
+abbrev pub are_owned : Facts → ℕ → ℕ → ℕ → ℕ → Bool
+are_owned G e p page count = list_all (is_own_page (pages_at G e p)) (range_with_len page count)
+
+-- the enclave has a live segment of that segid; the process made it
+abbrev pub has_segment : Facts → ℕ → ℕ → Bool
+has_segment G e segid = is_some (live_export (G.exports e) segid)
+
+abbrev pub has_made : Facts → ℕ → ℕ → ℕ → Bool
+has_made G e p segid = option_map_or (λ row. row.1.pid == p) (live_export (G.exports e) segid) false
 
 -- the page is mapped, and its access doesn't allow what is wanted
 abbrev pub denies : Want → Option Mapping → Bool
@@ -58,9 +89,29 @@ conditions_of G (commands.Proc e uid gid) = no_enclave G e ∷ when causes.TooMa
 conditions_of G (commands.Alloc e p at pages) =
     no_enclave G e
     ∷ no_process G e p
+    ∷ busy G e p
     ∷ when causes.BadRange (nat_lt 16777216 (at.0 + pages))
     ∷ when causes.Taken (is_taken G e.0 p.0 at.0 pages)
     ∷ when causes.NoFrames (nat_lt (length (unused_frames G e.0)) pages)
+    ∷ []
+conditions_of G (commands.Make e p addr size mode) =
+    no_enclave G e
+    ∷ no_process G e p
+    ∷ not_ready G e
+    ∷ busy G e p
+    ∷ when causes.BadAlign (is_misaligned addr size)
+    ∷ when causes.BadRange (size == 0)
+    ∷ when causes.TooLarge (nat_lt most_pages (size / page_bytes))
+    ∷ when causes.BadRange (is_outside addr size)
+    ∷ when causes.NotMapped (not (are_owned G e.0 p.0 (addr / page_bytes) (size / page_bytes)))
+    ∷ []
+conditions_of G (commands.Remove e p segid) =
+    no_enclave G e
+    ∷ no_process G e p
+    ∷ not_ready G e
+    ∷ busy G e p
+    ∷ when causes.NoSegment (not (has_segment G e.0 (segid_number segid)))
+    ∷ when causes.NotOwner (not (has_made G e.0 p.0 (segid_number segid)))
     ∷ []
 conditions_of G (commands.Touch e p addr want) =
     no_enclave G e
@@ -72,6 +123,7 @@ conditions_of G (commands.Deliver x y count) = link_conditions G x y
 conditions_of G (commands.ShowRoutes e) = no_enclave G e ∷ []
 conditions_of G (commands.ShowLink x y) = link_conditions G x y
 conditions_of G commands.ShowPool = when causes.NoEnclave (not (was_born G 0)) ∷ []
+conditions_of G commands.ShowNames = when causes.NotReady (not G.server) ∷ []
 conditions_of G command = []
 
 abbrev pub first_cause : List Condition → Option Cause

@@ -1,5 +1,5 @@
 -- The space of a process, the frames that are mapped, and those that are unused.
-use Rattle.std.specs.Prelude.{◌≡◌, ◌*◌, ◌/◌, ℕ, List, [], Bool, true, false, not, ◌&&◌, ◌==◌, Option, Some, filter, map}
+use Rattle.std.specs.Prelude.{◌≡◌, ◌*◌, ◌/◌, ℕ, List, [], Bool, true, false, not, ◌&&◌, ◌||◌, ◌==◌, Option, Some, filter, map}
 use Rattle.std.specs.List.{range_with_len, list_any}
 use Rattle.std.specs.Option.{option_map, option_map_or}
 use Rattle.xm_num.specs.declared.Frame.{Frame}
@@ -10,6 +10,7 @@ use Rattle.xm_num.specs.declared.Access.{Access}
 use Rattle.frame_pool.specs.declared.BlockState.{BlockState}
 use Rattle.frame_pool.specs.declared.BlockState.TheVariants as states
 use Rattle.frame_pool.specs.Blocks.{is_free}
+use Rattle.exporter_pins.specs.Holdings.{Export}
 use Rattle.enclave_rules.specs.Core.{machine_frame}
 use Rattle.enclave_rules.specs.Pages.{frame_list}
 use Rattle.global_model.specs.Facts.{EnclaveFact, Facts, fact_of, is_living_enclave, lives}
@@ -60,9 +61,17 @@ is_lent_to e states.Free = false
 is_lent_to e (states.Lent owner) = owner.0 == e
 is_lent_to e (states.Held owner) = false
 
--- the enclave lives, the frame's block is lent to it, and no own page of it has the frame
+-- the export names the frame
+abbrev pub names_frame : EnclaveFact → ℕ → Export → Bool
+names_frame fact frame export = list_any (λ own. (machine_frame fact.kind fact.blocks own).0 == frame) export.frames
+
+-- an export of the enclave that is asked or live names the frame
+abbrev pub is_export_frame : Facts → ℕ → ℕ → Bool
+is_export_frame G e frame = list_any (λ row. names_frame (fact_of (G.enclave e)) frame row.1) (G.exports e)
+
+-- the enclave lives, the frame's block is lent to it, and no own page and no export of it has the frame
 abbrev pub is_unused : Facts → ℕ → ℕ → Bool
-is_unused G e frame = is_living_enclave (G.enclave e) && is_lent_to e (G.block (frame / 64)) && not (is_own_frame G e frame)
+is_unused G e frame = is_living_enclave (G.enclave e) && is_lent_to e (G.block (frame / 64)) && not (is_own_frame G e frame || is_export_frame G e frame)
 
 -- the unused frames of an enclave, ascending
 abbrev pub unused_frames : Facts → ℕ → List Frame

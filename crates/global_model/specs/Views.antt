@@ -36,13 +36,15 @@ view_of G e = record {
   core = core_of G e.0;
   ways = G.ways e.0;
   memory = G.memory e.0;
+  exports = G.exports e.0;
+  names = G.names e.0;
   host = if e.0 == 0 then host_of G else no_host;
 }
 
 -- What a line leaves of a view, by the facts before it: where the line is at the enclave, what it changes there, read as that
 -- enclave names frames and by what is at hand; else the view itself.
 abbrev pub seen_line : Facts → View → Line → View
-seen_line G v line = if is_at v.me line then own_line G.hand v (local_line v.core.kind v.core.blocks line) else v
+seen_line G v line = if is_at G.holder v.me line then own_line G.hand v (local_line v.core.kind v.core.blocks line) else v
 
 -- what the lines leave of it, one after the other
 abbrev pub seen_lines : Facts → View → List Line → View

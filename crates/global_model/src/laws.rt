@@ -30,6 +30,7 @@ ghost use Rattle.global_model.specs.Carriage.{IsCarried};
 ghost use Rattle.global_model.specs.Rest.{EndsSettle, IsRested};
 ghost use Rattle.global_model.specs.Pauses.{IsInSteps};
 
+use xemem_wire::laws::spelling_length;
 use xm_num::Page;
 use xm_num::laws::rows;
 
@@ -129,11 +130,12 @@ pub fn whole_records_stay()
 /// Lines that are about one enclave, which is no virtual machine, change its view by themselves, and no other's. What an enclave
 /// writes for records is its own.
 pub fn lines_are_seen()
-    ensures own { (G : Facts) (v : View) (lines : List JournalLine) → is_guest v.core.kind ≡ false → AreAbout v.me lines
+    ensures own { (G : Facts) (v : View) (lines : List JournalLine) → is_guest v.core.kind ≡ false → AreAbout G.holder v.me lines
         → seen_lines G v lines ≡ own_lines G.hand v lines }
-    ensures others { (G : Facts) (y : Enclaves) (w : View) (lines : List JournalLine) → AreAbout y lines → w.me.0 ≢ y.0
+    ensures others { (G : Facts) (y : Enclaves) (w : View) (lines : List JournalLine) → AreAbout G.holder y lines → w.me.0 ≢ y.0
         → seen_lines G w lines ≡ w }
-    ensures of { (v : View) (x : Enclaves) (rs : List WireRecord) → AreOf v.me (lines_of_records v x rs) }
+    ensures of { (holder : Enclaves) (v : View) (x : Enclaves) (rs : List WireRecord) → (v.core.holder ≡ true → holder ≡ v.me)
+        → AreOf holder v.me (lines_of_records v x rs) }
 {}
 
 /// What a command writes follows from the views of the enclaves that it names. The host is born with the first blocks.
@@ -177,7 +179,9 @@ pub fn settles_deliver()
     ensures ends { (commands : List Commands) (most : ℕ) → IsPlaced commands
         → EndsSettle most (command_lines (facts_after (journal_of commands)) (command.Settle most))
         (facts_after (journal_of (commands ++ command.Settle most ∷ []))) }
-{}
+{
+    spelling_length();
+}
 
 /// Along the journal of commands, each of which may stand after those before it, a settle says `settled` where nothing waits, and
 /// `waiting` where something does and all its deliveries were made; both with the deliveries that it made.

@@ -11,7 +11,8 @@ use Rattle.xemem_language.specs.declared.line.Line.TheVariants as lines
 use Rattle.std.specs.Option.{option_map_or}
 use Rattle.xm_num.specs.declared.Frame.{Frame}
 use Rattle.xm_num.specs.Rows.{at, put}
-use Rattle.enclave_rules.specs.Memory.{ProcessView, MemoryView, new_process, with_pages, with_process}
+use Rattle.attach_map.specs.Attaching.{ProcessState, AttacherState}
+use Rattle.enclave_rules.specs.Memory.{new_process, with_answered, with_issued, with_pages, with_process}
 use Rattle.global_model.specs.Facts.{facts_at, at_number, fact_of, is_living_enclave}
 use Rattle.enclave_rules.specs.Core.{local_frame}
 use Rattle.global_model.specs.Refusals.{first_cause, when}
@@ -43,17 +44,17 @@ server_counted (lines.Born e kind parent ns blocks ∷ past) = or_turned (facts_
 server_counted (_ ∷ past) = server_counted past
 
 -- the number that was started, in one part of an enclave
-started_stays : (memory : ℕ → MemoryView) (of : ℕ) (m : MemoryView) (e : ℕ) → m.started ≡ (memory of).started → (at_number of m memory e).started ≡ (memory e).started
+started_stays : (memory : ℕ → AttacherState) (of : ℕ) (m : AttacherState) (e : ℕ) → m.started ≡ (memory of).started → (at_number of m memory e).started ≡ (memory e).started
 started_stays memory of m e same = by (eqb e of) refl
   where
     by : (b : Bool) → eqb e of ≡ b → (cond b m (memory e)).started ≡ (memory e).started
     by true here = same ∙ ap (λ n. (memory n).started) (sym (eqb-true e of here))
     by false other = refl
 
-pages_start : (p page : ℕ) (frames : List Frame) (m : MemoryView) → (with_process p (with_pages page frames) m).started ≡ m.started
+pages_start : (p page : ℕ) (frames : List Frame) (m : AttacherState) → (with_process p (with_pages page frames) m).started ≡ m.started
 pages_start p page frames m = by (at m.processes p)
   where
-    by : (found : Option ProcessView) → (option_map_or (λ process. record m { processes = put m.processes p (with_pages page frames process) }) found m).started ≡ m.started
+    by : (found : Option ProcessState) → (option_map_or (λ process. record m { processes = put m.processes p (with_pages page frames process) }) found m).started ≡ m.started
     by None = refl
     by (Some process) = refl
 
@@ -61,11 +62,11 @@ pub started_counted : (e : ℕ) (past : List Line) → ((facts_at past).memory e
 started_counted e [] = refl
 started_counted e (lines.Proc of p uid gid ∷ past) = by (eqb e of.0) refl (started_counted e past)
   where
-    memory : ℕ → MemoryView
+    memory : ℕ → AttacherState
     memory = (facts_at past).memory
 
     by : (b : Bool) → eqb e of.0 ≡ b → (memory e).started ≡ starts_by e past
-        → (cond b (record { started = (memory of.0).started + 1; processes = put (memory of.0).processes p.0 (new_process uid gid) }) (memory e)).started
+        → (cond b (record (memory of.0) { started = (memory of.0).started + 1; processes = put (memory of.0).processes p.0 (new_process uid gid) }) (memory e)).started
         ≡ length (cond b (lines.Proc of p uid gid ∷ filter (starts_at e) past) (filter (starts_at e) past))
     by true is more = let same : (memory of.0).started ≡ (memory e).started = ap (λ n. (memory n).started) (sym (eqb-true e of.0 is)) in
         omega (arith, more, same)
@@ -75,6 +76,10 @@ started_counted e (lines.Alloc of p page frames ∷ past) =
     let local = map (local_frame fact.kind fact.blocks) frames in
     let m = (facts_at past).memory of.0 in
     started_stays (facts_at past).memory of.0 (with_process p.0 (with_pages page.0 local) m) e (pages_start p.0 page.0 local m) ∙ started_counted e past
+started_counted e (lines.Issue of p call ∷ past) =
+    let m = (facts_at past).memory of.0 in started_stays (facts_at past).memory of.0 (with_issued p call m) e refl ∙ started_counted e past
+started_counted e (lines.AnswerSegid of p call segid ∷ past) =
+    let m = (facts_at past).memory of.0 in started_stays (facts_at past).memory of.0 (with_answered call m) e refl ∙ started_counted e past
 started_counted e (_ ∷ past) = started_counted e past
 
 -- ---- boots and starts

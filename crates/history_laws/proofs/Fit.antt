@@ -3,12 +3,13 @@ use Rattle.std.proofs.Common.{◌≡◌, ◌≤◌, ℕ, List, [], ◌∷◌, �
 use Rattle.std.specs.List.{AllByRecursion}
 use Rattle.std.specs.Map.{keys_of, values_of}
 use Rattle.std.specs.Ordering.{nat_cmp}
+use Rattle.std.specs.BTreeMap.{is_at}
 use Rattle.std.proofs.lemmas.Bool.{eqb-true, cond_both}
 use Rattle.std.proofs.lemmas.List.Elements.{All-nil, All-cons, All-head, All-tail}
-use Rattle.std.proofs.lemmas.Map.Views.{All-keys-insert_entry, All-values-insert_entry}
+use Rattle.std.proofs.lemmas.Map.Views.{All-keys-insert_entry, All-values-insert_entry, All-map-remove_entry}
 use Rattle.xm_num.specs.declared.Enclave.{Enclave}
 use Rattle.xm_num.specs.declared.Page.{Page}
-use Rattle.xm_num.specs.Rows.{at, put}
+use Rattle.xm_num.specs.Rows.{at, put, less}
 use Rattle.frame_pool.specs.declared.BlockState.{BlockState}
 use Rattle.frame_pool.specs.declared.BlockState.TheVariants as states
 use Rattle.frame_pool.specs.Blocks.{is_free}
@@ -22,9 +23,15 @@ use Rattle.xemem_wire.specs.Spelling.{is_valid, AreValid}
 use Rattle.line_reader.specs.Typed.{Is16, Is32}
 use Rattle.enclave_rules.specs.Core.{with_death}
 use Rattle.enclave_rules.specs.Ways.{WaysView, ways_line}
-use Rattle.enclave_rules.specs.Memory.{ProcessView, MemoryView}
+use Rattle.attach_map.specs.declared.Waiting.{Waiting}
+use Rattle.attach_map.specs.Attaching.{ProcessState, AttacherState}
 use Rattle.enclave_rules.specs.Hand.{Hand}
-use Rattle.global_model.specs.Facts.{ChannelFact, EnclaveFact, Facts, after_line, after_lines, as_admitted, at_number, at_pair, block_after, fact_of, pool_after, with_got, with_sent, with_taken, with_ways}
+use Rattle.exporter_pins.specs.Holdings.{Export}
+use Rattle.name_server.specs.Names.{NamesState}
+use Rattle.enclave_rules.specs.Exports.{segid_number}
+use Rattle.enclave_rules.specs.Memory.{with_answered, with_issued}
+use Rattle.enclave_rules.specs.Names.{names_line}
+use Rattle.global_model.specs.Facts.{ChannelFact, EnclaveFact, Facts, after_line, after_lines, as_admitted, at_number, at_pair, block_after, fact_of, pool_after, with_exports, with_got, with_sent, with_taken, with_ways}
 
 -- ---- what fits
 
@@ -63,12 +70,17 @@ pub record IsFitWays (w : WaysView) : Type 0 where
   pub lies : All IsLow (keys_of w.routes)
 
 -- the numbers of a process's pages fit
-abbrev pub IsFitProcess : ProcessView → Type 0
+abbrev pub IsFitProcess : ProcessState → Type 0
 IsFitProcess process = (v : ℕ) (page : Page) → at process.pages v ≡ Some page → Is32 v
 
-pub record IsFitMemory (starts : ℕ) (m : MemoryView) : Type 0 where
+-- the number of the process whose call waits fits
+abbrev pub IsFitWaiting : Waiting → Type 0
+IsFitWaiting waiting = Is32 waiting.pid.0
+
+pub record IsFitMemory (starts : ℕ) (m : AttacherState) : Type 0 where
   pub started : m.started ≤ starts
   pub pages : All IsFitProcess (values_of m.processes)
+  pub waiting : All IsFitWaiting (values_of m.waiting)
 
 abbrev pub AreFitChannels : (ℕ → ℕ → ChannelFact) → Type 0
 AreFitChannels channel = (x y : ℕ) → AreValid (channel x y).sent
@@ -80,6 +92,7 @@ pub record IsFit (G : Facts) : Type 0 where
   pub ways : (e : ℕ) → IsFitWays (G.ways e)
   pub channels : AreFitChannels G.channel
   pub starts : G.starts ≤ 1024
+  pub names : (e : ℕ) → AllNumbers (G.names e).pairs
   pub memory : (e : ℕ) → IsFitMemory G.starts (G.memory e)
 
 -- ---- functions that are changed at one number, or at one pair
@@ -94,6 +107,19 @@ at_pair_fits P x y h f new old a b = cond_both (eqb a x && eqb b y) (h (f a b)) 
 put_numbers : (rows : List (ℕ × Enclave)) (k : ℕ) (x : Enclave) → AllNumbers rows → IsNumber x → AllNumbers (put rows k x)
 unfolding put
 put_numbers rows k x all number = All-values-insert_entry nat_cmp k x IsNumber rows all number
+
+pub less_numbers : (rows : List (ℕ × Enclave)) (k : ℕ) → AllNumbers rows → AllNumbers (less rows k)
+unfolding less
+less_numbers rows k all = All-map-remove_entry (is_at (nat_cmp k)) (λ row. row.1) IsNumber rows all
+
+pub put_waiting : (rows : List (ℕ × Waiting)) (k : ℕ) (waiting : Waiting) → All IsFitWaiting (values_of rows) → IsFitWaiting waiting
+    → All IsFitWaiting (values_of (put rows k waiting))
+unfolding put
+put_waiting rows k waiting all fits = All-values-insert_entry nat_cmp k waiting IsFitWaiting rows all fits
+
+less_waiting : (rows : List (ℕ × Waiting)) (k : ℕ) → All IsFitWaiting (values_of rows) → All IsFitWaiting (values_of (less rows k))
+unfolding less
+less_waiting rows k all = All-map-remove_entry (is_at (nat_cmp k)) (λ row. row.1) IsFitWaiting rows all
 
 put_keys : (rows : List (ℕ × Enclave)) (k : ℕ) (x : Enclave) → All IsLow (keys_of rows) → k ≤ 255 → All IsLow (keys_of (put rows k x))
 unfolding put
@@ -115,6 +141,13 @@ valid-sent (s ∷ ss) r all valid = (all.0, valid-sent ss r all.1 valid)
 
 abbrev pub IsSteady : Line → Type 0
 IsSteady (lines.Told e of) = IsNumber e × IsNumber of
+IsSteady (lines.Issue e p call) = IsNumber e × Is32 p.0 × Is32 call.0
+IsSteady (lines.Drew e call segid) = IsNumber e × Is32 call.0
+IsSteady (lines.Named e call segid) = IsNumber e × Is32 call.0
+IsSteady (lines.Unnamed segid) = Unit {0}
+IsSteady (lines.Remove e segid) = IsNumber e
+IsSteady (lines.AnswerSegid e p call segid) = IsNumber e × Is32 p.0 × Is32 call.0
+IsSteady (lines.Name segid owner) = IsNumber owner
 IsSteady (lines.Admitted e) = IsNumber e
 IsSteady (lines.Touched e p page frame) = Is16 e.0 × Is32 p.0 × Is32 page.0 × Is32 frame.0
 IsSteady (lines.Sent x y r) = IsNumber x × IsNumber y × (is_valid r ≡ true)
@@ -147,7 +180,7 @@ do_pool _ pool block range fit = fit
 
 module _ (G : Facts) (fit : IsFit G) where
   pub fit_do : (c : Command) → IsInRange c → IsFit (after_line G (lines.Do c))
-  fit_do c range = record { pool = do_pool c G.pool G.block range fit.pool; tree = fit.tree; heard = fit.heard; ways = fit.ways; channels = fit.channels; starts = fit.starts; memory = fit.memory }
+  fit_do c range = record { pool = do_pool c G.pool G.block range fit.pool; tree = fit.tree; heard = fit.heard; ways = fit.ways; channels = fit.channels; starts = fit.starts; names = fit.names; memory = fit.memory }
 
   fit_ways : (e : Enclave) (l : Line) → IsFitWays (ways_line (fact_of (G.enclave e.0)).parent (G.ways e.0) l) → IsFit (with_ways e l G)
   fit_ways e l new =
@@ -158,6 +191,7 @@ module _ (G : Facts) (fit : IsFit G) where
         ways = at_number_fits IsFitWays e.0 _ G.ways new fit.ways;
         channels = fit.channels;
         starts = fit.starts;
+        names = fit.names;
         memory = fit.memory;
       }
 
@@ -165,12 +199,54 @@ module _ (G : Facts) (fit : IsFit G) where
       → IsFit (record G { channel = at_pair x.0 y.0 change G.channel; hand = hand })
   fit_channels x y change hand new =
       let channels = at_pair_fits (λ (c : ChannelFact). AreValid c.sent) x.0 y.0 change G.channel new fit.channels in
-      record { pool = fit.pool; tree = fit.tree; heard = fit.heard; ways = fit.ways; channels = channels; starts = fit.starts; memory = fit.memory }
+      record { pool = fit.pool; tree = fit.tree; heard = fit.heard; ways = fit.ways; channels = channels; starts = fit.starts; names = fit.names; memory = fit.memory }
+
+  fit_memory : (e : Enclave) (m : AttacherState) (exports : ℕ → List (ℕ × Export)) → IsFitMemory G.starts m → IsFit (record G { memory = at_number e.0 m G.memory; exports = exports })
+  fit_memory e m exports new =
+      record {
+        pool = fit.pool;
+        tree = fit.tree;
+        heard = fit.heard;
+        ways = fit.ways;
+        channels = fit.channels;
+        starts = fit.starts;
+        names = fit.names;
+        memory = at_number_fits (IsFitMemory G.starts) e.0 m G.memory new fit.memory;
+      }
+
+  fit_names : (n : NamesState) → AllNumbers n.pairs → IsFit (record G { names = at_number G.holder.0 n G.names })
+  fit_names n new =
+      record {
+        pool = fit.pool;
+        tree = fit.tree;
+        heard = fit.heard;
+        ways = fit.ways;
+        channels = fit.channels;
+        starts = fit.starts;
+        names = at_number_fits (λ (s : NamesState). AllNumbers s.pairs) G.holder.0 n G.names new fit.names;
+        memory = fit.memory;
+      }
+
+  fit_exports : (e : Enclave) (l : Line) → IsFit (with_exports e l G)
+  fit_exports e l =
+      record { pool = fit.pool; tree = fit.tree; heard = fit.heard; ways = fit.ways; channels = fit.channels; starts = fit.starts; names = fit.names; memory = fit.memory }
 
   pub fit_line : (l : Line) → IsSteady l → IsFit (after_line G l)
+  fit_line (lines.Issue e p call) steady =
+      let old = fit.memory e.0 in
+      fit_memory e (with_issued p call (G.memory e.0)) _ (record { started = old.started; pages = old.pages; waiting = put_waiting (G.memory e.0).waiting call.0 _ old.waiting steady.1 })
+  fit_line (lines.AnswerSegid e p call segid) steady =
+      let old = fit.memory e.0 in
+      fit_memory e (with_answered call (G.memory e.0)) G.exports (record { started = old.started; pages = old.pages; waiting = less_waiting (G.memory e.0).waiting call.0 old.waiting })
+  fit_line (lines.Drew e call segid) steady =
+      fit_names (names_line (G.names G.holder.0) (lines.Drew e call segid)) (put_numbers (G.names G.holder.0).pairs (segid_number segid) e (fit.names G.holder.0) steady.0)
+  fit_line (lines.Unnamed segid) steady =
+      fit_names (names_line (G.names G.holder.0) (lines.Unnamed segid)) (less_numbers (G.names G.holder.0).pairs (segid_number segid) (fit.names G.holder.0))
+  fit_line (lines.Named e call segid) steady = fit_exports e (lines.Named e call segid)
+  fit_line (lines.Remove e segid) steady = fit_exports e (lines.Remove e segid)
   fit_line (lines.Told e of) steady =
       let heard = at_number_fits (All IsNumber) e.0 _ G.heard (death_numbers of (G.heard e.0) steady.1 (fit.heard e.0)) fit.heard in
-      record { pool = fit.pool; tree = fit.tree; heard = heard; ways = fit.ways; channels = fit.channels; starts = fit.starts; memory = fit.memory }
+      record { pool = fit.pool; tree = fit.tree; heard = heard; ways = fit.ways; channels = fit.channels; starts = fit.starts; names = fit.names; memory = fit.memory }
   fit_line (lines.Admitted e) steady =
       record {
         pool = fit.pool;
@@ -183,6 +259,7 @@ module _ (G : Facts) (fit : IsFit G) where
         ways = fit.ways;
         channels = fit.channels;
         starts = fit.starts;
+        names = fit.names;
         memory = fit.memory;
       }
     where

@@ -12,6 +12,7 @@ use Rattle.std.proofs.lemmas.Map.Views.{All-values-insert_entry}
 use Rattle.std.proofs.lemmas.List.Elements.{All-nil, All-cons, All-head, All-tail, All-append, All-map, All-take, All-drop, All-filter, All-weaker}
 use Rattle.xm_num.specs.declared.Enclave.{Enclave}
 use Rattle.xm_num.specs.declared.Pid.{Pid}
+use Rattle.xm_num.specs.declared.Segid.{Segid}
 use Rattle.xm_num.specs.declared.Vpn.{Vpn}
 use Rattle.xm_num.specs.declared.Frame.{Frame}
 use Rattle.xm_num.specs.declared.Block.{Block}
@@ -25,22 +26,26 @@ use Rattle.xm_num.specs.Rows.{at, put, put_all}
 use Rattle.xemem_language.specs.declared.command.Command.{Command}
 use Rattle.xemem_language.specs.declared.command.Command.TheVariants as commands
 use Rattle.xemem_language.specs.declared.record.Record.{Record}
+use Rattle.xemem_language.specs.declared.record.Body.{Body}
+use Rattle.xemem_language.specs.declared.record.Body.TheVariants as bodies
 use Rattle.xemem_language.specs.declared.line.Line.{Line}
 use Rattle.xemem_language.specs.declared.line.Line.TheVariants as lines
-use Rattle.xemem_language.specs.Spelling.{line_words, words_in}
+use Rattle.xemem_language.specs.Spelling.{body_words, line_words, words_in}
 use Rattle.xemem_language.specs.Ranges.{IsInRange}
-use Rattle.xemem_wire.specs.Spelling.{spelling_of, header_of, spellings_of, AreValid}
+use Rattle.xemem_wire.specs.Spelling.{body_spelling, spelling_of, header_of, spellings_of, AreValid}
 use Rattle.line_reader.specs.Typed.{Is8, Is16, Is32, IsTyped}
 use Rattle.frame_pool.specs.declared.BlockState.{BlockState}
 use Rattle.frame_pool.specs.declared.BlockState.TheVariants as states
 use Rattle.frame_pool.specs.Blocks.{is_free, is_listed}
 use Rattle.enclave_rules.specs.Core.{host, local_frame}
-use Rattle.enclave_rules.specs.Memory.{ProcessView, MemoryView, new_process, with_pages, with_process}
+use Rattle.attach_map.specs.Attaching.{ProcessState, AttacherState}
+use Rattle.enclave_rules.specs.Memory.{is_busy, new_process, with_answered, with_issued, with_pages, with_process}
+use Rattle.enclave_rules.specs.Segments.{make_acts, name_rows, remove_acts}
 use Rattle.enclave_rules.specs.Pages.{own_page}
 use Rattle.enclave_rules.specs.Sending.{knows_way}
 use Rattle.enclave_rules.specs.Steps.{child_lines, told_lines, adopt_lines, query_of, route_lines, bytes_lines, state_line, state_lines}
 use Rattle.global_model.specs.Apt.{AreOwned}
-use Rattle.global_model.specs.Facts.{EnclaveFact, Facts, after_line, facts_at, fact_of, with_sent, with_taken, with_got, is_living_enclave, lives_at, runs}
+use Rattle.global_model.specs.Facts.{EnclaveFact, Facts, after_line, at_number, facts_at, fact_of, with_sent, with_taken, with_got, is_living_enclave, lives_at, runs}
 use Rattle.global_model.specs.Space.{Mapping, frame_of, mapping_of, space_of, is_lent_to, is_unused, unused_frames, blocks_left}
 use Rattle.global_model.specs.Channels.{is_neighbour, was_born, waiting_of, waiting_in}
 use Rattle.global_model.specs.Views.{view_of}
@@ -51,7 +56,7 @@ use Rattle.history_laws.specs.Fitting.{IsCountable}
 use Rattle.history_laws.specs.Laws.{HistoryLaws}
 use Rattle.history_laws.proofs.Lending.{All-range}
 use Rattle.history_laws.proofs.Fit.{IsNumber, AllNumbers, IsLow, IsFitState, IsFitProcess, IsFitMemory, IsFit, IsSteady, AreSteady, fit_do, fit_line, at_number_fits}
-use Rattle.history_laws.proofs.Steady.{steady_append, steady_either, valid_query, valid_numbers, at_has}
+use Rattle.history_laws.proofs.Steady.{at_has, steady_append, steady_either, steady_make, steady_remove, valid_numbers, valid_query, view_fits}
 
 -- ---- steady lines
 
@@ -82,30 +87,41 @@ typed_line (lines.AtRoute e of over) s = (wide e s.0, wide of s.1, wide over s.2
 typed_line (lines.BlockFree b) s = s
 typed_line (lines.BlockLent b e) s = let number = s.1 in (s.0, omega (arith, number))
 typed_line (lines.BlockHeld b e) s = let number = s.1 in (s.0, omega (arith, number))
+typed_line (lines.Issue e p call) s = (wide e s.0, s.1, s.2)
+typed_line (lines.Drew e call segid) s = (wide e s.0, s.1)
+typed_line (lines.Named e call segid) s = (wide e s.0, s.1)
+typed_line (lines.Unnamed segid) s = tt
+typed_line (lines.Remove e segid) s = wide e s
+typed_line (lines.AnswerSegid e p call segid) s = (wide e s.0, s.1, s.2)
+typed_line (lines.Name segid owner) s = wide owner s
 typed_line _ s = absurd s
 
 typed_lines : (ls : List Line) → AreSteady ls → All IsTyped ls
 typed_lines [] steady = All-nil IsTyped
 typed_lines (l ∷ ls) steady = All-cons IsTyped l ls (typed_line l steady.0) (typed_lines ls steady.1)
 
--- ---- lines behind a past: they are typed where few words stand before their command, and what they leave fits
+-- ---- lines behind a past: where few words stand before their command they are typed, and what they leave fits
 
 pub record IsFittedUpTo (few : Type 0) (past journal : List Line) : Type 0 where
   pub typed : few → All IsTyped journal
-  pub fit : IsFit (facts_at (onto journal past))
+  pub fit : few → IsFit (facts_at (onto journal past))
 
 fit_onto : (ls past : List Line) → IsFit (facts_at past) → AreSteady ls → IsFit (facts_at (onto ls past))
 fit_onto [] past fit steady = fit
 fit_onto (l ∷ ls) past fit steady = fit_onto ls (l ∷ past) (fit_line (facts_at past) fit l steady.0) steady.1
 
+-- lines that are steady where few words stand before them
+pub fitted_given : (few : Type 0) (ls past : List Line) → IsFit (facts_at past) → (few → AreSteady ls) → IsFittedUpTo few past ls
+fitted_given few ls past fit steady = record { typed = λ is. typed_lines ls (steady is); fit = λ is. fit_onto ls past fit (steady is) }
+
 pub fitted_steady : (few : Type 0) (ls past : List Line) → IsFit (facts_at past) → AreSteady ls → IsFittedUpTo few past ls
-fitted_steady few ls past fit steady = record { typed = λ is. typed_lines ls steady; fit = fit_onto ls past fit steady }
+fitted_steady few ls past fit steady = fitted_given few ls past fit (λ is. steady)
 
 fitted_cons : (few : Type 0) (l : Line) (ls past : List Line) → IsTyped l → IsFittedUpTo few (l ∷ past) ls → IsFittedUpTo few past (l ∷ ls)
 fitted_cons few l ls past typed more = record { typed = λ is. All-cons IsTyped l ls typed (more.typed is); fit = more.fit }
 
 pub fitted_one : (few : Type 0) (l : Line) (past : List Line) → IsTyped l → IsFit (facts_at (l ∷ past)) → IsFittedUpTo few past (l ∷ [])
-fitted_one few l past typed fit = fitted_cons few l [] past typed (record { typed = λ is. All-nil IsTyped; fit = fit })
+fitted_one few l past typed fit = fitted_cons few l [] past typed (record { typed = λ is. All-nil IsTyped; fit = λ is. fit })
 
 -- a command whose acts fit where it isn't refused
 pub with_refusal : (c : Command) (past : List Line) → IsFit (facts_at past) → IsInRange c
@@ -179,6 +195,7 @@ fit_born G e kind parent ns blocks fit room number above lent =
       ways = fit.ways;
       channels = fit.channels;
       starts = fit.starts;
+      names = fit.names;
       memory = fit.memory;
     }
 
@@ -234,7 +251,7 @@ fitted_boot laws kind parent blocks ns past fit range = with_refusal c past fit 
 
 -- ---- processes and their pages
 
-put_processes : (rows : List (ℕ × ProcessView)) (p : ℕ) (process : ProcessView) → All IsFitProcess (values_of rows) → IsFitProcess process
+put_processes : (rows : List (ℕ × ProcessState)) (p : ℕ) (process : ProcessState) → All IsFitProcess (values_of rows) → IsFitProcess process
     → All IsFitProcess (values_of (put rows p process))
 unfolding put
 put_processes rows p process all fits = All-values-insert_entry nat_cmp p process IsFitProcess rows all fits
@@ -253,8 +270,8 @@ fitted_proc laws e uid gid past fit range = with_refusal (commands.Proc e uid gi
     let mine = fit.memory e.0 in
     let begun = mine.started in
     let number : Is16 e.0 = wide e (living_number G e fit one.0) in
-    let new : IsFitMemory (G.starts + 1) (record { started = (G.memory e.0).started + 1; processes = put (G.memory e.0).processes ((G.memory e.0).started + 1) (new_process uid gid) }) =
-    record { started = omega (arith, begun); pages = put_processes (G.memory e.0).processes _ (new_process uid gid) mine.pages (new_fits uid gid) } in
+    let new : IsFitMemory (G.starts + 1) (record (G.memory e.0) { started = (G.memory e.0).started + 1; processes = put (G.memory e.0).processes ((G.memory e.0).started + 1) (new_process uid gid) }) =
+    record { started = omega (arith, begun); pages = put_processes (G.memory e.0).processes _ (new_process uid gid) mine.pages (new_fits uid gid); waiting = mine.waiting } in
     fitted_one (IsCountable past) (lines.Proc e (next_pid G e) uid gid) (lines.Do (commands.Proc e uid gid) ∷ past) (number, omega (arith, few, begun), range.1.1, range.2.1)
     (record {
       pool = after.pool;
@@ -263,7 +280,8 @@ fitted_proc laws e uid gid past fit range = with_refusal (commands.Proc e uid gi
       ways = after.ways;
       channels = after.channels;
       starts = omega (arith, few);
-      memory = at_number_fits (IsFitMemory (G.starts + 1)) e.0 _ G.memory new (λ j. let old = (fit.memory j).started in record { started = omega (arith, old); pages = (fit.memory j).pages });
+      names = after.names;
+      memory = at_number_fits (IsFitMemory (G.starts + 1)) e.0 _ G.memory new (λ j. let old = (fit.memory j).started in record { started = omega (arith, old); pages = (fit.memory j).pages; waiting = (fit.memory j).waiting });
     }))
 
 frames_fit : (G : Facts) (e n : ℕ) → IsFit G → All (λ f. Is32 f.0) (take n (unused_frames G e))
@@ -286,17 +304,17 @@ put_all_fits : HistoryLaws → (rows : List (ℕ × Page)) (k : ℕ) (pages : Li
 put_all_fits laws rows k [] within fits = fits
 put_all_fits laws rows k (page ∷ pages) within fits = put_all_fits laws (put rows k page) (k + 1) pages (omega (arith, within)) (put_fits laws rows k page (omega (arith, within)) fits)
 
-pages_fit : HistoryLaws → (starts : ℕ) (m : MemoryView) (p page : ℕ) (frames : List Frame) → IsFitMemory starts m → page + length frames ≤ 16777216
+pages_fit : HistoryLaws → (starts : ℕ) (m : AttacherState) (p page : ℕ) (frames : List Frame) → IsFitMemory starts m → page + length frames ≤ 16777216
     → IsFitMemory starts (with_process p (with_pages page frames) m)
 pages_fit laws starts m p page frames fit within = by (at m.processes p) refl
   where
-    by : (o : Option ProcessView) → at m.processes p ≡ o → IsFitMemory starts (option_map_or (λ process. record m { processes = put m.processes p (with_pages page frames process) }) o m)
+    by : (o : Option ProcessState) → at m.processes p ≡ o → IsFitMemory starts (option_map_or (λ process. record m { processes = put m.processes p (with_pages page frames process) }) o m)
     by None is = fit
     by (Some process) is =
         let count = length-map frames own_page in
         let old : IsFitProcess process = at_has IsFitProcess m.processes p process fit.pages is in
         let new : IsFitProcess (with_pages page frames process) = put_all_fits laws process.pages page (map own_page frames) (omega (arith, count, within)) old in
-        record { started = fit.started; pages = put_processes m.processes p (with_pages page frames process) fit.pages new }
+        record { started = fit.started; pages = put_processes m.processes p (with_pages page frames process) fit.pages new; waiting = fit.waiting }
 
 pub fitted_alloc : HistoryLaws → (e : Enclave) (p : Pid) (at : Vpn) (pages : ℕ) (past : List Line) → IsFit (facts_at past) → IsInRange (commands.Alloc e p at pages)
     → IsFittedUpTo (IsCountable past) past (step_lines (facts_at past) (commands.Alloc e p at pages))
@@ -306,10 +324,12 @@ fitted_alloc laws e p at pages past fit range = with_refusal (commands.Alloc e p
     let fifth = when causes.NoFrames (ltb (length (unused_frames G e.0)) pages) ∷ [] in
     let fourth = when causes.Taken (is_taken G e.0 p.0 at.0 pages) ∷ fifth in
     let third = when causes.BadRange (ltb 16777216 (at.0 + pages)) ∷ fourth in
-    let second = when causes.NoProcess (not (runs G e.0 p.0)) ∷ third in
-    let one = laws.act.unmet causes.NoEnclave (not (is_living_enclave (G.enclave e.0))) second none in
-    let two = laws.act.unmet causes.NoProcess (not (runs G e.0 p.0)) third one.1 in
-    let within = ltb-false 16777216 (at.0 + pages) (laws.act.unmet causes.BadRange (ltb 16777216 (at.0 + pages)) fourth two.1).0 in
+    let second = when causes.Busy (is_busy (G.memory e.0) p.0) ∷ third in
+    let first = when causes.NoProcess (not (runs G e.0 p.0)) ∷ second in
+    let one = laws.act.unmet causes.NoEnclave (not (is_living_enclave (G.enclave e.0))) first none in
+    let two = laws.act.unmet causes.NoProcess (not (runs G e.0 p.0)) second one.1 in
+    let three = laws.act.unmet causes.Busy (is_busy (G.memory e.0) p.0) third two.1 in
+    let within = ltb-false 16777216 (at.0 + pages) (laws.act.unmet causes.BadRange (ltb 16777216 (at.0 + pages)) fourth three.1).0 in
     let few = length-take pages (unused_frames G e.0) in
     let fact = fact_of (G.enclave e.0) in
     let named = map (local_frame fact.kind fact.blocks) drawn in
@@ -322,6 +342,7 @@ fitted_alloc laws e p at pages past fit range = with_refusal (commands.Alloc e p
       ways = after.ways;
       channels = after.channels;
       starts = after.starts;
+      names = after.names;
       memory = at_number_fits (IsFitMemory G.starts) e.0 _ G.memory (pages_fit laws G.starts (G.memory e.0) p.0 at.0 named (fit.memory e.0) (omega (arith, within, few, count))) fit.memory;
     }))
 
@@ -333,8 +354,8 @@ lent_taken e (states.Held owner) lent = cc
 
 -- a page that is mapped, and its frame
 module _ (G : Facts) (fit : IsFit G) (owned : AreOwned G) where
-  found_fits : (e p v : ℕ) (found : Option ProcessView) → at (G.memory e).processes p ≡ found → (mapped : Option Page)
-      → at (option_map_or (λ (process : ProcessView). process.pages) found []) v ≡ mapped → (m : Mapping) → option_map (mapping_of (fact_of (G.enclave e))) mapped ≡ Some m
+  found_fits : (e p v : ℕ) (found : Option ProcessState) → at (G.memory e).processes p ≡ found → (mapped : Option Page)
+      → at (option_map_or (λ (process : ProcessState). process.pages) found []) v ≡ mapped → (m : Mapping) → option_map (mapping_of (fact_of (G.enclave e))) mapped ≡ Some m
       → Is32 v × Is32 m.frame.0
   unfolding at
   found_fits e p v found process None page m is = cc
@@ -352,13 +373,75 @@ fitted_touch e p addr want past fit owned range = with_refusal (commands.Touch e
   where
     by : IsFit (facts_at (lines.Do (commands.Touch e p addr want) ∷ past)) → (o : Option Mapping) → space_of (facts_at past) e.0 p.0 (addr / 4096) ≡ o
         → IsFittedUpTo (IsCountable past) (lines.Do (commands.Touch e p addr want) ∷ past) (touched_lines e p (record { 0 = addr / 4096 }) o)
-    by after None is = record { typed = λ few. All-nil IsTyped; fit = after }
+    by after None is = record { typed = λ few. All-nil IsTyped; fit = λ few. after }
     by after (Some m) is =
         let found = found_fits (facts_at past) fit owned e.0 p.0 (addr / 4096) _ refl _ refl m is in
         let most = range.0.1 in
         fitted_one (IsCountable past) (lines.Touched e p (record { 0 = addr / 4096 }) m.frame) (lines.Do (commands.Touch e p addr want) ∷ past) (omega (arith, most), range.1.1, found.0, found.1) after
 
+-- ---- makes and removes
+
+-- an enclave issues no more calls than there are words
+changed_few : (past : List Line) (line : Line) (of : ℕ) (m : AttacherState) → m.issued ≤ words_in (line ∷ past) → ((e : ℕ) → ((facts_at past).memory e).issued ≤ words_in past)
+    → (e : ℕ) → (at_number of m (facts_at past).memory e).issued ≤ words_in (line ∷ past)
+changed_few past line of m new old =
+    at_number_fits (λ (n : AttacherState). n.issued ≤ words_in (line ∷ past)) of m (facts_at past).memory new (λ j. let few = old j in omega (arith, few))
+
+pages_issue : (p page : ℕ) (frames : List Frame) (m : AttacherState) → (with_process p (with_pages page frames) m).issued ≡ m.issued
+pages_issue p page frames m = by (at m.processes p)
+  where
+    by : (found : Option ProcessState) → (option_map_or (λ process. record m { processes = put m.processes p (with_pages page frames process) }) found m).issued ≡ m.issued
+    by None = refl
+    by (Some process) = refl
+
+issued_few : (past : List Line) (e : ℕ) → ((facts_at past).memory e).issued ≤ words_in past
+issued_few [] e = omega arith
+issued_few (lines.Issue of p call ∷ past) e =
+    let old = issued_few past of.0 in
+    changed_few past (lines.Issue of p call) of.0 (with_issued p call ((facts_at past).memory of.0)) (omega (arith, old)) (issued_few past) e
+issued_few (lines.AnswerSegid of p call segid ∷ past) e =
+    let old = issued_few past of.0 in
+    changed_few past (lines.AnswerSegid of p call segid) of.0 (with_answered call ((facts_at past).memory of.0)) (omega (arith, old)) (issued_few past) e
+issued_few (lines.Proc of p uid gid ∷ past) e =
+    let old = issued_few past of.0 in
+    let m = (facts_at past).memory of.0 in
+    changed_few past (lines.Proc of p uid gid) of.0 (record m { started = m.started + 1; processes = put m.processes p.0 (new_process uid gid) }) (omega (arith, old)) (issued_few past) e
+issued_few (lines.Alloc of p page frames ∷ past) e =
+    let old = issued_few past of.0 in
+    let fact = fact_of ((facts_at past).enclave of.0) in
+    let local = map (local_frame fact.kind fact.blocks) frames in
+    let same = pages_issue p.0 page.0 local ((facts_at past).memory of.0) in
+    changed_few past (lines.Alloc of p page frames) of.0 (with_process p.0 (with_pages page.0 local) ((facts_at past).memory of.0)) (omega (arith, old, same)) (issued_few past) e
+issued_few (line ∷ past) e = let old = issued_few past e in omega (arith, old)
+
+-- the enclave lives, where that isn't the cause
+lives_or : (gone : Bool) (other : Option Cause) → cond gone (Some causes.NoEnclave) other ≡ None → gone ≡ false
+lives_or true other is = cc
+lives_or false other is = refl
+
+pub fitted_make : (e : Enclave) (p : Pid) (addr size mode : ℕ) (past : List Line) → IsFit (facts_at past) → IsInRange (commands.Make e p addr size mode)
+    → IsFittedUpTo (IsCountable past) past (step_lines (facts_at past) (commands.Make e p addr size mode))
+fitted_make e p addr size mode past fit range = with_refusal (commands.Make e p addr size mode) past fit range (λ none after.
+    let G = facts_at past in
+    let H = facts_at (lines.Do (commands.Make e p addr size mode) ∷ past) in
+    let number = living_number G e fit (lives_or (not (is_living_enclave (G.enclave e.0))) _ none) in
+    let issued = issued_few past e.0 in
+    fitted_given (IsCountable past) (make_acts H.hand (view_of H e) p) (lines.Do (commands.Make e p addr size mode) ∷ past) after
+    (λ few. steady_make (view_of H e) (view_fits H e after number) H.hand p range.1.1 (omega (arith, issued, few))))
+
+pub fitted_remove : (e : Enclave) (p : Pid) (segid : Segid) (past : List Line) → IsFit (facts_at past) → IsInRange (commands.Remove e p segid)
+    → IsFittedUpTo (IsCountable past) past (step_lines (facts_at past) (commands.Remove e p segid))
+fitted_remove e p segid past fit range = with_refusal (commands.Remove e p segid) past fit range (λ none after.
+    let G = facts_at past in
+    let H = facts_at (lines.Do (commands.Remove e p segid) ∷ past) in
+    let number = living_number G e fit (lives_or (not (is_living_enclave (G.enclave e.0))) _ none) in
+    fitted_steady (IsCountable past) (remove_acts (view_of H e) segid) (lines.Do (commands.Remove e p segid) ∷ past) after (steady_remove (view_of H e) (view_fits H e after number) segid))
+
 -- ---- what is shown
+
+pub steady_name_rows : (pairs : List (ℕ × Enclave)) → AllNumbers pairs → AreSteady (name_rows pairs)
+steady_name_rows [] all = tt
+steady_name_rows (row ∷ pairs) all = (All-head IsNumber row.1 (values_of pairs) all, steady_name_rows pairs (All-tail IsNumber row.1 (values_of pairs) all))
 
 pub steady_routes : (G : Facts) (e : Enclave) → IsFit G → IsNumber e → AreSteady (route_lines (view_of G e))
 steady_routes G e fit number = (by (view_of G e).core.holder (G.ways e.0).way (fit.ways e.0).over, rows (G.ways e.0).routes (fit.ways e.0).lies (fit.ways e.0).route)
@@ -394,9 +477,14 @@ bytes_fit laws (r ∷ rs) valid = All-append Is8 (spelling_of r) (spellings_of r
     below (b ∷ bytes) all = let low = all.0 in All-cons Is8 b bytes (omega (arith, low)) (below bytes all.1)
 
 -- a record has at most four bytes for each word of the line that sends it
+few_of_body : (body : Body) → length (body_spelling body) ≤ 4 * length (body_words body) + 12
+few_of_body (bodies.Named segid) = omega arith
+few_of_body (bodies.Unname segid) = omega arith
+few_of_body _ = omega arith
+
 few_bytes : (x y : Enclave) (r : Record) → length (spelling_of r) ≤ 4 * length (line_words (lines.Sent x y r))
 unfolding spelling_of header_of
-few_bytes x y r = omega arith
+few_bytes x y r = let body = few_of_body r.body in omega (arith, body)
 
 sent_bytes : (past : List Line) (x y : ℕ) → length (spellings_of ((facts_at past).channel x y).sent) ≤ 4 * words_in past
 sent_bytes [] x y = omega arith
@@ -430,8 +518,8 @@ waiting_few past x y few =
 -- lines of bytes, which are no more than so many behind the place of the first
 fitted_bytes : (few : Type 0) (all : ℕ) (x y : Enclave) (most at : ℕ) (bytes : List ℕ) (past : List Line) → (few → all ≤ 4294967295) → IsFit (facts_at past)
     → Is16 x.0 → Is16 y.0 → length bytes ≤ all - at → All Is8 bytes → IsFittedUpTo few past (bytes_lines x y most at bytes)
-fitted_bytes few all x y zero at bytes past low fit from to within each = record { typed = λ is. All-nil IsTyped; fit = fit }
-fitted_bytes few all x y (suc most) at [] past low fit from to within each = record { typed = λ is. All-nil IsTyped; fit = fit }
+fitted_bytes few all x y zero at bytes past low fit from to within each = record { typed = λ is. All-nil IsTyped; fit = λ is. fit }
+fitted_bytes few all x y (suc most) at [] past low fit from to within each = record { typed = λ is. All-nil IsTyped; fit = λ is. fit }
 fitted_bytes few all x y (suc most) at (byte ∷ bytes) past low fit from to within each =
     let line = lines.Bytes x y at (take 32 (byte ∷ bytes)) in
     let left = length-drop 32 (byte ∷ bytes) in

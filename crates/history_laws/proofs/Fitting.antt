@@ -22,9 +22,9 @@ use Rattle.global_model.specs.Journals.{Follows, onto}
 use Rattle.history_laws.specs.Fitting.{IsCountable}
 use Rattle.history_laws.specs.Laws.{HistoryLaws}
 use Rattle.history_laws.proofs.Follow.{Follows-behind}
-use Rattle.history_laws.proofs.Fit.{IsNumber, IsLow, IsFitState, IsFitProcess, IsFit, AreSteady, fit_do}
+use Rattle.history_laws.proofs.Fit.{IsNumber, IsLow, IsFitState, IsFitProcess, IsFitWaiting, IsFit, AreSteady, fit_do}
 use Rattle.history_laws.proofs.Steady.{steady_deliver, steady_settle}
-use Rattle.history_laws.proofs.Fitted.{IsFittedUpTo, with_refusal, fitted_steady, fitted_one, living_number, channel_numbers, fitted_host, fitted_boot, fitted_proc, fitted_alloc, fitted_touch, fitted_link, steady_routes, steady_states}
+use Rattle.history_laws.proofs.Fitted.{IsFittedUpTo, with_refusal, fitted_steady, fitted_one, living_number, channel_numbers, fitted_host, fitted_boot, fitted_proc, fitted_alloc, fitted_make, fitted_remove, fitted_touch, fitted_link, steady_name_rows, steady_routes, steady_states}
 
 -- ---- each command
 
@@ -47,6 +47,8 @@ fitted_step laws before (commands.Host blocks ns) past ready owned may range =
 fitted_step laws before (commands.Boot kind parent blocks ns) past ready owned may range = fitted_boot laws kind parent blocks ns past ready.fit range
 fitted_step laws before (commands.Proc e uid gid) past ready owned may range = fitted_proc laws e uid gid past ready.fit range
 fitted_step laws before (commands.Alloc e p at pages) past ready owned may range = fitted_alloc laws e p at pages past ready.fit range
+fitted_step laws before (commands.Make e p addr size mode) past ready owned may range = fitted_make e p addr size mode past ready.fit range
+fitted_step laws before (commands.Remove e p segid) past ready owned may range = fitted_remove e p segid past ready.fit range
 fitted_step laws before (commands.Touch e p addr want) past ready owned may range = fitted_touch e p addr want past ready.fit owned range
 fitted_step laws before (commands.Deliver x y count) past ready owned may range =
     let c = commands.Deliver x y count in
@@ -64,6 +66,9 @@ fitted_step laws before commands.ShowPool past ready owned may range =
     let most = pool.most in
     let count = length-map-range_with_len G.block 0 G.pool in
     fitted_acts commands.ShowPool past ready.fit range (λ none after. steady_states 0 (map G.block (range_with_len 0 G.pool)) (omega (arith, count, most)) (All-map IsFitState G.block (range_with_len 0 G.pool) (λ k d lt. pool.state _)))
+fitted_step laws before commands.ShowNames past ready owned may range =
+    let G = facts_at past in
+    fitted_acts commands.ShowNames past ready.fit range (λ none after. steady_name_rows (G.names G.holder.0).pairs (ready.fit.names G.holder.0))
 fitted_step laws before c past ready owned may range = fitted_one (IsCountable past) (lines.Do c) past tt (fit_do (facts_at past) ready.fit c range)
 
 fresh_step : (before : ℕ) (c : Command) (past : List Line) → IsFitAfter before past → may_stand before c ≡ true → before + 1 ≤ 1
@@ -80,7 +85,8 @@ no_facts-fit = record {
   ways = λ e. record { over = λ x is. cc; asked = All-nil IsNumber; back = All-nil IsNumber; route = All-nil IsNumber; lies = All-nil IsLow };
   channels = λ x y. tt;
   starts = omega arith;
-  memory = λ e. record { started = omega arith; pages = All-nil IsFitProcess };
+  names = λ e. All-nil IsNumber;
+  memory = λ e. record { started = omega arith; pages = All-nil IsFitProcess; waiting = All-nil IsFitWaiting };
 }
 
 -- ---- journals
@@ -94,9 +100,9 @@ words_in-onto [] past = omega arith
 words_in-onto (l ∷ ls) past = let more = words_in-onto ls (l ∷ past) in omega (arith, more)
 
 next_ready : HistoryLaws → (before : ℕ) (c : Command) (G : Facts) (past : List Line) → G ≡ facts_at past → IsFitAfter before past → AreOwned (facts_at past)
-    → may_stand before c ≡ true → IsInRange c → IsFitAfter (before + 1) (onto (step_lines G c) past)
-next_ready laws before c G past is ready owned may range =
-    record { fit = rw is (fitted_step laws before c past ready owned may range).fit; fresh = rw is (fresh_step before c past ready may) }
+    → may_stand before c ≡ true → IsInRange c → IsCountable past → IsFitAfter (before + 1) (onto (step_lines G c) past)
+next_ready laws before c G past is ready owned may range few =
+    record { fit = rw is ((fitted_step laws before c past ready owned may range).fit few); fresh = rw is (fresh_step before c past ready may) }
 
 next_facts : HistoryLaws → (ls : List Line) (G : Facts) (past : List Line) → G ≡ facts_at past → after_lines G ls ≡ facts_at (onto ls past)
 next_facts laws ls G past is = ap (λ H. after_lines H ls) is ∙ sym (laws.past.facts ls past)
@@ -121,7 +127,7 @@ typed_from laws (c ∷ cs) last before G past is ready owned placed one few =
     let turned = words_in-onto ls past in
     let later = Follows-behind OwnedAt ls (journal_from H (cs ++ last)) past owned in
     All-append IsTyped ls (journal_from H (cs ++ last)) (typed_step laws before c G past is ready owned.0 placed.0 placed.1 (omega (arith, few)))
-    (typed_from laws cs last (before + 1) H (onto ls past) (next_facts laws ls G past is) (next_ready laws before c G past is ready owned.0 placed.0 placed.1) later placed.2 one (omega (arith, few, sum, turned)))
+    (typed_from laws cs last (before + 1) H (onto ls past) (next_facts laws ls G past is) (next_ready laws before c G past is ready owned.0 placed.0 placed.1 (omega (arith, few))) later placed.2 one (omega (arith, few, sum, turned)))
 
 start_ready : IsFitAfter 0 []
 start_ready = record { fit = no_facts-fit; fresh = λ few. refl }

@@ -9,6 +9,7 @@ use Rattle.global_model.specs.Due.{journal_of}
 use Rattle.global_model.specs.Journals.{do_commands}
 use Rattle.global_model.specs.Place.{IsPlaced, IsPlacedAfter}
 use Rattle.discovery_laws.specs.Known.{AreAdmitted}
+use Rattle.call_laws.specs.Legal.{CallAt}
 use Rattle.history_laws.specs.History.{IsDueAt, IsFound, IsHistory, IsTold}
 use Rattle.history_laws.specs.Laws.{HistoryLaws}
 use Rattle.history_laws.specs.Lawful.{IsLegalAt}
@@ -22,6 +23,7 @@ history_front journal rest history = record {
   told = Follows-front IsDueAt journal rest [] history.told;
   rested = Follows-front RestAt journal rest [] history.rested;
   found = λ front behind is. history.found front (behind ++ rest) (ap (λ ls. ls ++ rest) is ∙ append_assoc front behind rest);
+  calls = Follows-front CallAt journal rest [] history.calls;
 }
 
 -- the first ones of commands that stand where they may do so

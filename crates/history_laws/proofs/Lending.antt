@@ -1,5 +1,5 @@
 -- What is allocated or lent is the lowest that there is, and nobody maps it.
-use Rattle.std.proofs.Common.{◌≡◌, ◌+◌, ◌*◌, ◌/◌, ◌<◌, ◌≤◌, ℕ, zero, suc, List, [], ◌∷◌, length, take, Bool, true, false, cond, not, ◌||◌, Option, None, Some, refl, sym, ap, ◌∙◌, subst, arith}
+use Rattle.std.proofs.Common.{◌≡◌, ◌+◌, ◌*◌, ◌/◌, ◌<◌, ◌≤◌, ℕ, zero, suc, List, [], ◌∷◌, length, take, Bool, true, false, cond, not, ◌||◌, Option, None, Some, refl, sym, ap, ◌∙◌, arith}
 use Rattle.std.specs.List.{All, range_with_len, list_any}
 use Rattle.std.specs.Map.{lookup}
 use Rattle.std.specs.Ordering.{nat_cmp}
@@ -7,7 +7,7 @@ use Rattle.std.specs.BTreeMap.{is_at}
 use Rattle.std.specs.Option.{option_map, option_map_or}
 use Rattle.std.proofs.lemmas.Bool.{eqb-true, eq-eqb, and_parts}
 use Rattle.std.proofs.lemmas.List.{take_min, length-take}
-use Rattle.std.proofs.lemmas.List.Elements.{All-nil, All-cons, All-weaker, All-map, All-take, filter_passes}
+use Rattle.std.proofs.lemmas.List.Elements.{All-nil, All-cons, All-weaker, All-map, filter_passes}
 use Rattle.xm_num.specs.declared.Frame.{Frame}
 use Rattle.xm_num.specs.declared.Block.{Block}
 use Rattle.xm_num.specs.declared.Page.{Page}
@@ -15,14 +15,11 @@ use Rattle.xm_num.specs.Rows.{at}
 use Rattle.frame_pool.specs.declared.BlockState.{BlockState}
 use Rattle.frame_pool.specs.declared.BlockState.TheVariants as states
 use Rattle.frame_pool.specs.Blocks.{is_free}
-use Rattle.xemem_language.specs.declared.line.Line.{Line}
-use Rattle.xemem_language.specs.declared.line.Line.TheVariants as lines
-use Rattle.enclave_rules.specs.Memory.{ProcessView}
+use Rattle.attach_map.specs.Attaching.{ProcessState}
 use Rattle.enclave_rules.specs.Pages.{block_frames}
-use Rattle.global_model.specs.Apt.{AptAt, AreOwned, OwnedAt}
-use Rattle.global_model.specs.Facts.{Facts, fact_of, facts_at}
-use Rattle.global_model.specs.Space.{Mapping, IsMapped, IsUnmapped, mapping_of, frame_of, owns, is_own_frame, is_lent_to, is_unused, unused_frames, blocks_left}
-use Rattle.history_laws.specs.Lawful.{LawfulLending}
+use Rattle.global_model.specs.Apt.{AreOwned}
+use Rattle.global_model.specs.Facts.{Facts, fact_of}
+use Rattle.global_model.specs.Space.{Mapping, IsMapped, IsUnmapped, mapping_of, frame_of, owns, is_export_frame, is_own_frame, is_lent_to, is_unused, unused_frames, blocks_left}
 
 -- ---- rows
 
@@ -41,7 +38,7 @@ found_any {V = V} test q (row ∷ rows) v is passes = by (test row.0) (found_any
     by true later found = let same : row.1 ≡ v = cc in let here : q row.1 ≡ true = ap q same ∙ passes in rw here refl
     by false later found = or_right (q row.1) (list_any (λ row. q row.1) rows) (later found passes)
 
-at_any : {V : Type 0} (q : V → Bool) (rows : List (ℕ × V)) (k : ℕ) (v : V) → at rows k ≡ Some v → q v ≡ true → list_any (λ row. q row.1) rows ≡ true
+pub at_any : {V : Type 0} (q : V → Bool) (rows : List (ℕ × V)) (k : ℕ) (v : V) → at rows k ≡ Some v → q v ≡ true → list_any (λ row. q row.1) rows ≡ true
 unfolding at
 at_any q rows k v is passes = found_any (is_at (nat_cmp k)) q rows v is passes
 
@@ -52,9 +49,23 @@ record IsBehind (G : Facts) (e : ℕ) (frame : Frame) : Type 0 where
   lent : is_lent_to e (G.block (frame.0 / 64)) ≡ true
   own : is_own_frame G e frame.0 ≡ true
 
+pub one_owner : (a b : ℕ) (state : BlockState) → is_lent_to a state ≡ true → is_lent_to b state ≡ true → a ≡ b
+one_owner a b states.Free one two = cc
+one_owner a b (states.Lent o) one two = sym (eqb-true o.0 a one) ∙ eqb-true o.0 b two
+one_owner a b (states.Held o) one two = cc
+
+clash : (x y : Bool) → x ≡ true → not (x || y) ≡ true → ⊥
+clash true y a c = cc
+clash false y a c = cc
+
+pub not_lent : (e : ℕ) (state : BlockState) → is_free state ≡ true → is_lent_to e state ≡ true → ⊥
+not_lent e states.Free free lent = cc
+not_lent e (states.Lent o) free lent = cc
+not_lent e (states.Held o) free lent = cc
+
 module _ (G : Facts) (owned : AreOwned G) where
-  behind : (e p v : ℕ) (frame : Frame) (found : Option ProcessView) → at (G.memory e).processes p ≡ found → (mapped : Option Page)
-      → at (option_map_or (λ (process : ProcessView). process.pages) found []) v ≡ mapped → (m : Mapping) → option_map (mapping_of (fact_of (G.enclave e))) mapped ≡ Some m → m.frame ≡ frame → IsBehind G e frame
+  behind : (e p v : ℕ) (frame : Frame) (found : Option ProcessState) → at (G.memory e).processes p ≡ found → (mapped : Option Page)
+      → at (option_map_or (λ (process : ProcessState). process.pages) found []) v ≡ mapped → (m : Mapping) → option_map (mapping_of (fact_of (G.enclave e))) mapped ≡ Some m → m.frame ≡ frame → IsBehind G e frame
   unfolding at
   behind e p v frame None process mapped page m is same = by mapped page is
     where
@@ -71,7 +82,7 @@ module _ (G : Facts) (owned : AreOwned G) where
       let of_process : list_any (λ (r : ℕ × Page). owns fact frame.0 r.1) found.pages ≡ true = at_any (owns fact frame.0) found.pages v row page mine in
       record {
         lent = ap (λ n. is_lent_to e (G.block (n / 64))) (sym number) ∙ owned.lent e p v found row process page;
-        own = at_any (λ (process : ProcessView). list_any (λ (r : ℕ × Page). owns fact frame.0 r.1) process.pages) (G.memory e).processes p found process of_process;
+        own = at_any (λ (process : ProcessState). list_any (λ (r : ℕ × Page). owns fact frame.0 r.1) process.pages) (G.memory e).processes p found process of_process;
       }
 
   mapped_behind : (frame : Frame) (mapped : IsMapped G frame) → IsBehind G mapped.enclave frame
@@ -79,34 +90,20 @@ module _ (G : Facts) (owned : AreOwned G) where
 
   -- ---- unused frames are unmapped, and so are those of free blocks
 
-  one_owner : (a b : ℕ) (state : BlockState) → is_lent_to a state ≡ true → is_lent_to b state ≡ true → a ≡ b
-  one_owner a b states.Free one two = cc
-  one_owner a b (states.Lent o) one two = sym (eqb-true o.0 a one) ∙ eqb-true o.0 b two
-  one_owner a b (states.Held o) one two = cc
-
-  clash : (x : Bool) → x ≡ true → not x ≡ true → ⊥
-  clash true a c = cc
-  clash false a c = cc
-
-  unused_unmapped : (e : ℕ) (frame : Frame) → is_unused G e frame.0 ≡ true → IsUnmapped G frame
+  pub unused_unmapped : (e : ℕ) (frame : Frame) → is_unused G e frame.0 ≡ true → IsUnmapped G frame
   unused_unmapped e frame unused mapped =
       let b = mapped_behind frame mapped in
       let tests = and_parts _ _ unused in
       let first = and_parts _ _ tests.0 in
       let same : mapped.enclave ≡ e = one_owner mapped.enclave e (G.block (frame.0 / 64)) b.lent first.1 in
-      clash _ (ap (λ k. is_own_frame G k frame.0) (sym same) ∙ b.own) tests.1
-
-  not_lent : (e : ℕ) (state : BlockState) → is_free state ≡ true → is_lent_to e state ≡ true → ⊥
-  not_lent e states.Free free lent = cc
-  not_lent e (states.Lent o) free lent = cc
-  not_lent e (states.Held o) free lent = cc
+      clash _ (is_export_frame G e frame.0) (ap (λ k. is_own_frame G k frame.0) (sym same) ∙ b.own) tests.1
 
   free_unmapped : (frame : Frame) → is_free (G.block (frame.0 / 64)) ≡ true → IsUnmapped G frame
   free_unmapped frame free mapped = not_lent mapped.enclave (G.block (frame.0 / 64)) free (mapped_behind frame mapped).lent
 
 -- ---- frames and blocks that are drawn
 
-take-length-take : {X : Type 0} (n : ℕ) (xs : List X) → take n xs ≡ take (length (take n xs)) xs
+pub take-length-take : {X : Type 0} (n : ℕ) (xs : List X) → take n xs ≡ take (length (take n xs)) xs
 take-length-take n xs = sym (take_min n xs) ∙ ap (λ k. take k xs) (sym (length-take n xs))
 
 pub All-range : (a n : ℕ) → All (λ k. (a ≤ k) × (k < a + n)) (range_with_len a n)
@@ -116,39 +113,18 @@ All-range a (suc n) =
     All-cons (λ k. (a ≤ k) × (k < a + suc n)) a (range_with_len (a + 1) n) first (All-weaker (λ k. (a + 1 ≤ k) × (k < (a + 1) + n)) (λ k. (a ≤ k) × (k < a + suc n)) (λ k h. (omega (arith, h.0), omega (arith, h.1))) (range_with_len (a + 1) n) (All-range (a + 1) n))
 
 -- the unused frames are unused
-frames_unused : (G : Facts) (e : ℕ) → All (λ f. is_unused G e f.0 ≡ true) (unused_frames G e)
+pub frames_unused : (G : Facts) (e : ℕ) → All (λ f. is_unused G e f.0 ≡ true) (unused_frames G e)
 frames_unused G e = All-map (λ (f : Frame). is_unused G e f.0 ≡ true) (λ n. record { 0 = n }) _ (filter_passes (is_unused G e) (range_with_len 0 (64 * G.pool)))
 
-blocks_free : (G : Facts) → All (λ b. is_free (G.block b.0) ≡ true) (blocks_left G)
+pub blocks_free : (G : Facts) → All (λ b. is_free (G.block b.0) ≡ true) (blocks_left G)
 blocks_free G = All-map (λ (b : Block). is_free (G.block b.0) ≡ true) (λ n. record { 0 = n }) _ (filter_passes (λ b. is_free (G.block b)) (range_with_len 0 G.pool))
 
 -- the frames of a block lie in it
 frame_of_block : (b n : ℕ) → 64 * b ≤ n → n < 64 * b + 64 → n / 64 ≡ b
 frame_of_block b n low high = omega arith
 
-frames_of_block : (b : Block) → All (λ f. f.0 / 64 ≡ b.0) (block_frames b)
+pub frames_of_block : (b : Block) → All (λ f. f.0 / 64 ≡ b.0) (block_frames b)
 frames_of_block b = All-map (λ (f : Frame). f.0 / 64 ≡ b.0) (λ n. record { 0 = n }) (range_with_len (64 * b.0) 64) (All-weaker (λ n. (64 * b.0 ≤ n) × (n < 64 * b.0 + 64)) (λ n. n / 64 ≡ b.0) (λ n h. frame_of_block b.0 n h.0 h.1) (range_with_len (64 * b.0) 64) (All-range (64 * b.0) 64))
 
-block_unmapped : (G : Facts) → AreOwned G → (b : Block) → is_free (G.block b.0) ≡ true → All (IsUnmapped G) (block_frames b)
+pub block_unmapped : (G : Facts) → AreOwned G → (b : Block) → is_free (G.block b.0) ≡ true → All (IsUnmapped G) (block_frames b)
 block_unmapped G owned b free = All-weaker (λ f. f.0 / 64 ≡ b.0) (IsUnmapped G) (λ f at. free_unmapped G owned f (ap (λ n. is_free (G.block n)) at ∙ free)) (block_frames b) (frames_of_block b)
-
--- ---- apt lines lend lawfully
-
-pub lawful_lending : (past : List Line) (line : Line) → AptAt past line → OwnedAt past line → LawfulLending past line
-lawful_lending past (lines.Alloc e p page frames) apt owned =
-    let G = facts_at past in
-    let P = λ (fs : List Frame). (fs ≡ take (length fs) (unused_frames G e.0)) × All (IsUnmapped G) fs in
-    subst P (sym apt.lowest) (
-      take-length-take apt.count (unused_frames G e.0),
-      All-take (IsUnmapped G) apt.count (unused_frames G e.0)
-          (All-weaker (λ f. is_unused G e.0 f.0 ≡ true) (IsUnmapped G) (unused_unmapped G owned e.0) (unused_frames G e.0) (frames_unused G e.0)),
-    )
-lawful_lending past (lines.Born e kind parent ns blocks) apt owned =
-    let G = facts_at past in
-    let P = λ (bs : List Block). (bs ≡ take (length bs) (blocks_left G)) × All (λ block. All (IsUnmapped G) (block_frames block)) bs in
-    subst P (sym apt.lowest) (
-      take-length-take apt.count (blocks_left G),
-      All-take (λ block. All (IsUnmapped G) (block_frames block)) apt.count (blocks_left G)
-          (All-weaker (λ b. is_free (G.block b.0) ≡ true) (λ block. All (IsUnmapped G) (block_frames block)) (block_unmapped G owned) (blocks_left G) (blocks_free G)),
-    )
-lawful_lending past _ apt owned = tt

@@ -11,3 +11,5 @@ pub mod Fit
 pub mod Steady
 pub mod Fitted
 pub mod Fitting
+pub mod Exported
+pub mod Unexported

@@ -5,15 +5,14 @@ use Rattle.std.proofs.lemmas.Bool.{leb-true, and_parts}
 use Rattle.std.proofs.lemmas.List.Elements.{All-nil, All-cons}
 use Rattle.xm_num.specs.declared.Enclave.{Enclave}
 use Rattle.xemem_language.specs.declared.record.Record.{Record}
-use Rattle.xemem_language.specs.declared.record.Body.{Body}
-use Rattle.xemem_language.specs.declared.record.Body.TheVariants as bodies
-use Rattle.xemem_wire.specs.Table.{kind_of, is_kind_built, is_enclave, is_undirected, is_destination}
+use Rattle.xemem_wire.specs.Table.{kind_of, is_enclave, is_undirected, is_destination}
 use Rattle.xemem_wire.specs.Spelling.{is_valid}
 use Rattle.xemem_language.specs.declared.command.Command.{Command}
 use Rattle.xemem_language.specs.declared.line.Line.{Line}
 use Rattle.xemem_language.specs.declared.line.Line.TheVariants as lines
 use Rattle.global_model.specs.Facts.{Facts, after_lines, no_facts}
 use Rattle.xemem_language.specs.Ranges.{IsPlainOption, IsSpelledBody, IsSpelled}
+use Rattle.global_model.specs.Apt.{AptAt}
 use Rattle.global_model.specs.Plain.{IsTellable, IsAct}
 use Rattle.history_laws.specs.Laws.{HistoryLaws}
 use Rattle.global_model.specs.Place.{IsPlacedAfter, IsPlaced}
@@ -23,26 +22,18 @@ use Rattle.global_model.specs.Journals.{Follows}
 
 -- ---- valid records
 
--- the kinds that are built say no more than their header
-spelled_body : (body : Body) → is_kind_built (kind_of body) ≡ true → IsSpelledBody body
-spelled_body bodies.Query built = tt
-spelled_body bodies.Here built = tt
-spelled_body bodies.Register built = tt
-spelled_body bodies.Admit built = tt
-spelled_body _ built = cc
-
 spelled_dest : (kind : ℕ) (dest : Option Enclave) → is_destination kind dest ≡ true → IsPlainOption dest
 spelled_dest kind None is = tt
 spelled_dest kind (Some e) is =
     let most : e.0 ≤ 255 = leb-true e.0 255 (and_parts (not (is_undirected kind)) (is_enclave e.0) is).1 in
     omega (arith, most)
 
-spelled_record : (r : Record) → is_valid r ≡ true → IsPlainOption r.dest × IsSpelledBody r.body
+spelled_record : HistoryLaws → (r : Record) → is_valid r ≡ true → IsPlainOption r.dest × IsSpelledBody r.body
 unfolding is_valid
-spelled_record r valid =
+spelled_record laws r valid =
     let called = and_parts _ _ valid in
     let sent = and_parts _ _ called.0 in
-    (spelled_dest (kind_of r.body) r.dest sent.1, spelled_body r.body (and_parts _ _ sent.0).0)
+    (spelled_dest (kind_of r.body) r.dest sent.1, laws.wire.body r valid)
 
 -- ---- lines
 
@@ -61,15 +52,22 @@ tellable_journal laws (c ∷ cs) before G placed =
     let H = after_lines G (step_lines G c) in
     (placed.1, tellable_acts (command_lines G c) (journal_from H cs) (laws.act.acts G c) (tellable_journal laws cs (before + 1) H placed.2))
 
-spelled_line : (past : List Line) (line : Line) → IsTellable line → CarriedAt past line → IsSpelled line
-spelled_line past (lines.Sent x y r) tellable carried = spelled_record r carried.2
-spelled_line past _ tellable carried = tellable
+-- the record that is sent is valid, as the journal is carried, and a segid that is named is in its range, as the line is apt
+spelled_line : HistoryLaws → (past : List Line) (line : Line) → IsTellable line → CarriedAt past line → AptAt past line → IsSpelled line
+spelled_line laws past (lines.Sent x y r) tellable carried apt = spelled_record laws r carried.2
+spelled_line laws past (lines.Drew e call segid) tellable carried apt = apt.range
+spelled_line laws past (lines.Named e call segid) tellable carried apt = apt.range
+spelled_line laws past (lines.Unnamed segid) tellable carried apt = apt.range
+spelled_line laws past (lines.Remove e segid) tellable carried apt = apt.range
+spelled_line laws past (lines.AnswerSegid e p call segid) tellable carried apt = apt.range
+spelled_line laws past (lines.Name segid owner) tellable carried apt = apt
+spelled_line laws past _ tellable carried apt = tellable
 
-spelled_lines : (ls past : List Line) → AllByRecursion IsTellable ls → Follows CarriedAt past ls → All IsSpelled ls
-spelled_lines [] past tellable carried = All-nil IsSpelled
-spelled_lines (l ∷ ls) past tellable carried =
-    All-cons IsSpelled l ls (spelled_line past l tellable.0 carried.0) (spelled_lines ls (l ∷ past) tellable.1 carried.1)
+spelled_lines : HistoryLaws → (ls past : List Line) → AllByRecursion IsTellable ls → Follows CarriedAt past ls → Follows AptAt past ls → All IsSpelled ls
+spelled_lines laws [] past tellable carried apt = All-nil IsSpelled
+spelled_lines laws (l ∷ ls) past tellable carried apt =
+    All-cons IsSpelled l ls (spelled_line laws past l tellable.0 carried.0 apt.0) (spelled_lines laws ls (l ∷ past) tellable.1 carried.1 apt.1)
 
--- the records that are sent are valid, as the journal is carried
 pub journal_of-spelled : HistoryLaws → (cs : List Command) → IsPlaced cs → All IsSpelled (journal_of cs)
-journal_of-spelled laws cs placed = spelled_lines (journal_of cs) [] (tellable_journal laws cs 0 no_facts placed) (laws.journal.carried cs placed)
+journal_of-spelled laws cs placed =
+    spelled_lines laws (journal_of cs) [] (tellable_journal laws cs 0 no_facts placed) (laws.journal.carried cs placed) (laws.journal.apt cs placed)

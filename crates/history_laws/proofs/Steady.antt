@@ -8,8 +8,9 @@ use Rattle.std.specs.Ordering.{nat_cmp}
 use Rattle.std.specs.BTreeMap.{is_at}
 use Rattle.std.proofs.lemmas.Bool.{leb-true, le-leb, ltb-true, eqb-true, and_parts, cond_both}
 use Rattle.std.proofs.lemmas.List.Elements.{All-nil, All-cons, All-head, All-tail, All-filter, All-weaker}
-use Rattle.std.proofs.lemmas.Map.Views.{All-map-remove_entry}
 use Rattle.xm_num.specs.declared.Enclave.{Enclave}
+use Rattle.xm_num.specs.declared.Pid.{Pid}
+use Rattle.xm_num.specs.declared.Segid.{Segid}
 use Rattle.xm_num.specs.Rows.{at, less}
 use Rattle.xemem_language.specs.declared.record.Record.{Record}
 use Rattle.xemem_language.specs.declared.record.Body.{Body}
@@ -19,16 +20,23 @@ use Rattle.xemem_language.specs.declared.line.Line.TheVariants as lines
 use Rattle.xemem_wire.specs.Table.{kind_of, is_kind_built, has_call, is_destination, is_enclave, is_undirected}
 use Rattle.xemem_wire.specs.Spelling.{is_valid, AreValid}
 use Rattle.line_reader.specs.Typed.{Is32, IsTypedBody}
-use Rattle.enclave_rules.specs.View.{View}
+use Rattle.attach_map.specs.declared.Pending.TheVariants as pendings
+use Rattle.attach_map.specs.declared.Waiting.{Waiting}
+use Rattle.name_server.specs.Names.{has_name}
+use Rattle.enclave_rules.specs.Exports.{is_segid, segid_number}
+use Rattle.enclave_rules.specs.Hand.{Hand}
+use Rattle.enclave_rules.specs.Names.{can_draw, next_segid}
+use Rattle.enclave_rules.specs.View.{View, own_lines}
 use Rattle.enclave_rules.specs.Ways.{place_among}
-use Rattle.enclave_rules.specs.Sending.{Server, knows_way, way_to, drop_lines, over_lines}
-use Rattle.enclave_rules.specs.Steps.{query_of, here_of, register_of, admit_of, is_stray, query_lines, told_askers, here_lines, register_lines, admit_over, admit_to, body_lines, record_lines, handled_lines}
+use Rattle.enclave_rules.specs.Sending.{Goal, Server, To, drop_lines, knows_way, made_lines, over_lines, route_or, send_lines, toward_server, way_to}
+use Rattle.enclave_rules.specs.Segments.{asking_lines, drew_line, issue_line, make_acts, make_of, name_lines, name_request, named_lines, named_record, naming_lines, remove_acts, takes_name, unname_lines, unname_record}
+use Rattle.enclave_rules.specs.Steps.{query_of, here_of, register_of, admit_of, is_stray, query_lines, told_askers, here_lines, register_lines, admit_over, admit_to, named_to, body_lines, record_lines, handled_lines}
 use Rattle.global_model.specs.Facts.{Facts, ChannelFact, after_line, after_lines, fact_of}
 use Rattle.global_model.specs.Channels.{size_of, waiting_in, whole_records, arriving}
 use Rattle.global_model.specs.Views.{view_of}
 use Rattle.global_model.specs.Due.{got_lines, took_lines, deliver_lines, next_rest, rest_of_record, channels_of, waits, waiting_channels, first_waiting, settle_end, settle_from}
 use Rattle.history_laws.specs.Laws.{HistoryLaws}
-use Rattle.history_laws.proofs.Fit.{IsNumber, AllNumbers, IsFitWays, IsFit, IsSteady, AreSteady, fit_line, fit_lines}
+use Rattle.history_laws.proofs.Fit.{IsNumber, AllNumbers, IsFitWaiting, IsFitWays, IsFit, IsSteady, AreSteady, fit_line, fit_lines, less_numbers, put_waiting}
 use Rattle.history_laws.proofs.Lending.{All-range}
 
 -- ---- lists of lines
@@ -71,6 +79,9 @@ typed_body bodies.Query built = tt
 typed_body bodies.Here built = tt
 typed_body bodies.Register built = tt
 typed_body bodies.Admit built = tt
+typed_body bodies.NameReq built = tt
+typed_body (bodies.Named segid) built = tt
+typed_body (bodies.Unname segid) built = tt
 typed_body _ built = cc
 
 typed_call : (serves : Bool) (call : ℕ) → cond serves (leb 1 call && ltb call (2 ^ 32)) (eqb call 0) ≡ true → Is32 call
@@ -93,14 +104,10 @@ valid_numbers r valid =
       origin = leb-true r.origin.0 255 one.1;
       dest = typed_dest (kind_of r.body) r.dest two.1;
       call = typed_call (has_call (kind_of r.body)) r.call three.1;
-      body = typed_body r.body one.0;
+      body = typed_body r.body (and_parts _ _ one.0).0;
     }
 
 -- ---- rows
-
-less_numbers : (rows : List (ℕ × Enclave)) (k : ℕ) → AllNumbers rows → AllNumbers (less rows k)
-unfolding less
-less_numbers rows k all = All-map-remove_entry (is_at (nat_cmp k)) (λ row. row.1) IsNumber rows all
 
 found_has : {V : Type 0} (P : V → Type 0) (test : ℕ → Bool) (rows : List (ℕ × V)) (x : V) → All P (values_of rows) → lookup test rows ≡ Some x → P x
 found_has P test [] x all is = cc
@@ -117,10 +124,11 @@ at_has P rows k x all is = found_has P (is_at (nat_cmp k)) rows x all is
 
 -- ---- what is written for a record
 
--- what a view knows of enclaves fits
+-- what a view knows of enclaves fits, and so do the processes whose calls wait
 pub record IsFitView (v : View) : Type 0 where
   pub me : IsNumber v.me
   pub ways : IsFitWays v.ways
+  pub waiting : All IsFitWaiting (values_of v.memory.waiting)
 
 module _ (v : View) (fit : IsFitView v) where
   steady_drop : AreSteady (drop_lines v)
@@ -137,6 +145,50 @@ module _ (v : View) (fit : IsFitView v) where
       by : (holder : Bool) → cond holder None v.ways.way ≡ Some x → IsNumber x
       by true none = cc
       by false some = fit.ways.over x some
+
+  goal_number : (d x : Enclave) → way_to v (To d) ≡ Some x → IsNumber x
+  goal_number d x is = by (at v.ways.routes d.0) refl is
+    where
+      by : (o : Option Enclave) → at v.ways.routes d.0 ≡ o → route_or o (toward_server v) ≡ Some x → IsNumber x
+      by None none way = way_number x way
+      by (Some over) found way = let same : over ≡ x = cc in subst IsNumber same (at_has IsNumber v.ways.routes d.0 over fit.ways.route found)
+
+  -- what an enclave makes itself is sent where it is valid
+  steady_made : (goal : Goal) (r : Record) → ((x : Enclave) → way_to v goal ≡ Some x → IsNumber x) → AreSteady (made_lines v goal r)
+  steady_made goal r near =
+      cond_both (is_valid r) (send_lines v None goal r) (drop_lines v) AreSteady (λ valid. steady_over None (way_to v goal) r near valid) (λ other. steady_drop)
+
+  pub steady_named : (call : ℕ) (segid : Segid) → Is32 call → AreSteady (named_lines v call segid)
+  steady_named call segid few = by (at v.memory.waiting call) refl
+    where
+      by : (found : Option Waiting) → at v.memory.waiting call ≡ found → AreSteady (option_map_or (λ waiting. if takes_name v call segid waiting
+          then lines.Named v.me (record { 0 = call }) segid ∷ lines.AnswerSegid v.me waiting.pid (record { 0 = call }) segid ∷ []
+          else drop_lines v) found (drop_lines v))
+      by None is = steady_drop
+      by (Some waiting) is = steady_either (takes_name v call segid waiting)
+          (lines.Named v.me (record { 0 = call }) segid ∷ lines.AnswerSegid v.me waiting.pid (record { 0 = call }) segid ∷ []) (drop_lines v)
+          ((fit.me, few), ((fit.me, at_has IsFitWaiting v.memory.waiting call waiting fit.waiting is, few), tt)) steady_drop
+
+  steady_names : (caller : Enclave) (call : ℕ) → IsNumber caller → Is32 call → AreSteady (name_lines v caller call)
+  steady_names caller call number few =
+      let told = named_record v.me caller call (next_segid v.names) in
+      steady_either (can_draw v.names) (drew_line v caller call ∷ made_lines v (To caller) told) (drop_lines v)
+      ((number, few), steady_made (To caller) told (goal_number caller)) steady_drop
+
+  steady_unname : (owner : Enclave) (segid : Segid) → AreSteady (unname_lines v owner segid)
+  steady_unname owner segid = steady_either (is_segid segid && has_name v.names (segid_number segid) owner) (lines.Unnamed segid ∷ []) (drop_lines v) (tt, tt) steady_drop
+
+  steady_named_to : (from : Enclave) (r : Record) (segid : Segid) (dest : Option Enclave) → is_valid r ≡ true → AreSteady (named_to v from r segid dest)
+  steady_named_to from r segid None valid = steady_drop
+  steady_named_to from r segid (Some d) valid =
+      steady_either (d.0 == v.me.0) (named_lines v r.call segid) (over_lines v (Some from) (way_to v (To d)) r)
+      (steady_named r.call segid (valid_numbers r valid).call) (steady_over (Some from) (way_to v (To d)) r (goal_number d) valid)
+
+  -- the segment ends
+  pub steady_remove : (segid : Segid) → AreSteady (remove_acts v segid)
+  steady_remove segid =
+      let away = unname_record v.me (make_of v.exports (segid_number segid)) segid in
+      (fit.me, steady_either v.core.holder (unname_lines v v.me segid) (made_lines v Server away) (steady_unname v.me segid) (steady_made Server away way_number))
 
   steady_query : (from : Enclave) → IsNumber from → AreSteady (query_lines v from)
   steady_query from near =
@@ -182,6 +234,14 @@ module _ (v : View) (fit : IsFitView v) where
   steady_body from r bodies.Here near valid = steady_here from near
   steady_body from r bodies.Register near valid = steady_register from r near valid
   steady_body from r bodies.Admit near valid = steady_admit from r r.dest (valid_numbers r valid).dest valid
+  steady_body from r bodies.NameReq near valid =
+      let numbers = valid_numbers r valid in
+      steady_either v.core.holder (name_lines v r.origin r.call) (over_lines v (Some from) (way_to v Server) r)
+      (steady_names r.origin r.call numbers.origin numbers.call) (steady_over (Some from) (way_to v Server) r way_number valid)
+  steady_body from r (bodies.Named segid) near valid = steady_named_to from r segid r.dest valid
+  steady_body from r (bodies.Unname segid) near valid =
+      steady_either v.core.holder (unname_lines v r.origin segid) (over_lines v (Some from) (way_to v Server) r)
+      (steady_unname r.origin segid) (steady_over (Some from) (way_to v Server) r way_number valid)
   steady_body from r _ near valid = steady_drop
 
   steady_record : (from : Enclave) (r : Record) → IsNumber from → is_valid r ≡ true → AreSteady (record_lines v from r)
@@ -189,6 +249,27 @@ module _ (v : View) (fit : IsFitView v) where
 
   steady_handled : (from : Enclave) (r : Record) → IsNumber from → is_valid r ≡ true → AreSteady (handled_lines v from r)
   steady_handled from r near valid = ((near, fit.me), steady_record from r near valid)
+
+-- ---- makes
+
+-- the call is issued, and its number fits; a segment is named at once where the enclave draws the segids
+module _ (v : View) (fit : IsFitView v) (hand : Hand) where
+  steady_drawn : (call : ℕ) → Is32 call → AreSteady (naming_lines hand v call)
+  steady_drawn call few =
+      let w = own_lines hand v (drew_line v v.me call ∷ []) in
+      steady_either (can_draw v.names) (drew_line v v.me call ∷ named_lines w call (next_segid v.names)) (drop_lines v)
+      ((fit.me, few), steady_named w (record { me = fit.me; ways = fit.ways; waiting = fit.waiting }) call (next_segid v.names) few) (fit.me, tt)
+
+  steady_asking : (call : ℕ) → Is32 call → AreSteady (asking_lines hand v call)
+  steady_asking call few =
+      steady_either v.core.holder (naming_lines hand v call) (made_lines v Server (name_request v.me call)) (steady_drawn call few)
+      (steady_made v fit Server (name_request v.me call) (way_number v fit))
+
+pub steady_make : (v : View) → IsFitView v → (hand : Hand) (p : Pid) → Is32 p.0 → Is32 (v.memory.issued + 1) → AreSteady (make_acts hand v p)
+steady_make v fit hand p low few =
+    let w = own_lines hand v (issue_line v p ∷ []) in
+    let waiting = put_waiting v.memory.waiting (v.memory.issued + 1) (record { call = record { 0 = v.memory.issued + 1 }; pid = p; living = true; what = pendings.Make }) fit.waiting low in
+    ((fit.me, low, few), steady_asking w (record { me = fit.me; ways = fit.ways; waiting = waiting }) hand (v.memory.issued + 1) few)
 
 -- ---- deliveries
 
@@ -208,11 +289,14 @@ valid-drop (suc k) (r ∷ rs) all = valid-drop k rs all.1
 valid_arriving : (c : ChannelFact) → AreValid c.sent → AreValid (arriving c)
 valid_arriving c all = valid-drop c.got (whole_records c.taken c.sent) (valid-whole c.taken c.sent all)
 
+pub view_fits : (G : Facts) (e : Enclave) → IsFit G → IsNumber e → IsFitView (view_of G e)
+view_fits G e fit number = record { me = number; ways = fit.ways e.0; waiting = (fit.memory e.0).waiting }
+
 steady_got : (G : Facts) (x y : Enclave) (rs : List Record) → IsFit G → IsNumber x → IsNumber y → AreValid rs → AreSteady (got_lines G x y rs)
 steady_got G x y [] fit from to valid = tt
 steady_got G x y (r ∷ rs) fit from to valid =
     let own = handled_lines (view_of G y) x r in
-    let steady : AreSteady own = steady_handled (view_of G y) (record { me = to; ways = fit.ways y.0 }) x r from valid.0 in
+    let steady : AreSteady own = steady_handled (view_of G y) (view_fits G y fit to) x r from valid.0 in
     steady_append own (got_lines (after_lines G own) x y rs) steady (steady_got (after_lines G own) x y rs (fit_lines G own fit steady) from to valid.1)
 
 steady_took : (G : Facts) (x y : Enclave) (count : ℕ) → IsFit G → IsNumber x → IsNumber y → Is32 count → AreSteady (took_lines G x y count)

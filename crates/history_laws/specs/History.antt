@@ -1,4 +1,4 @@
--- Journals as histories: legal, carried, told, rested, found and whole.
+-- Journals as histories: legal, carried, told, rested, found, lawful in their calls, and whole.
 use Rattle.std.specs.Prelude.{◌≡◌, ◌++◌, List, [], None, Some, true}
 use Rattle.xemem_language.specs.declared.line.Line.{Line}
 use Rattle.xemem_language.specs.declared.line.Line.TheVariants as lines
@@ -8,6 +8,7 @@ use Rattle.global_model.specs.Journals.{Follows, onto}
 use Rattle.global_model.specs.Facts.{facts_after}
 use Rattle.global_model.specs.Rest.{IsAtRest, IsRested}
 use Rattle.discovery_laws.specs.Known.{AreAdmitted}
+use Rattle.call_laws.specs.Legal.{AreCalls}
 use Rattle.history_laws.specs.Lawful.{IsLegalAt}
 
 -- told: a `do` line stands where nothing is due, and every other line is the one that is due
@@ -38,3 +39,4 @@ pub record IsHistory (journal : List Line) : Type 0 where
   pub told : IsTold journal
   pub rested : IsRested journal
   pub found : IsFound journal
+  pub calls : AreCalls journal

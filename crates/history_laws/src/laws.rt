@@ -15,12 +15,13 @@ ghost use Rattle.history_laws.specs.Ways.{way_heard, back_heard, route_heard, as
 ghost use Rattle.history_laws.specs.Counts.{IsLimited, births_in, starts_in, starts_by, has_server};
 ghost use Rattle.history_laws.specs.Laws.{HistoryLaws};
 
+use call_laws::calls_are_legal;
 use discovery_laws::rest_is_admitted;
 use global_model::{
-    acts_are_plain, journals_are_apt, journals_are_carried, journals_are_rested, journals_grow,
-    pasts_grow, refusals_come_first,
+    acts_are_plain, journals_are_apt, journals_are_carried, journals_are_in_steps,
+    journals_are_rested, journals_grow, lines_are_seen, pasts_grow, refusals_come_first,
 };
-use xemem_wire::laws::spelling_length;
+use xemem_wire::laws::{body_is_spelled, spelling_length};
 use xm_num::laws::{row_laws, rows};
 use xm_num::{Enclave, Page};
 
@@ -32,11 +33,14 @@ fn laws()
     journals_grow();
     journals_are_carried();
     journals_are_apt();
+    journals_are_in_steps();
+    lines_are_seen();
     acts_are_plain();
     refusals_come_first();
     rows::<Page>();
     row_laws::<Enclave>();
     spelling_length();
+    body_is_spelled();
 }
 
 /// Exactly one journal is told and whole and has given commands in its `do` lines.
@@ -66,6 +70,7 @@ pub fn journals_are_histories()
     journals_are_carried();
     journals_are_rested();
     rest_is_admitted();
+    calls_are_legal();
     laws();
 }
 

@@ -5,11 +5,15 @@
 #![tactic(auto)]
 
 #[cfg(test)]
+mod attached;
+#[cfg(test)]
 mod blocks;
 #[cfg(test)]
 mod channels;
 #[cfg(test)]
 mod edges;
+#[cfg(test)]
+mod names;
 #[cfg(test)]
 mod numbers;
 #[cfg(test)]

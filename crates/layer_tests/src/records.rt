@@ -105,7 +105,7 @@ fn encodes(out: &mut Vec<u8>, rec: &Record, want: &[u8]) -> bool {
 }
 
 fn feeds_encoded(stream: &mut Stream, count: usize) -> bool {
-    if stream.encoded.len() != count || count > 100 || stream.fed > 1000 {
+    if stream.encoded.len() != count || count > 200 || stream.fed > 1000 {
         return false;
     }
     stream.fed += count as u64;
@@ -137,6 +137,13 @@ const REGISTER: &[u8] = b"\x10\0\0\0\x01\x03\xff\0\xff\xff\0\0\0\0\0\0";
 
 const ADMIT: &[u8] = b"\x10\0\0\0\x01\x04\x02\0\xc8\0\0\0\0\0\0\0";
 
+const NAMEREQ: &[u8] = b"\x10\0\0\0\x01\x05\x02\0\xff\xff\0\0\x01\0\0\0";
+
+const NAMED: &[u8] = b"\x18\0\0\0\x01\x06\0\0\x02\0\0\0\x07\0\0\0\x02\x01\0\0\0\0\0\0";
+
+const UNNAME: &[u8] =
+    b"\x18\0\0\0\x01\x07\x02\0\xff\xff\0\0\x08\0\0\0\xff\xff\xff\xff\xff\xff\xff\x7f";
+
 fn bad(bytes: &'static [u8], fault: WireFault, place: u64) -> Line {
     Line {
         bytes,
@@ -146,7 +153,7 @@ fn bad(bytes: &'static [u8], fault: WireFault, place: u64) -> Line {
     }
 }
 
-fn lines() -> [Line; 10] {
+fn lines() -> [Line; 17] {
     [
         Line {
             bytes: QUERY,
@@ -157,8 +164,36 @@ fn lines() -> [Line; 10] {
         bad(b"\x0f\0\0\0", WireFault::Length, 0),
         bad(b"\x10\0\0\0\x02", WireFault::Version, 4),
         bad(b"\x10\0\0\0\x01\x15", WireFault::Kind, 5),
-        bad(b"\x10\0\0\0\x01\x05", WireFault::Kind, 5),
+        bad(b"\x10\0\0\0\x01\x08", WireFault::Kind, 5),
         bad(b"\x14\0\0\0\x01\x01", WireFault::Length, 0),
+        bad(b"\x18\0\0\0\x01\x05", WireFault::Length, 0),
+        bad(b"\x10\0\0\0\x01\x06", WireFault::Length, 0),
+        bad(b"\x18\0\0\0\x01\x06\0\0\xff\xff", WireFault::Field, 8),
+        bad(
+            b"\x10\0\0\0\x01\x05\x02\0\xff\xff\0\0\0\0\0\0",
+            WireFault::Field,
+            12,
+        ),
+        bad(
+            b"\x18\0\0\0\x01\x06\0\0\x02\0\0\0\x07\0\0\0\0\0\0\0\0\0\0\x80",
+            WireFault::Field,
+            16,
+        ),
+        Line {
+            bytes: b"\x18\0\0\0\x01\x06\0\0\x02\0\0\0\x07\0\0\0\xff\xff\xff\xff\xff\xff\xff",
+            answer: Ok(()),
+            queries: 0,
+            torn: 23,
+        },
+        Line {
+            bytes: b"\x10\0\0\0\x01\x01\x01\0\xff\xff\0\0\0\0\0\0\x18\0\0\0\x01\x07\x02\0\xff\xff\0\0\x08\0\0\0\xff\xff\xff\xff\xff\xff\xff\xff",
+            answer: Err(FeedFault::Bad {
+                fault: WireFault::Field,
+                place: 32,
+            }),
+            queries: 1,
+            torn: 0,
+        },
         bad(b"\x10\0\0\0\x01\x01\x01\0\0\0", WireFault::Field, 8),
         bad(
             b"\x10\0\0\0\x01\x01\x01\0\xff\xff\x01\0",
@@ -192,25 +227,43 @@ fn made(origin: u16, dest: Option<Enclave>, call: u32, body: Body) -> Record {
     }
 }
 
+fn named(segid: i64) -> Body {
+    Body::Named {
+        segid: Segid(segid),
+    }
+}
+
+fn unname(segid: i64) -> Body {
+    Body::Unname {
+        segid: Segid(segid),
+    }
+}
+
 // The records of the built kinds, with their spellings, and a stream of all of them.
-fn built() -> [Step; 11] {
+fn built() -> [Step; 17] {
     [
         Step::New,
         Step::Encode(made(1, None, 0, Body::Query), QUERY),
         Step::Encode(made(0, None, 0, Body::Here), HERE),
         Step::Encode(made(255, None, 0, Body::Register), REGISTER),
         Step::Encode(made(2, Some(Enclave(200)), 0, Body::Admit), ADMIT),
-        Step::FeedEncoded(64),
+        Step::Encode(made(2, None, 1, Body::NameReq), NAMEREQ),
+        Step::Encode(made(0, Some(Enclave(2)), 7, named(258)), NAMED),
+        Step::Encode(made(2, None, 8, unname(9_223_372_036_854_775_807)), UNNAME),
+        Step::FeedEncoded(128),
         Step::Next(Some(QUERY)),
         Step::Next(Some(HERE)),
         Step::Next(Some(REGISTER)),
         Step::Next(Some(ADMIT)),
+        Step::Next(Some(NAMEREQ)),
+        Step::Next(Some(NAMED)),
+        Step::Next(Some(UNNAME)),
         Step::Next(None),
     ]
 }
 
 // Records with a number that is out of its range, and of kinds that aren't built.
-fn invalid() -> [Step; 10] {
+fn invalid() -> [Step; 13] {
     let two = Enclave(2);
     [
         Step::Invalid(made(256, None, 0, Body::Query)),
@@ -219,8 +272,11 @@ fn invalid() -> [Step; 10] {
         Step::Invalid(made(1, Some(Enclave(256)), 0, Body::Admit)),
         Step::Invalid(made(1, Some(Enclave(65535)), 0, Body::Register)),
         Step::Invalid(made(1, None, 1, Body::Here)),
-        Step::Invalid(made(1, None, 1, Body::NameReq)),
-        Step::Invalid(made(1, None, 1, Body::Unname { segid: Segid(1) })),
+        Step::Invalid(made(1, None, 0, Body::NameReq)),
+        Step::Invalid(made(1, Some(Enclave(0)), 1, Body::NameReq)),
+        Step::Invalid(made(1, None, 1, named(1))),
+        Step::Invalid(made(1, Some(Enclave(0)), 1, named(-1))),
+        Step::Invalid(made(1, None, 1, Body::Lookup { segid: Segid(1) })),
         Step::Invalid(made(1, Some(Enclave(0)), 1, Body::Release { apid: Apid(1) })),
         Step::Invalid(made(1, None, 0, Body::Died { enclave: two })),
     ]

@@ -115,8 +115,12 @@ a_word (lines.Alloc e p at frames) = refl
 a_word (lines.Sent x y r) = refl
 a_word (lines.Bytes x y at bytes) = refl
 
-pub text_line-back : (laws : Laws) (line : Line) → IsTyped line → IsSpelled line → text_line (join_with_byte 32 (line_words line)) ≡ Some line
-text_line-back laws line typed spelled = ap line_of (pieces-joined (line_words line) (a_word line) (line_in_words laws line)) ∙ line_of-words laws line typed spelled
+-- the text is the line's
+abbrev pub IsTextOf : List ℕ → Line → Type 0
+IsTextOf text line = (text ≡ join_with_byte 32 (line_words line)) × IsSpelled line × IsTyped line
+
+pub text_line-back : (laws : Laws) (text : List ℕ) (line : Line) → IsTextOf text line → text_line text ≡ Some line
+text_line-back laws text line (is, spelled, typed) = ap text_line is ∙ ap line_of (pieces-joined (line_words line) (a_word line) (line_in_words laws line)) ∙ line_of-words laws line typed spelled
 
 whole-some : {R : Type 0} (read : Read R) (result : R) → whole read ≡ Some result → read ≡ Some (result, [])
 whole-some None result h = cc
@@ -128,13 +132,7 @@ unfolding line_of
 line_of-some laws [] line h = cc
 line_of-some laws (first ∷ words) line h = row_read-some IsLine line_rows first words line [] (lines_read laws) (whole-some (row_read line_rows first words) line h)
 
--- the text is the line's
-pub record IsTextOf (text : List ℕ) (line : Line) : Type 0 where
-  pub is : text ≡ join_with_byte 32 (line_words line)
-  pub spelled : IsSpelled line
-  pub typed : IsTyped line
-
 pub text_line-some : (laws : Laws) (text : List ℕ) (line : Line) → text_line text ≡ Some line → IsTextOf text line
 text_line-some laws text line h =
     let s = line_of-some laws (pieces text) line h in
-    record { is = sym (joined-pieces text) ∙ ap (join_with_byte 32) (s.is ∙ append-nil (line_words line)); spelled = s.spelled; typed = s.typed }
+    (sym (joined-pieces text) ∙ ap (join_with_byte 32) (s.is ∙ append-nil (line_words line)), s.spelled, s.typed)

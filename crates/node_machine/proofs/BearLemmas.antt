@@ -13,7 +13,7 @@ use Rattle.enclave_rules.specs.Hand.{Nothing}
 use Rattle.enclave_rules.specs.Steps.{birth_lines, adopt_lines}
 use Rattle.enclave_node.specs.Nodes.{NodeView, unborn_node, wrote, adopted, new_node}
 use Rattle.node_machine.specs.declared.pair.Pair.{Pair}
-use Rattle.node_machine.specs.Machine.{MachineView, node_at, borne_lines, after_birth}
+use Rattle.node_machine.specs.Machine.{MachineView, node_at, holder_after, borne_lines, after_birth}
 
 -- what was read before is the node there
 pub node_read : (nodes : List NodeView) (e : ℕ) (node : NodeView) → e < length nodes → node ≡ slice_index_or nodes e node → node ≡ node_at nodes e
@@ -36,13 +36,17 @@ module _ (m : MachineView) (child : Enclave) (kind : Kind) (parent : Enclave) (b
       second ∙ ap (λ ls. ls ++ adopt_lines node.view child) first ∙ append_assoc out (birth_lines child kind parent blocks ns node.view.core.heard) (adopt_lines node.view child)
       ∙ ap (λ (n : NodeView). out ++ (birth_lines child kind parent blocks ns n.view.core.heard ++ adopt_lines n.view child)) is
 
+  -- the machine with the child and these nodes and channels
+  abbrev pub borne_with : List NodeView → List Pair → MachineView
+  borne_with nodes pairs = record m { server = m.server || ns; holder = holder_after m child ns; nodes = nodes; pairs = pairs }
+
   -- the nodes and the channels then
   pub birth_is : (born after : NodeView) (pair : Pair) → parent.0 < length m.nodes → born ≡ new_node child kind parent blocks ns node.view.core.heard → after ≡ wrote Nothing (adopted node child kind) (adopt_lines node.view child)
       → pair ≡ record { parent = parent; up = fresh; down = fresh }
-      → record m { server = m.server || ns; nodes = slice_set (m.nodes ++ born ∷ []) parent.0 after; pairs = m.pairs ++ pair ∷ [] } ≡ after_birth m child kind parent blocks ns
+      → borne_with (slice_set (m.nodes ++ born ∷ []) parent.0 after) (m.pairs ++ pair ∷ []) ≡ after_birth m child kind parent blocks ns
   birth_is born after pair within one two three =
-      ap (λ (nodes : List NodeView). record m { server = m.server || ns; nodes = nodes; pairs = m.pairs ++ pair ∷ [] }) (set-append_left m.nodes (born ∷ []) parent.0 after within)
-      ∙ ap (λ (n : NodeView). record m { server = m.server || ns; nodes = slice_set m.nodes parent.0 after ++ n ∷ []; pairs = m.pairs ++ pair ∷ [] }) one
-      ∙ ap (λ (n : NodeView). record m { server = m.server || ns; nodes = slice_set m.nodes parent.0 n ++ new_node child kind parent blocks ns node.view.core.heard ∷ []; pairs = m.pairs ++ pair ∷ [] }) two
-      ∙ ap (λ (p : Pair). record m { server = m.server || ns; nodes = slice_set m.nodes parent.0 (wrote Nothing (adopted node child kind) (adopt_lines node.view child)) ++ new_node child kind parent blocks ns node.view.core.heard ∷ []; pairs = m.pairs ++ p ∷ [] }) three
-      ∙ ap (λ (n : NodeView). record m { server = m.server || ns; nodes = slice_set m.nodes parent.0 (wrote Nothing (adopted n child kind) (adopt_lines n.view child)) ++ new_node child kind parent blocks ns n.view.core.heard ∷ []; pairs = m.pairs ++ record { parent = parent; up = fresh; down = fresh } ∷ [] }) is
+      ap (λ nodes. borne_with nodes (m.pairs ++ pair ∷ [])) (set-append_left m.nodes (born ∷ []) parent.0 after within)
+      ∙ ap (λ (n : NodeView). borne_with (slice_set m.nodes parent.0 after ++ n ∷ []) (m.pairs ++ pair ∷ [])) one
+      ∙ ap (λ (n : NodeView). borne_with (slice_set m.nodes parent.0 n ++ new_node child kind parent blocks ns node.view.core.heard ∷ []) (m.pairs ++ pair ∷ [])) two
+      ∙ ap (λ (p : Pair). borne_with (slice_set m.nodes parent.0 (wrote Nothing (adopted node child kind) (adopt_lines node.view child)) ++ new_node child kind parent blocks ns node.view.core.heard ∷ []) (m.pairs ++ p ∷ [])) three
+      ∙ ap (λ (n : NodeView). borne_with (slice_set m.nodes parent.0 (wrote Nothing (adopted n child kind) (adopt_lines n.view child)) ++ new_node child kind parent blocks ns n.view.core.heard ∷ []) (m.pairs ++ record { parent = parent; up = fresh; down = fresh } ∷ [])) is

@@ -4,3 +4,4 @@ pub mod Hops
 pub mod ByteLemmas
 pub mod DeliveryLemmas
 pub mod BearLemmas
+pub mod ShowLemmas

@@ -20,6 +20,7 @@ use Rattle.enclave_rules.specs.Core.{host}
 use Rattle.enclave_rules.specs.Hand.{Nothing, Calls}
 use Rattle.xemem_language.specs.declared.call.ProcessCall.{ProcessCall}
 use Rattle.xemem_language.specs.declared.call.NodeShow.{NodeShow}
+use Rattle.xemem_language.specs.declared.call.Show.TheVariants as shows
 use Rattle.xemem_language.specs.Calls.{call_of, show_of}
 use Rattle.enclave_rules.specs.Calls.{call_lines, show_lines}
 use Rattle.enclave_rules.specs.Steps.{refusal, birth_lines, adopt_lines, host_lines, first_blocks, start_lines, touch_answer, answer_lines, bytes_lines}
@@ -28,18 +29,19 @@ use Rattle.node_machine.specs.declared.pair.Pair.{Pair}
 use Rattle.node_machine.specs.declared.pair.Hop.{Hop}
 use Rattle.node_machine.specs.declared.pair.Hop.TheVariants as hops
 
--- how many blocks there are; whether an enclave was born with the name server; how many processes were started; the nodes of the
--- enclaves that were born, by their numbers; and for each child its parent and the two channels between them, the first for
--- enclave 1
+-- How many blocks there are; whether an enclave was born with the name server, and which: the host, where none was; how many
+-- processes were started; the nodes of the enclaves that were born, by their numbers; and for each child its parent and the two
+-- channels between them, the first for enclave 1.
 pub record MachineView : Type 0 where
   pub pool : ℕ
   pub server : Bool
+  pub holder : Enclave
   pub starts : ℕ
   pub nodes : List NodeView
   pub pairs : List Pair
 
 abbrev pub no_machine : MachineView
-no_machine = record { pool = 0; server = false; starts = 0; nodes = []; pairs = [] }
+no_machine = record { pool = 0; server = false; holder = host; starts = 0; nodes = []; pairs = [] }
 
 -- The node of the enclave of that number, where it has one. Each enclave that was born has its node so far; none is gone.
 abbrev pub node_of : List NodeView → ℕ → Option NodeView
@@ -135,11 +137,15 @@ carried nodes pairs (line ∷ journal) = carried nodes pairs journal
 
 -- ---- births
 
+-- who holds the name server once an enclave is born, with it or not
+abbrev pub holder_after : MachineView → Enclave → Bool → Enclave
+holder_after m child ns = if ns then child else m.holder
+
 abbrev pub host_by : MachineView → ℕ → Bool → List Line
 host_by m blocks ns = if nat_lt m.pool blocks then refusal causes.NoBlocks else host_lines (first_blocks blocks) ns
 
 abbrev pub after_host : MachineView → ℕ → Bool → MachineView
-after_host m blocks ns = if nat_lt m.pool blocks then m else record m { server = ns; nodes = new_host m.pool blocks ns ∷ [] }
+after_host m blocks ns = if nat_lt m.pool blocks then m else record m { server = ns; holder = holder_after m host ns; nodes = new_host m.pool blocks ns ∷ [] }
 
 -- the lines of a command at an enclave, where it lives
 abbrev pub at_node : MachineView → Enclave → List Line → List Line
@@ -186,6 +192,7 @@ after_birth m child kind parent blocks ns =
     let node = node_at m.nodes parent.0 in
     record m {
       server = m.server || ns;
+      holder = holder_after m child ns;
       nodes = slice_set m.nodes parent.0 (wrote Nothing (adopted node child kind) (adopt_lines node.view child)) ++ new_node child kind parent blocks ns node.view.core.heard ∷ [];
       pairs = m.pairs ++ record { parent = parent; up = fresh; down = fresh } ∷ [];
     }
@@ -205,7 +212,12 @@ after_boot m kind parent blocks ns =
     else (if is_full m then m
     else (if ns && m.server then m
     else (if is_short m blocks then m
-    else record m { server = m.server || ns; nodes = booted_nodes m kind parent blocks ns; pairs = m.pairs ++ record { parent = parent; up = fresh; down = fresh } ∷ [] })))
+    else record m {
+      server = m.server || ns;
+      holder = holder_after m (next_born m) ns;
+      nodes = booted_nodes m kind parent blocks ns;
+      pairs = m.pairs ++ record { parent = parent; up = fresh; down = fresh } ∷ [];
+    })))
 
 -- ---- processes, their calls, and what is shown
 
@@ -231,6 +243,10 @@ after_call m k = if has_node m.nodes k.enclave.0 then with_node m k.enclave.0 (w
 -- what is shown of the node of the enclave
 abbrev pub node_shown : MachineView → NodeShow → List Line
 node_shown m s = show_lines (node_at m.nodes s.enclave.0).view s.show
+
+-- the names are shown of the enclave that was born with the name server
+abbrev pub names_shown : MachineView → List Line
+names_shown m = if m.server then show_lines (node_at m.nodes m.holder.0).view shows.Names else refusal causes.NotReady
 
 -- ---- deliveries
 
@@ -306,7 +322,7 @@ next_delivery m = option_map (delivery_over m.pairs) (first_hop m.pairs)
 
 -- ---- a step
 
--- what a command writes after its `do` line, where it is no call and shows no node
+-- what a command writes after its `do` line, where it is no call and names no node to be shown
 abbrev pub other_lines : MachineView → Command → List Line
 other_lines m (commands.Pool blocks) = []
 other_lines m (commands.Host blocks ns) = host_by m blocks ns
@@ -315,6 +331,7 @@ other_lines m (commands.Proc e uid gid) = at_node m e (start_by m e uid gid)
 other_lines m (commands.Touch e p addr want) = at_node m e (touch_by m e p addr want)
 other_lines m (commands.Deliver x y count) = deliver_by m x y count (hop_in m x y)
 other_lines m (commands.ShowLink x y) = shown_by m x y (hop_in m x y)
+other_lines m commands.ShowNames = names_shown m
 other_lines m command = []
 
 -- What any command writes after its `do` line. A settle isn't one step of the machine: each of its deliveries is.

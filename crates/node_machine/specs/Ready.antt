@@ -35,6 +35,9 @@ pub record IsReady (m : MachineView) : Type 0 where
   pub root : 0 < length m.nodes → has_node m.nodes 0 ≡ true
   pub nodes : (e : ℕ) → has_node m.nodes e ≡ true → IsNodeReady e (node_at m.nodes e)
   pub links : (i : ℕ) → i < length m.pairs → IsPairReady m (i + 1) (pair_at m.pairs i)
+  -- the enclave that was born with the name server has its node, which holds it
+  pub seated : m.server ≡ true → has_node m.nodes m.holder.0 ≡ true
+  pub holds : m.server ≡ true → (node_at m.nodes m.holder.0).view.core.holder ≡ true
   pub recorded : 1 ≤ length m.nodes → length (node_at m.nodes 0).view.host.parents ≡ length m.nodes
   pub strangers : (e c : ℕ) → length m.nodes ≤ c → at (node_at m.nodes e).feeds c ≡ None
   pub unborn : (e c : ℕ) → length m.nodes ≤ c → at (node_at m.nodes e).view.core.children c ≡ None

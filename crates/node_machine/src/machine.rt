@@ -1,8 +1,9 @@
 // The machine: its enclaves and the channels between them. It carries bytes and looks into no enclave.
-ghost use Rattle.std.specs.Prelude.{◌≡◌, ◌+◌, ◌-◌, ◌≤◌, ◌<◌, ◌∷◌, ◌++◌, [], length, false, option_copied, IsTrue, IsSome, OnOk, IfOk};
+ghost use Rattle.std.specs.Prelude.{◌≡◌, ◌≢◌, ◌+◌, ◌-◌, ◌≤◌, ◌<◌, ◌∷◌, ◌++◌, [], length, false, if◌then◌else◌, option_copied, IsTrue, IsSome, OnOk, IfOk};
 ghost use Rattle.xm_num.specs.declared.Kind.TheVariants as kinds;
 ghost use Rattle.xemem_wire.specs.Spelling.{AreValid, is_valid};
 ghost use Rattle.xemem_language.specs.declared.line.Line.TheVariants as lines;
+ghost use Rattle.xemem_language.specs.declared.call.Show.TheVariants as shows;
 ghost use Rattle.xemem_language.specs.Calls.{IsCallInRange, IsShowable};
 ghost use Rattle.xm_num.specs.Rows.{at};
 ghost use Rattle.enclave_rules.specs.Pages.{AreBlocks};
@@ -22,7 +23,7 @@ use page_table::PageTable;
 use std::alloc::{AllocError, Global};
 use std::marker::Model;
 use std::mem;
-use xemem_language::{Command, Line, Lines, NodeShow, ProcessCall, Record, call_of, show_of};
+use xemem_language::{Command, Line, Lines, NodeShow, ProcessCall, Record, Show, call_of, show_of};
 use xm_num::{BlockList, Cause, Enclave, Kind, Neighbour, Pid, Want};
 
 // The most enclaves of a run, and the most processes.
@@ -35,6 +36,8 @@ pub struct Machine {
     alloc: Global,
     pool: u16,
     server: bool,
+    // Which enclave was born with the name server, where one was.
+    holder: Enclave,
     starts: u32,
     nodes: Vec<Node<PageTable>>,
     channels: Channels,
@@ -43,12 +46,19 @@ pub struct Machine {
     fresh: Lines,
 }
 
+// Who holds the name server once an enclave is born, with it or not.
+fn holder_after(holder: Enclave, child: Enclave, ns: bool) -> Enclave
+    ensures { result ≡ (if ns then child else holder) }
+{
+    if ns { child } else { holder }
+}
+
 impl Model for Machine {
     ghost use Rattle.node_machine.specs.Machine.{MachineView};
 
     ghost Value = { MachineView };
 
-    ghost view = { λ m. record { pool = m.pool; server = m.server; starts = m.starts; nodes = m.nodes.items; pairs = m.channels } };
+    ghost view = { λ m. record { pool = m.pool; server = m.server; holder = m.holder; starts = m.starts; nodes = m.nodes.items; pairs = m.channels } };
 }
 
 impl Machine {
@@ -60,6 +70,7 @@ impl Machine {
             alloc,
             pool: 0,
             server: false,
+            holder: Enclave(0),
             starts: 0,
             nodes: Vec::new(alloc),
             channels: Channels::new(alloc),
@@ -143,6 +154,7 @@ impl Machine {
             } => self.touch(enclave, pid, addr, want, out),
             Command::Deliver { from, to, count } => self.deliver(from, to, count, out),
             Command::ShowLink { from, to } => self.show_link(from, to, out),
+            Command::ShowNames => self.show_names(out),
             _ => unreachable!(),
         }
     }
@@ -183,6 +195,7 @@ impl Machine {
             Ok(host) => {
                 self.nodes.push(host).unwrap();
                 self.server = ns;
+                self.holder = holder_after(self.holder, Enclave(0), ns);
                 Ok(())
             }
             Err(PoolFault::NoBlocks) => refuse(Cause::NoBlocks, out),
@@ -260,6 +273,7 @@ impl Machine {
         self.nodes.push(node).unwrap();
         self.channels.add(pair)?;
         self.server |= ns;
+        self.holder = holder_after(self.holder, child, ns);
         self.nodes[at].adopt(child, kind, blocks.as_slice(), out)
     }
 
@@ -395,6 +409,7 @@ impl Machine {
     fn show(&self, asked: &NodeShow, out: &mut Lines) -> Result<(), AllocError>
         requires ready { IsReady self.now }
         requires host { IsShowable asked.now }
+        requires other { asked.now.show ≢ shows.Names }
         ensures { OnOk result (out.new ≡ out.old ++ spec.at_node self.now asked.now.enclave (spec.node_shown self.now asked.now)) }
     {
         if !self.has_node(asked.enclave) {
@@ -402,6 +417,17 @@ impl Machine {
         }
         let at = asked.enclave.0 as usize;
         self.nodes[at].show(asked.show, out)
+    }
+
+    // The names, of the enclave that was born with the name server.
+    fn show_names(&self, out: &mut Lines) -> Result<(), AllocError>
+        requires ready { IsReady self.now }
+        ensures { OnOk result (out.new ≡ out.old ++ spec.names_shown self.now) }
+    {
+        if !self.server {
+            return refuse(Cause::NotReady, out);
+        }
+        self.nodes[self.holder.0 as usize].show(Show::Names, out)
     }
 
     // Gives the records that the lines send to their channels, in order.
@@ -445,6 +471,7 @@ impl Machine {
             alloc: _,
             pool: _,
             server: _,
+            holder: _,
             starts: _,
             mut nodes,
             channels: _,

@@ -28,6 +28,7 @@ pub record IsFedPair (G : Facts) (nodes : List NodeView) (i : ℕ) (pair : Pair)
 pub record IsActed (G H : Facts) (m : MachineView) : Type 0 where
   pub pool : m.pool ≡ G.pool
   pub server : m.server ≡ G.server
+  pub holder : m.holder ≡ G.holder
   pub starts : m.starts ≡ G.starts
   pub born : length m.nodes ≡ G.born
   pub pairs : length m.pairs ≡ G.born - 1
@@ -51,6 +52,7 @@ shown_of laws G ls m plain flowing h =
     record {
       pool = h.pool ∙ sym count.pool;
       server = h.server ∙ sym count.server;
+      holder = h.holder ∙ sym count.holder;
       starts = h.starts ∙ sym count.starts;
       born = h.born ∙ sym count.born;
       pairs = size ∙ h.pairs ∙ ap (λ n. n - 1) (sym count.born);
@@ -62,7 +64,7 @@ shown_of laws G ls m plain flowing h =
   where
     -- the decoder for a channel, by the facts after the lines
     feed : (a b : ℕ) → HasFeed G.channel m.nodes a b → at (node_at m.nodes b).feeds a ≡ Some (feed_of ((after_lines G ls).channel a b))
-    feed a b is = is ∙ ap Some (sym (feed_is ((after_lines G ls).channel a b) (flowing.flows a b) (flowing.arrived a b) ∙ fed_lines ls G plain h.within a b))
+    feed a b is = is ∙ ap Some (sym (feed_is ((after_lines G ls).channel a b) (flowing.flows a b) (flowing.arrived a b) ∙ fed_lines laws.wire ls G plain h.within a b))
 
     pair : (i : ℕ) → IsLinked (after_lines G ls).enclave (after_lines G ls).channel i (pair_at (carried m.nodes m.pairs ls) i) → i < length m.pairs
         → IsPairOf (after_lines G ls) (with_carried m ls) (i + 1) (pair_at (carried m.nodes m.pairs ls) i)

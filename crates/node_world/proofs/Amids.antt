@@ -7,7 +7,7 @@ use Rattle.xemem_language.specs.declared.command.Command.{Command}
 use Rattle.xemem_language.specs.declared.command.Command.TheVariants as commands
 use Rattle.xemem_language.specs.declared.line.Line.{Line}
 use Rattle.xemem_language.specs.declared.line.Line.TheVariants as lines
-use Rattle.global_model.specs.Facts.{Facts, facts_after, after_line, after_lines}
+use Rattle.global_model.specs.Facts.{Facts, facts_after, facts_at, after_line, after_lines}
 use Rattle.enclave_rules.specs.Hand.{Hand, Nothing}
 use Rattle.global_model.specs.Channels.{waiting_in}
 use Rattle.global_model.specs.Flow.{IsFlowing}
@@ -23,7 +23,7 @@ use Rattle.node_machine.specs.Machine.{MachineView, lines_by, after_command, nex
 use Rattle.node_machine.specs.Ready.{IsReady, IsNoSettle, CanStep}
 use Rattle.node_world.specs.Shown.{IsShown}
 use Rattle.node_world.specs.World.{most_words, holding, IsAlong, IsShort, IsStopped}
-use Rattle.node_world.proofs.Counts.{AreOwnWords, counted_line, counted_delivery, hand_delivery}
+use Rattle.node_world.proofs.Counts.{AreOwnWords, Seats, seats_of, counted_line, counted_delivery, hand_delivery}
 use Rattle.node_world.proofs.Nexts.{IsDue, none_next, some_next}
 use Rattle.node_world.proofs.Stills.{shown_hand}
 use Rattle.node_world.proofs.Steps.{stepped, ready, can_step, sent_valid}
@@ -56,6 +56,7 @@ record IsSameButHand (F G : Facts) : Type 0 where
 flowing_holding : (hand : Hand) (G : Facts) → IsFlowing G → IsFlowing (holding hand G)
 flowing_holding hand G h = record {
   tree = record { most = h.tree.most; enclaves = h.tree.enclaves; root = h.tree.root; upward = h.tree.upward; all_live = h.tree.all_live };
+  server = record { held = h.server.held; seated = h.server.seated };
   ways = record { way = h.ways.way; askers = h.ways.askers; backs = h.ways.backs; routes = h.ways.routes };
   flows = h.flows;
   arrived = h.arrived;
@@ -118,6 +119,9 @@ module _ (laws : WorldLaws) (m : MachineView) (journal : List Line) (along : IsA
     pub valid_next : AreValid (sent_in (lines_by m d))
     valid_next = sent_valid laws along.played d m no_settle placed_next shown_played
 
+    seats : Seats m (facts_at (onto journal [])).holder
+    seats = seats_of laws m journal flowing_along along.shown
+
     lines_next : lines_by m d ≡ deliver_lines (facts_after journal) due.from due.to (next_rest (facts_after journal) due.from due.to)
     lines_next =
         (stepped laws along.played d m no_settle placed_next shown_played).0 ∙ ap (command_lines H) command_then ∙ laws.settles.lines along.played due.from due.to along.placed waits_then
@@ -150,12 +154,12 @@ module _ (laws : WorldLaws) (m : MachineView) (journal : List Line) (along : IsA
       shown = subst (λ F. IsShown F (after_command m d)) (sym facts_next.same)
           (shown_hand (facts_after (journal_of (along.played ++ d ∷ []))) facts_next.hand (after_command m d) (stepped laws along.played d m no_settle placed_next shown_played).1);
       appended = subst (λ c. words_in (journal ++ lines_by m c) ≤ most_words → AreOwnWords (after_command m c) (journal ++ lines_by m c)) (sym due.is)
-          (counted_delivery laws m due.from due.to (next_rest (facts_after journal) due.from due.to) most journal ready_next hand along.appended) few;
+          (counted_delivery laws m due.from due.to (next_rest (facts_after journal) due.from due.to) most journal ready_next seats hand along.appended) few;
     }
 
     hand_next : (most : ℕ) → command_at (onto journal []) ≡ Some (commands.Settle most) → command_at (onto (journal ++ lines_by m d) []) ≡ Some (commands.Settle most)
     hand_next most hand = subst (λ c. command_at (onto (journal ++ lines_by m c) []) ≡ Some (commands.Settle most)) (sym due.is)
-        (hand_delivery laws m due.from due.to (next_rest (facts_after journal) due.from due.to) most journal ready_next hand)
+        (hand_delivery laws m due.from due.to (next_rest (facts_after journal) due.from due.to) most journal ready_next seats hand)
 
 -- ---- so many deliveries
 

@@ -16,7 +16,7 @@ use Rattle.enclave_rules.specs.View.{own_lines, unborn_view}
 use Rattle.enclave_rules.specs.Steps.{refusal, host_lines, first_blocks}
 use Rattle.global_model.specs.Due.{command_lines}
 use Rattle.enclave_node.specs.Nodes.{new_host}
-use Rattle.node_machine.specs.Machine.{MachineView, has_node, node_at, lines_by, acted, with_carried, after_command}
+use Rattle.node_machine.specs.Machine.{MachineView, holder_after, has_node, node_at, lines_by, acted, with_carried, after_command}
 use Rattle.node_world.specs.Shown.{IsNodeOf, IsShown}
 use Rattle.node_world.proofs.Lists.{node_within}
 use Rattle.node_world.proofs.Carriage.{AreUncounted, counted_lines}
@@ -35,6 +35,7 @@ tied_pool G H m blocks step h none =
     let shown : IsShown (after_line G (lines.Do (commands.Pool blocks))) (record m { pool = blocks }) = record {
       pool = refl;
       server = h.server;
+      holder = h.holder;
       starts = h.starts;
       born = h.born;
       pairs = h.pairs;
@@ -60,12 +61,13 @@ host_seen G pool blocks true = refl
 host_seen G pool blocks false = refl
 
 host_acted : (G H : Facts) (m : MachineView) (blocks : ℕ) (ns : Bool) → IsStep G H (commands.Host blocks ns) → IsShown G m → G.born ≡ 0 → G.server ≡ false → command_lines G (commands.Host blocks ns) ≡ host_lines (first_blocks blocks) ns → lives_at H 0 ≡ true
-    → IsActed (after_line (after_line G (lines.Do (commands.Host blocks ns))) (lines.Born host kinds.Host host ns (first_blocks blocks))) H (record m { server = ns; nodes = new_host m.pool blocks ns ∷ [] })
+    → IsActed (after_line (after_line G (lines.Do (commands.Host blocks ns))) (lines.Born host kinds.Host host ns (first_blocks blocks))) H (record m { server = ns; holder = holder_after m host ns; nodes = new_host m.pool blocks ns ∷ [] })
 host_acted G H m blocks ns step h none first is lives =
     let pairs = h.pairs in
     record {
       pool = h.pool;
       server = ap (λ b. b || ns) (sym first);
+      holder = ap (cond ns host) h.holder;
       starts = h.starts;
       born = omega (arith, none);
       pairs = omega (arith, none, pairs);
@@ -125,7 +127,7 @@ tied_host G H m blocks ns step h none first rule = by (ltb G.pool blocks) refl
     by false is =
         let made : command_lines G c ≡ host_lines (first_blocks blocks) ns = rule ∙ rw is refl in
         let enough = few false is in
-        let w : MachineView = record m { server = ns; nodes = new_host m.pool blocks ns ∷ [] } in
+        let w : MachineView = record m { server = ns; holder = holder_after m host ns; nodes = new_host m.pool blocks ns ∷ [] } in
         let machine : acted m c ≡ w = rw enough refl in
         let B = after_line G (lines.Do c) in
         let K = after_line B (lines.Born host kinds.Host host ns (first_blocks blocks)) in

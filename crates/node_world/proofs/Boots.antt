@@ -31,7 +31,7 @@ use Rattle.enclave_rules.specs.Steps.{refusal, query_of, told_lines, child_lines
 use Rattle.global_model.specs.Due.{command_lines}
 use Rattle.enclave_node.specs.Nodes.{NodeView, unborn_node, wrote, new_node, lent, adopted}
 use Rattle.node_machine.specs.declared.pair.Pair.{Pair}
-use Rattle.node_machine.specs.Machine.{MachineView, has_node, no_pair, node_at, pair_at, at_node, lines_by, acted, next_born, free_of, is_short, booted_lines, booted_nodes, with_carried, after_command}
+use Rattle.node_machine.specs.Machine.{MachineView, has_node, no_pair, node_at, pair_at, at_node, lines_by, acted, holder_after, next_born, free_of, is_short, booted_lines, booted_nodes, with_carried, after_command}
 use Rattle.node_machine.specs.Machine.{enclave_numbered}
 use Rattle.node_world.specs.Shown.{IsNodeOf, IsShown}
 use Rattle.node_world.proofs.Lists.{cond_case, has-before, has-last, has-set, node_within, push_case, set_case, set_field}
@@ -44,17 +44,17 @@ use Rattle.node_world.proofs.Births.{at_nil}
 
 -- ---- the lines of a birth after the first
 
-about_append : (e : Enclave) (ls ms : List Line) → AreAbout e ls → AreAbout e ms → AreAbout e (ls ++ ms)
-about_append e [] ms first more = more
-about_append e (line ∷ ls) ms first more = (first.0, about_append e ls ms first.1 more)
+about_append : (holder e : Enclave) (ls ms : List Line) → AreAbout holder e ls → AreAbout holder e ms → AreAbout holder e (ls ++ ms)
+about_append holder e [] ms first more = more
+about_append holder e (line ∷ ls) ms first more = (first.0, about_append holder e ls ms first.1 more)
 
-about_told : (child : Enclave) (heard : List Enclave) → AreAbout child (told_lines child heard)
-about_told child [] = tt
-about_told child (dead ∷ heard) = (refl, about_told child heard)
+about_told : (holder child : Enclave) (heard : List Enclave) → AreAbout holder child (told_lines child heard)
+about_told holder child [] = tt
+about_told holder child (dead ∷ heard) = (refl, about_told holder child heard)
 
-about_child : (child parent : Enclave) (ns : Bool) → AreAbout child (child_lines child parent ns)
-about_child child parent true = (refl, tt)
-about_child child parent false = (tt, tt)
+about_child : (holder child parent : Enclave) (ns : Bool) → AreAbout holder child (child_lines child parent ns)
+about_child holder child parent true = (refl, tt)
+about_child holder child parent false = (tt, tt)
 
 uncounted_told : (child : Enclave) (heard : List Enclave) → AreUncounted (told_lines child heard)
 uncounted_told child [] = tt
@@ -192,9 +192,9 @@ module _ (G H : Facts) (m : MachineView) (kind : Kind) (parent : Enclave) (block
   abbrev K : Facts
   K = after_line B birth
 
-  about : AreAbout child ls
-  about = about_append child own (adopt_lines node.view child) (about_append child (told_lines child node.view.core.heard) (child_lines child parent ns) (about_told child node.view.core.heard) (about_child child parent ns))
-      (cond_case (knows_way node.view) [] (lines.Sent node.view.me child (query_of node.view.me) ∷ []) (AreAbout child) tt (tt, tt))
+  about : (holder : Enclave) → AreAbout holder child ls
+  about holder = about_append holder child own (adopt_lines node.view child) (about_append holder child (told_lines child node.view.core.heard) (child_lines child parent ns) (about_told holder child node.view.core.heard) (about_child holder child parent ns))
+      (cond_case (knows_way node.view) [] (lines.Sent node.view.me child (query_of node.view.me) ∷ []) (AreAbout holder child) tt (tt, tt))
 
   plain : AreUncounted ls
   plain = uncounted_append own (adopt_lines node.view child) (uncounted_append (told_lines child node.view.core.heard) (child_lines child parent ns) (uncounted_told child node.view.core.heard) (uncounted_child child parent ns))
@@ -223,7 +223,7 @@ module _ (G H : Facts) (m : MachineView) (kind : Kind) (parent : Enclave) (block
   new_pair = record { parent = parent; up = fresh; down = fresh }
 
   abbrev w : MachineView
-  w = record m { server = m.server || ns; nodes = nodes; pairs = m.pairs ++ new_pair ∷ [] }
+  w = record m { server = m.server || ns; holder = holder_after m child ns; nodes = nodes; pairs = m.pairs ++ new_pair ∷ [] }
 
   inside : parent.0 < length m.nodes
   inside = let born = h.born in omega (arith, born, lives)
@@ -285,7 +285,7 @@ module _ (G H : Facts) (m : MachineView) (kind : Kind) (parent : Enclave) (block
         let u = after_birth child kind parent lending (eqb parent.0 e) (eqb e 0) v in
         let me : u.me.0 ≡ e = ap (λ (e : Enclave). e.0) (birth_me child kind parent lending (eqb parent.0 e) (eqb e 0) v) in
         seen e (before e (λ same. omega (arith, same, within)) ∙ there) ∙ ap (λ v. seen_lines K v ls) (other_born B child kind parent lending ns v (λ same. omega (arith, same, within)))
-        ∙ step.laws.views.others K child u ls about (λ same. omega (arith, same, me, within))
+        ∙ step.laws.views.others K child u ls (about K.holder) (λ same. omega (arith, same, me, within))
 
     parent_then : IsNodeOf H parent.0 (taking base)
     parent_then =
@@ -333,7 +333,7 @@ module _ (G H : Facts) (m : MachineView) (kind : Kind) (parent : Enclave) (block
         let unborn : view_of G child ≡ unborn_view 0 child = step.unborn child (omega (arith, count)) ∙ rw apart refl in
         let view : view_of H child ≡ own_lines Nothing u own =
         seen e born_lives ∙ ap (λ v. seen_lines B v (birth ∷ ls)) unborn ∙ ap (λ v. seen_lines K v ls) (self_born B child kind parent lending ns far)
-        ∙ step.laws.views.own K u ls plain_kind about ∙ own_append u own (adopt_lines node.view child) ∙ own_adopt node.view (own_lines Nothing u own) child in
+        ∙ step.laws.views.own K u ls plain_kind (about K.holder) ∙ own_append u own (adopt_lines node.view child) ∙ own_adopt node.view (own_lines Nothing u own) child in
         record { view = ap (λ v. own_lines Nothing v own) (own_born child kind parent lending ns far) ∙ sym view; going = refl }
 
     node_then : (e : ℕ) → lives_at K e ≡ true → IsNodeOf H e (node_at nodes e)
@@ -442,6 +442,7 @@ module _ (G H : Facts) (m : MachineView) (kind : Kind) (parent : Enclave) (block
       record {
         pool = h.pool;
         server = ap (λ b. b || ns) h.server;
+        holder = ap (cond ns child) h.holder;
         starts = h.starts;
         born = size ∙ ap (λ n. n + 1) h.born;
         pairs = omega (arith, count, pairs, lives);

@@ -20,7 +20,7 @@ use Rattle.node_world.proofs.Lists.{cond_case, set_case, set_field}
 use Rattle.node_world.proofs.Flows.{link_sent, feed_from, feed_sent}
 use Rattle.node_world.proofs.Fronts.{spellings-length}
 use Rattle.node_machine.specs.Machine.{AreAbove, IsPairAt}
-use Rattle.node_world.specs.Laws.{WorldLaws}
+use Rattle.node_world.specs.Laws.{WireLaws, WorldLaws}
 
 -- ---- a channel changes
 
@@ -254,7 +254,7 @@ linked_lines laws nodes (lines.Sent x y r ∷ ls) G pairs count living alive pla
     let goes : carried_over pairs hop r ≡ with_link pairs hop link = ap (λ b. cond b pairs (with_link pairs hop link)) (never_ended laws G.enclave G.channel pairs all nodes count alive x y hop refl) in
     linked_lines laws nodes ls (after_line G (lines.Sent x y r)) (carried_over pairs hop r) (carried_over-length pairs hop r ∙ count) living alive plain.1
     (subst (LinksFollow G.enclave (at_pair x.0 y.0 (with_sent r) G.channel)) (sym goes)
-    (over laws G.enclave G.channel pairs all nodes count living x y (with_sent r) link hop refl (λ dead k. link_sent laws.links dead (G.channel x.0 y.0) (link_of pairs hop) r k)))
+    (over laws G.enclave G.channel pairs all nodes count living x y (with_sent r) link hop refl (λ dead k. link_sent laws.wire laws.links dead (G.channel x.0 y.0) (link_of pairs hop) r k)))
 linked_lines laws nodes (lines.Got x y ∷ ls) G pairs count living alive plain all = linked_lines laws nodes ls (after_line G (lines.Got x y)) pairs count living alive plain.1 (got_linked laws G.enclave G.channel pairs all x.0 y.0)
 linked_lines laws nodes (lines.Admitted e ∷ ls) G pairs count living alive plain all =
     linked_lines laws nodes ls (after_line G (lines.Admitted e)) pairs count (λ d. living d ∙ sym (admitted_lives G.enclave e.0 d)) (λ d born. admitted_lives G.enclave e.0 d ∙ alive d born) plain.1 (admitted_linked laws G.enclave G.channel pairs all e.0)
@@ -281,11 +281,11 @@ sent_within x y r channels all a b = by (eqb a x && eqb b y) (channels a b) (all
     by true f fits = let size = spellings-length f.sent (r ∷ []) in omega (arith, size, fits)
     by false f fits = fits
 
-sent_feed : (x y : ℕ) (r : Record) (channels : ℕ → ℕ → ChannelFact) → TakenWithin channels → (a b : ℕ) → feed_by (at_pair x y (with_sent r) channels a b) ≡ feed_by (channels a b)
-sent_feed x y r channels all a b = by (eqb a x && eqb b y) (channels a b) (all a b)
+sent_feed : WireLaws → (x y : ℕ) (r : Record) (channels : ℕ → ℕ → ChannelFact) → TakenWithin channels → (a b : ℕ) → feed_by (at_pair x y (with_sent r) channels a b) ≡ feed_by (channels a b)
+sent_feed wire x y r channels all a b = by (eqb a x && eqb b y) (channels a b) (all a b)
   where
     by : (t : Bool) (f : ChannelFact) → f.taken ≤ length (spellings_of f.sent) → feed_by (cond t (with_sent r f) f) ≡ feed_by f
-    by true f fits = feed_sent f.sent f.taken r fits
+    by true f fits = feed_sent wire f.sent f.taken r fits
     by false f fits = refl
 
 got_within : (x y : ℕ) (channels : ℕ → ℕ → ChannelFact) → TakenWithin channels → TakenWithin (at_pair x y with_got channels)
@@ -303,13 +303,13 @@ got_feed x y channels a b = by (eqb a x && eqb b y) (channels a b)
     by false f = refl
 
 -- uncounted lines leave what each decoder has
-pub fed_lines : (ls : List Line) (G : Facts) → AreUncounted ls → TakenWithin G.channel → (a b : ℕ) → feed_by ((after_lines G ls).channel a b) ≡ feed_by (G.channel a b)
-fed_lines [] G plain all a b = refl
-fed_lines (lines.Sent x y r ∷ ls) G plain all a b = fed_lines ls (after_line G (lines.Sent x y r)) plain.1 (sent_within x.0 y.0 r G.channel all) a b ∙ sent_feed x.0 y.0 r G.channel all a b
-fed_lines (lines.Got x y ∷ ls) G plain all a b = fed_lines ls (after_line G (lines.Got x y)) plain.1 (got_within x.0 y.0 G.channel all) a b ∙ got_feed x.0 y.0 G.channel a b
-fed_lines (lines.Do command ∷ ls) G plain all a b = absurd plain.0
-fed_lines (lines.Took x y n ∷ ls) G plain all a b = absurd plain.0
-fed_lines (line ∷ ls) G plain all a b = fed_lines ls (after_line G line) plain.1 all a b
+pub fed_lines : WireLaws → (ls : List Line) (G : Facts) → AreUncounted ls → TakenWithin G.channel → (a b : ℕ) → feed_by ((after_lines G ls).channel a b) ≡ feed_by (G.channel a b)
+fed_lines wire [] G plain all a b = refl
+fed_lines wire (lines.Sent x y r ∷ ls) G plain all a b = fed_lines wire ls (after_line G (lines.Sent x y r)) plain.1 (sent_within x.0 y.0 r G.channel all) a b ∙ sent_feed wire x.0 y.0 r G.channel all a b
+fed_lines wire (lines.Got x y ∷ ls) G plain all a b = fed_lines wire ls (after_line G (lines.Got x y)) plain.1 (got_within x.0 y.0 G.channel all) a b ∙ got_feed x.0 y.0 G.channel a b
+fed_lines wire (lines.Do command ∷ ls) G plain all a b = absurd plain.0
+fed_lines wire (lines.Took x y n ∷ ls) G plain all a b = absurd plain.0
+fed_lines wire (line ∷ ls) G plain all a b = fed_lines wire ls (after_line G line) plain.1 all a b
 
 -- ---- numbers
 
@@ -319,16 +319,17 @@ pub record CountsStay (G H : Facts) : Type 0 where
   pub born : H.born ≡ G.born
   pub starts : H.starts ≡ G.starts
   pub server : H.server ≡ G.server
+  pub holder : H.holder ≡ G.holder
   pub living : (e : ℕ) → lives_at H e ≡ lives_at G e
 
 pub counted_lines : (ls : List Line) (G : Facts) → AreUncounted ls → CountsStay G (after_lines G ls)
-counted_lines [] G plain = record { pool = refl; born = refl; starts = refl; server = refl; living = λ e. refl }
+counted_lines [] G plain = record { pool = refl; born = refl; starts = refl; server = refl; holder = refl; living = λ e. refl }
 counted_lines (lines.Do command ∷ ls) G plain = absurd plain.0
 counted_lines (lines.Born child kind parent ns blocks ∷ ls) G plain = absurd plain.0
 counted_lines (lines.Proc e p uid gid ∷ ls) G plain = absurd plain.0
 counted_lines (lines.Admitted e ∷ ls) G plain =
     let more = counted_lines ls (after_line G (lines.Admitted e)) plain.1 in
-    record { pool = more.pool; born = more.born; starts = more.starts; server = more.server; living = λ d. more.living d ∙ admitted_lives G.enclave e.0 d }
+    record { pool = more.pool; born = more.born; starts = more.starts; server = more.server; holder = more.holder; living = λ d. more.living d ∙ admitted_lives G.enclave e.0 d }
 counted_lines (line ∷ ls) G plain =
     let more = counted_lines ls (after_line G line) plain.1 in
-    record { pool = more.pool; born = more.born; starts = more.starts; server = more.server; living = more.living }
+    record { pool = more.pool; born = more.born; starts = more.starts; server = more.server; holder = more.holder; living = more.living }

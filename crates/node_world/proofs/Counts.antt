@@ -17,10 +17,13 @@ use Rattle.xemem_language.specs.declared.command.Command.TheVariants as commands
 use Rattle.xemem_language.specs.declared.call.ProcessCall.{ProcessCall}
 use Rattle.xemem_language.specs.declared.call.NodeShow.{NodeShow}
 use Rattle.xemem_language.specs.Calls.{call_of, show_of}
-use Rattle.enclave_rules.specs.Calls.{AreCallLines}
+use Rattle.xemem_language.specs.declared.call.Show.TheVariants as shows
+use Rattle.enclave_rules.specs.Calls.{AreCallLines, show_lines}
 use Rattle.xemem_language.specs.declared.line.Line.{Line}
 use Rattle.xemem_language.specs.declared.line.Line.TheVariants as lines
 use Rattle.xemem_language.specs.Spelling.{line_words, words_in}
+use Rattle.global_model.specs.Facts.{facts_after, facts_at}
+use Rattle.global_model.specs.Flow.{IsFlowing}
 use Rattle.global_model.specs.Journals.{onto, command_at}
 use Rattle.enclave_rules.specs.Core.{host}
 use Rattle.enclave_rules.specs.Hand.{Nothing, Calls}
@@ -30,12 +33,13 @@ use Rattle.enclave_node.specs.Nodes.{NodeView, unborn_node, raised, wrote, new_h
 use Rattle.node_machine.specs.declared.pair.Hop.{Hop}
 use Rattle.node_machine.specs.declared.pair.Hop.TheVariants as hops
 use Rattle.node_world.specs.Appended.{refuses, is_by, words_by}
-use Rattle.node_machine.specs.Machine.{MachineView, has_node, node_at, with_node, hop_in, link_of, with_link, taken_by, is_idle, next_born, free_of, is_full, is_short, booted_lines, booted_nodes, touch_by, lines_over, over_machine, deliver_by, after_deliver, shown_by, lines_by, acted, after_command, call_by, node_shown}
+use Rattle.node_machine.specs.Machine.{MachineView, has_node, node_at, with_node, hop_in, link_of, with_link, taken_by, is_idle, holder_after, names_shown, next_born, free_of, is_full, is_short, booted_lines, booted_nodes, touch_by, lines_over, over_machine, deliver_by, after_deliver, shown_by, lines_by, acted, after_command, call_by, node_shown}
 use Rattle.node_machine.specs.Ready.{IsReady, Stands}
+use Rattle.node_world.specs.Shown.{IsShown}
 use Rattle.node_world.specs.World.{most_words}
 use Rattle.node_world.proofs.Lists.{cond_case, node_within, set_field}
-use Rattle.node_world.proofs.Stills.{AreStill, still_answer, still_shown, show_no_call, show_stays, shown_lines, still_bytes}
-use Rattle.node_world.proofs.Appends.{AreBy, nobody, only, Adds, share, adds_append, adds_by, few_by, by_still, by_birth, by_host, by_adopt, by_records, by_call}
+use Rattle.node_world.proofs.Stills.{AreStill, holder_is, still_answer, still_shown, show_no_call, show_stays, shown_lines, still_bytes}
+use Rattle.node_world.proofs.Appends.{AreBy, holder_past, nobody, only, Adds, share, adds_append, adds_by, few_by, by_still, by_birth, by_host, by_adopt, by_records, by_call}
 use Rattle.node_world.proofs.Words.{onto-append}
 use Rattle.node_world.specs.Laws.{WorldLaws}
 
@@ -47,10 +51,20 @@ abbrev Raises : List NodeView → List NodeView → (ℕ → ℕ) → Type 0
 Raises nodes after gain = (e : ℕ) → count_at nodes e + gain e ≤ most_words → count_at after e ≡ count_at nodes e + gain e
 
 -- the lines add so many words to those of each enclave, by which the counts of the nodes are raised
-pub record Counts (c : Command) (ls : List Line) (nodes after : List NodeView) : Type 0 where
+pub record Counts (c : Command) (holder : Enclave) (ls : List Line) (nodes after : List NodeView) : Type 0 where
   pub gain : ℕ → ℕ
-  pub adds : Adds c ls gain
+  pub adds : Adds c holder ls gain
   pub raises : Raises nodes after gain
+
+-- whoever knows of itself that it holds the name server is that enclave
+abbrev pub Seats : MachineView → Enclave → Type 0
+Seats m holder = (e : Enclave) → has_node m.nodes e.0 ≡ true → (node_at m.nodes e.0).view.core.holder ≡ true → holder ≡ e
+
+-- where the machine shows the facts of a journal, that is the enclave with the name server
+pub seats_of : WorldLaws → (m : MachineView) (journal : List Line) → IsFlowing (facts_after journal) → IsShown (facts_after journal) m → Seats m (facts_at (onto journal [])).holder
+seats_of laws m journal flowing h e has holds =
+    let node = h.nodes e.0 (sym (h.living e.0) ∙ has) in
+    ap (λ F. F.holder) (laws.past journal []) ∙ holder_is (facts_after journal) flowing e (ap (λ (v : View). v.core.holder) (sym node.view) ∙ holds)
 
 -- no node appended anything, where none is born
 pub nothing : (e : ℕ) → count_at [] e ≡ 0
@@ -63,8 +77,8 @@ raised_few : (count more : ℕ) → count + more ≤ most_words → raised count
 raised_few count more few = omega (arith, few)
 
 -- no node writes
-counts_none : (c : Command) (ls : List Line) (nodes : List NodeView) → AreBy c nobody ls → Counts c ls nodes nodes
-counts_none c ls nodes by = record { gain = share nobody ls; adds = adds_by c nobody ls by; raises = λ e few. omega arith }
+counts_none : (c : Command) (holder : Enclave) (ls : List Line) (nodes : List NodeView) → AreBy c holder nobody ls → Counts c holder ls nodes nodes
+counts_none c holder ls nodes by = record { gain = share nobody ls; adds = adds_by c holder nobody ls by; raises = λ e few. omega arith }
 
 -- one node changes, and its count is raised by so many
 raises_one : (nodes : List NodeView) (of : Enclave) (node : NodeView) (more : ℕ) → of.0 < length nodes → node.appended ≡ raised (count_at nodes of.0) more
@@ -82,9 +96,9 @@ raises_one nodes of node more within is e few = by (eqb of.0 e) refl few
         omega (arith, other)
 
 -- one node writes the lines
-counts_one : (c : Command) (nodes : List NodeView) (of : Enclave) (node : NodeView) (ls : List Line) → of.0 < length nodes → node.appended ≡ raised (count_at nodes of.0) (words_in ls) → AreBy c (only of) ls
-    → Counts c ls nodes (slice_set nodes of.0 node)
-counts_one c nodes of node ls within is by = record { gain = share (only of) ls; adds = adds_by c (only of) ls by; raises = raises_one nodes of node (words_in ls) within is }
+counts_one : (c : Command) (holder : Enclave) (nodes : List NodeView) (of : Enclave) (node : NodeView) (ls : List Line) → of.0 < length nodes → node.appended ≡ raised (count_at nodes of.0) (words_in ls) → AreBy c holder (only of) ls
+    → Counts c holder ls nodes (slice_set nodes of.0 node)
+counts_one c holder nodes of node ls within is by = record { gain = share (only of) ls; adds = adds_by c holder (only of) ls by; raises = raises_one nodes of node (words_in ls) within is }
 
 -- one more node is put behind the others
 raises_more : (nodes after : List NodeView) (gain : ℕ → ℕ) (child : Enclave) (node : NodeView) (more : ℕ) → Raises nodes after gain → length after ≡ length nodes → child.0 ≡ length nodes → ((e : ℕ) → length nodes ≤ e → gain e ≡ 0)
@@ -118,8 +132,8 @@ raises_more nodes after gain child node more old size last silent is e few = by 
 
 -- ---- births
 
-counts_host : (m : MachineView) (blocks : ℕ) (ns : Bool) → length m.nodes ≡ 0 → Counts (commands.Host blocks ns) (lines_by m (commands.Host blocks ns)) m.nodes (acted m (commands.Host blocks ns)).nodes
-counts_host m blocks ns none = by (ltb m.pool blocks)
+counts_host : (holder : Enclave) (m : MachineView) (blocks : ℕ) (ns : Bool) → length m.nodes ≡ 0 → Counts (commands.Host blocks ns) holder (lines_by m (commands.Host blocks ns)) m.nodes (acted m (commands.Host blocks ns)).nodes
+counts_host holder m blocks ns none = by (ltb m.pool blocks)
   where
     c : Command
     c = commands.Host blocks ns
@@ -128,7 +142,7 @@ counts_host m blocks ns none = by (ltb m.pool blocks)
     ls = host_lines (first_blocks blocks) ns
 
     w : MachineView
-    w = record m { server = ns; nodes = new_host m.pool blocks ns ∷ [] }
+    w = record m { server = ns; holder = holder_after m host ns; nodes = new_host m.pool blocks ns ∷ [] }
 
     gone : (e : ℕ) → count_at m.nodes e ≡ 0
     gone e = ap (λ n. n.appended) (get_or_past m.nodes e (unborn_node 0 host []) (omega (arith, none)))
@@ -139,11 +153,11 @@ counts_host m blocks ns none = by (ltb m.pool blocks)
         let none : share (only host) ls (suc e) ≡ 0 = ap (λ b. cond b (words_in ls) 0) (ne_eqb 0 (suc e) (λ same. omega (arith, same))) in
         omega (arith, gone (suc e), none)
 
-    by : (b : Bool) → Counts c (cond b (refusal causes.NoBlocks) ls) m.nodes (cond b m w).nodes
-    by true = counts_none c (refusal causes.NoBlocks) m.nodes (λ e. refl, tt)
-    by false = record { gain = share (only host) ls; adds = adds_by c (only host) ls (by_host c (first_blocks blocks) ns); raises = raises }
+    by : (b : Bool) → Counts c holder (cond b (refusal causes.NoBlocks) ls) m.nodes (cond b m w).nodes
+    by true = counts_none c holder (refusal causes.NoBlocks) m.nodes (λ e. refl, tt)
+    by false = record { gain = share (only host) ls; adds = adds_by c holder (only host) ls (by_host c holder (first_blocks blocks) ns); raises = raises }
 
-module _ (m : MachineView) (kind : Kind) (parent : Enclave) (blocks : ℕ) (ns : Bool) (me : has_node m.nodes parent.0 ≡ true → (node_at m.nodes parent.0).view.me ≡ parent) where
+module _ (holder : Enclave) (m : MachineView) (kind : Kind) (parent : Enclave) (blocks : ℕ) (ns : Bool) (me : has_node m.nodes parent.0 ≡ true → (node_at m.nodes parent.0).view.me ≡ parent) where
   abbrev boot : Command
   boot = commands.Boot kind parent blocks ns
 
@@ -183,34 +197,40 @@ module _ (m : MachineView) (kind : Kind) (parent : Enclave) (blocks : ℕ) (ns :
       silent : (e : ℕ) → length m.nodes ≤ e → share (only parent) asked e ≡ 0
       silent e past = ap (λ b. cond b (words_in asked) 0) (ne_eqb parent.0 e (λ is. omega (arith, is, past, within)))
 
-  booted : has_node m.nodes parent.0 ≡ true → Counts boot (booted_lines m kind parent blocks ns) m.nodes (booted_nodes m kind parent blocks ns)
+  booted : has_node m.nodes parent.0 ≡ true → Counts boot holder (booted_lines m kind parent blocks ns) m.nodes (booted_nodes m kind parent blocks ns)
   booted has = record {
     gain = λ e. share (only child) birth e + share (only parent) asked e;
-    adds = adds_append boot birth asked (share (only child) birth) (share (only parent) asked)
-        (adds_by boot (only child) birth (by_birth boot child kind parent (take blocks (free_of m)) ns (node_at m.nodes parent.0).view.core.heard))
-        (adds_by boot (only parent) asked (subst (λ e. AreBy boot (only e) asked) (me has) (by_adopt boot (node_at m.nodes parent.0).view child)));
+    adds = adds_append boot holder birth asked (share (only child) birth) (share (only parent) asked)
+        (adds_by boot holder (only child) birth (by_birth boot holder child kind parent (take blocks (free_of m)) ns (node_at m.nodes parent.0).view.core.heard))
+        (adds_by boot (holder_past holder birth) (only parent) asked
+        (subst (λ e. AreBy boot (holder_past holder birth) (only e) asked) (me has) (by_adopt boot (holder_past holder birth) (node_at m.nodes parent.0).view child)));
     raises = booted_raises (node_within m.nodes parent.0 has);
   }
 
-  counts_boot : Counts boot (lines_by m boot) m.nodes (acted m boot).nodes
+  counts_boot : Counts boot holder (lines_by m boot) m.nodes (acted m boot).nodes
   counts_boot = by (has_node m.nodes parent.0) (is_full m) (ns && m.server) (is_short m blocks) refl
     where
       w : MachineView
-      w = record m { server = m.server || ns; nodes = booted_nodes m kind parent blocks ns; pairs = m.pairs ++ record { parent = parent; up = fresh; down = fresh } ∷ [] }
+      w = record m {
+        server = m.server || ns;
+        holder = holder_after m child ns;
+        nodes = booted_nodes m kind parent blocks ns;
+        pairs = m.pairs ++ record { parent = parent; up = fresh; down = fresh } ∷ [];
+      }
 
       by : (a b t d : Bool) → has_node m.nodes parent.0 ≡ a
-          → Counts boot (cond a (cond b (refusal causes.TooMany) (cond t (refusal causes.NameServerTaken) (cond d (refusal causes.NoBlocks) (booted_lines m kind parent blocks ns)))) (refusal causes.NoEnclave)) m.nodes
+          → Counts boot holder (cond a (cond b (refusal causes.TooMany) (cond t (refusal causes.NameServerTaken) (cond d (refusal causes.NoBlocks) (booted_lines m kind parent blocks ns)))) (refusal causes.NoEnclave)) m.nodes
           (cond (not a) m (cond b m (cond t m (cond d m w)))).nodes
-      by false b t d is = counts_none boot (refusal causes.NoEnclave) m.nodes (λ e. refl, tt)
-      by true true t d is = counts_none boot (refusal causes.TooMany) m.nodes (λ e. refl, tt)
-      by true false true d is = counts_none boot (refusal causes.NameServerTaken) m.nodes (λ e. refl, tt)
-      by true false false true is = counts_none boot (refusal causes.NoBlocks) m.nodes (λ e. refl, tt)
+      by false b t d is = counts_none boot holder (refusal causes.NoEnclave) m.nodes (λ e. refl, tt)
+      by true true t d is = counts_none boot holder (refusal causes.TooMany) m.nodes (λ e. refl, tt)
+      by true false true d is = counts_none boot holder (refusal causes.NameServerTaken) m.nodes (λ e. refl, tt)
+      by true false false true is = counts_none boot holder (refusal causes.NoBlocks) m.nodes (λ e. refl, tt)
       by true false false false is = booted is
 
 -- ---- calls of processes
 
-counts_start : (m : MachineView) (e : Enclave) (uid gid : ℕ) → (has_node m.nodes e.0 ≡ true → (node_at m.nodes e.0).view.me ≡ e) → Counts (commands.Proc e uid gid) (lines_by m (commands.Proc e uid gid)) m.nodes (acted m (commands.Proc e uid gid)).nodes
-counts_start m e uid gid me = by (has_node m.nodes e.0) (leb 1024 m.starts) refl
+counts_start : (holder : Enclave) (m : MachineView) (e : Enclave) (uid gid : ℕ) → (has_node m.nodes e.0 ≡ true → (node_at m.nodes e.0).view.me ≡ e) → Counts (commands.Proc e uid gid) holder (lines_by m (commands.Proc e uid gid)) m.nodes (acted m (commands.Proc e uid gid)).nodes
+counts_start holder m e uid gid me = by (has_node m.nodes e.0) (leb 1024 m.starts) refl
   where
     c : Command
     c = commands.Proc e uid gid
@@ -221,16 +241,16 @@ counts_start m e uid gid me = by (has_node m.nodes e.0) (leb 1024 m.starts) refl
     w : MachineView
     w = record m { nodes = slice_set m.nodes e.0 (wrote Nothing (node_at m.nodes e.0) ls); starts = m.starts + 1 }
 
-    by : (a b : Bool) → has_node m.nodes e.0 ≡ a → Counts c (cond a (cond b (refusal causes.TooMany) ls) (refusal causes.NoEnclave)) m.nodes (cond (not a) m (cond b m w)).nodes
-    by false b is = counts_none c (refusal causes.NoEnclave) m.nodes (λ e. refl, tt)
-    by true true is = counts_none c (refusal causes.TooMany) m.nodes (λ e. refl, tt)
+    by : (a b : Bool) → has_node m.nodes e.0 ≡ a → Counts c holder (cond a (cond b (refusal causes.TooMany) ls) (refusal causes.NoEnclave)) m.nodes (cond (not a) m (cond b m w)).nodes
+    by false b is = counts_none c holder (refusal causes.NoEnclave) m.nodes (λ e. refl, tt)
+    by true true is = counts_none c holder (refusal causes.TooMany) m.nodes (λ e. refl, tt)
     by true false is =
         let lt = node_within m.nodes e.0 is in
-        counts_one c m.nodes e (wrote Nothing (node_at m.nodes e.0) ls) ls lt refl (λ k. ap (λ a. only a k) (me is), tt)
+        counts_one c holder m.nodes e (wrote Nothing (node_at m.nodes e.0) ls) ls lt refl (λ k. ap (λ a. only a k) (me is), tt)
 
-counts_call : WorldLaws → (m : MachineView) (c : Command) (k : ProcessCall) → call_of c ≡ Some k → (has_node m.nodes k.enclave.0 ≡ true → (node_at m.nodes k.enclave.0).view.me ≡ k.enclave)
-    → Counts c (lines_by m c) m.nodes (acted m c).nodes
-counts_call laws m c k is me = rw is (by (has_node m.nodes k.enclave.0) refl)
+counts_call : WorldLaws → (holder : Enclave) (m : MachineView) (c : Command) (k : ProcessCall) → call_of c ≡ Some k → Seats m holder → (has_node m.nodes k.enclave.0 ≡ true → (node_at m.nodes k.enclave.0).view.me ≡ k.enclave)
+    → Counts c holder (lines_by m c) m.nodes (acted m c).nodes
+counts_call laws holder m c k is seats me = rw is (by (has_node m.nodes k.enclave.0) refl)
   where
     e : Enclave
     e = k.enclave
@@ -244,22 +264,22 @@ counts_call laws m c k is me = rw is (by (has_node m.nodes k.enclave.0) refl)
     refused : (j : ℕ) → refuses j (Some c) causes.NoEnclave ≡ false
     refused j = rw is refl
 
-    by : (a : Bool) → has_node m.nodes e.0 ≡ a → Counts c (cond a ls (refusal causes.NoEnclave)) m.nodes (cond a (with_node m e.0 (wrote (Calls k) (node_at m.nodes e.0) ls)) m).nodes
-    by false gone = counts_none c (refusal causes.NoEnclave) m.nodes (refused, tt)
+    by : (a : Bool) → has_node m.nodes e.0 ≡ a → Counts c holder (cond a ls (refusal causes.NoEnclave)) m.nodes (cond a (with_node m e.0 (wrote (Calls k) (node_at m.nodes e.0) ls)) m).nodes
+    by false gone = counts_none c holder (refusal causes.NoEnclave) m.nodes (refused, tt)
     by true here =
         let lt = node_within m.nodes e.0 here in
-        let own : AreCallLines e ls = subst (λ (a : Enclave). AreCallLines a ls) (me here) (laws.views.calls v k.pid k.call) in
-        counts_one c m.nodes e (wrote (Calls k) (node_at m.nodes e.0) ls) ls lt refl (by_call c k is ls own)
+        let own : AreCallLines holder e ls = subst (λ (a : Enclave). AreCallLines holder a ls) (me here) (laws.views.calls holder v k.pid k.call (λ holds. seats e here holds ∙ sym (me here))) in
+        counts_one c holder m.nodes e (wrote (Calls k) (node_at m.nodes e.0) ls) ls lt refl (by_call c k is holder ls own)
 
 -- ---- deliveries
 
 -- The command at hand is the delivery's own, or a settle.
-module _ (laws : WorldLaws) (hand : Command) (quiet : (e : ℕ) (cause : Cause) → refuses e (Some hand) cause ≡ false) (m : MachineView) (x y : Enclave) (count : ℕ) (me : has_node m.nodes y.0 ≡ true → (node_at m.nodes y.0).view.me ≡ y) where
+module _ (laws : WorldLaws) (hand : Command) (quiet : (e : ℕ) (cause : Cause) → refuses e (Some hand) cause ≡ false) (holder : Enclave) (m : MachineView) (x y : Enclave) (count : ℕ) (seats : Seats m holder) (me : has_node m.nodes y.0 ≡ true → (node_at m.nodes y.0).view.me ≡ y) where
   -- nothing goes to an enclave that doesn't live
   gone_hop : has_node m.nodes y.0 ≡ false → hop_in m x y ≡ hops.NoEnclave
   gone_hop is = rw is refl
 
-  counts_over : has_node m.nodes y.0 ≡ true → (hop : Hop) → Counts hand (lines_over m x y count hop) m.nodes (over_machine m x y count hop).nodes
+  counts_over : has_node m.nodes y.0 ≡ true → (hop : Hop) → Counts hand holder (lines_over m x y count hop) m.nodes (over_machine m x y count hop).nodes
   counts_over has hop = by (is_idle (link_of m.pairs hop))
     where
       n : ℕ
@@ -280,26 +300,26 @@ module _ (laws : WorldLaws) (hand : Command) (quiet : (e : ℕ) (cause : Cause) 
       took : List Line
       took = lines.Took x y n ∷ []
 
-      busy : Counts hand (took ++ ls) m.nodes w.nodes
+      busy : Counts hand holder (took ++ ls) m.nodes w.nodes
       busy = record {
         gain = λ e. share nobody took e + share (only y) ls e;
-        adds = adds_append hand took ls (share nobody took) (share (only y) ls) (adds_by hand nobody took (λ e. refl, tt))
-            (adds_by hand (only y) ls (subst (λ e. AreBy hand (only e) ls) (me has) (by_records laws.views hand node.view x (fed node x piece).records)));
+        adds = adds_append hand holder took ls (share nobody took) (share (only y) ls) (adds_by hand holder nobody took (λ e. refl, tt))
+            (adds_by hand holder (only y) ls (subst (λ e. AreBy hand holder (only e) ls) (me has) (by_records laws.views hand holder node.view x (fed node x piece).records (λ holds. seats y has holds ∙ sym (me has)))));
         raises = λ e few. raises_one m.nodes y (after_feed node x piece) (words_in ls) (node_within m.nodes y.0 has) refl e (omega (arith, few)) ∙ omega arith;
       }
 
-      by : (b : Bool) → Counts hand (cond b (lines.Idle x y ∷ []) (lines.Took x y n ∷ ls)) m.nodes (cond b m w).nodes
-      by true = counts_none hand (lines.Idle x y ∷ []) m.nodes (λ e. refl, tt)
+      by : (b : Bool) → Counts hand holder (cond b (lines.Idle x y ∷ []) (lines.Took x y n ∷ ls)) m.nodes (cond b m w).nodes
+      by true = counts_none hand holder (lines.Idle x y ∷ []) m.nodes (λ e. refl, tt)
       by false = busy
 
-  counts_deliver : Counts hand (deliver_by m x y count (hop_in m x y)) m.nodes (after_deliver m x y count (hop_in m x y)).nodes
+  counts_deliver : Counts hand holder (deliver_by m x y count (hop_in m x y)) m.nodes (after_deliver m x y count (hop_in m x y)).nodes
   counts_deliver = by (has_node m.nodes y.0) refl
     where
       at : (hop : Hop) → Type 0
-      at hop = Counts hand (deliver_by m x y count hop) m.nodes (after_deliver m x y count hop).nodes
+      at hop = Counts hand holder (deliver_by m x y count hop) m.nodes (after_deliver m x y count hop).nodes
 
-      refused : (cause : Cause) → Counts hand (refusal cause) m.nodes m.nodes
-      refused cause = counts_none hand (refusal cause) m.nodes (λ e. quiet e cause, tt)
+      refused : (cause : Cause) → Counts hand holder (refusal cause) m.nodes m.nodes
+      refused cause = counts_none hand holder (refusal cause) m.nodes (λ e. quiet e cause, tt)
 
       over : has_node m.nodes y.0 ≡ true → (hop : Hop) → at hop
       over within hops.NoEnclave = refused causes.NoEnclave
@@ -313,15 +333,15 @@ module _ (laws : WorldLaws) (hand : Command) (quiet : (e : ℕ) (cause : Cause) 
 
 -- ---- what is shown
 
-counts_still : (c : Command) → ((e : ℕ) (cause : Cause) → refuses e (Some c) cause ≡ false) → (ls : List Line) (nodes : List NodeView) → AreStill ls → Counts c ls nodes nodes
-counts_still c quiet ls nodes still = counts_none c ls nodes (by_still c quiet ls still)
+counts_still : (c : Command) → ((e : ℕ) (cause : Cause) → refuses e (Some c) cause ≡ false) → (holder : Enclave) (ls : List Line) (nodes : List NodeView) → AreStill ls → Counts c holder ls nodes nodes
+counts_still c quiet holder ls nodes still = counts_none c holder ls nodes (by_still c quiet ls still holder)
 
-counts_touch : (m : MachineView) (e : Enclave) (p : Pid) (addr : ℕ) (want : Want) → Counts (commands.Touch e p addr want) (lines_by m (commands.Touch e p addr want)) m.nodes m.nodes
-counts_touch m e p addr want = counts_still (commands.Touch e p addr want) (λ e cause. refl) (lines_by m (commands.Touch e p addr want)) m.nodes
+counts_touch : (holder : Enclave) (m : MachineView) (e : Enclave) (p : Pid) (addr : ℕ) (want : Want) → Counts (commands.Touch e p addr want) holder (lines_by m (commands.Touch e p addr want)) m.nodes m.nodes
+counts_touch holder m e p addr want = counts_still (commands.Touch e p addr want) (λ e cause. refl) holder (lines_by m (commands.Touch e p addr want)) m.nodes
     (cond_case (has_node m.nodes e.0) (touch_by m e p addr want) (refusal causes.NoEnclave) AreStill (still_answer e p (touch_answer (node_at m.nodes e.0).view p addr want)) (tt, tt))
 
-counts_show_link : (m : MachineView) (x y : Enclave) → Counts (commands.ShowLink x y) (lines_by m (commands.ShowLink x y)) m.nodes m.nodes
-counts_show_link m x y = counts_still (commands.ShowLink x y) (λ e cause. refl) (lines_by m (commands.ShowLink x y)) m.nodes (by (hop_in m x y))
+counts_show_link : (holder : Enclave) (m : MachineView) (x y : Enclave) → Counts (commands.ShowLink x y) holder (lines_by m (commands.ShowLink x y)) m.nodes m.nodes
+counts_show_link holder m x y = counts_still (commands.ShowLink x y) (λ e cause. refl) holder (lines_by m (commands.ShowLink x y)) m.nodes (by (hop_in m x y))
   where
     by : (hop : Hop) → AreStill (shown_by m x y hop)
     by hops.NoEnclave = (tt, tt)
@@ -329,36 +349,45 @@ counts_show_link m x y = counts_still (commands.ShowLink x y) (λ e cause. refl)
     by (hops.Up i) = still_bytes x y _ 0 _
     by (hops.Down i) = still_bytes x y _ 0 _
 
-counts_show : WorldLaws → (m : MachineView) (c : Command) (s : NodeShow) → show_of c ≡ Some s → Counts c (lines_by m c) m.nodes (acted m c).nodes
-counts_show laws m c s is = subst (λ (w : MachineView). Counts c (lines_by m c) m.nodes w.nodes) (sym (show_stays m c s is))
-    (counts_still c (λ e cause. let none = show_no_call c s is in rw none refl) (lines_by m c) m.nodes
+counts_show_names : WorldLaws → (holder : Enclave) (m : MachineView) → Counts commands.ShowNames holder (names_shown m) m.nodes m.nodes
+counts_show_names laws holder m =
+    let names = show_lines (node_at m.nodes m.holder.0).view shows.Names in
+    counts_still commands.ShowNames (λ e cause. refl) holder (names_shown m) m.nodes
+    (cond_case m.server names (refusal causes.NotReady) AreStill (still_shown names (laws.views.shows (node_at m.nodes m.holder.0).view shows.Names)) (tt, tt))
+
+counts_show : WorldLaws → (holder : Enclave) (m : MachineView) (c : Command) (s : NodeShow) → show_of c ≡ Some s → Counts c holder (lines_by m c) m.nodes (acted m c).nodes
+counts_show laws holder m c s is = subst (λ (w : MachineView). Counts c holder (lines_by m c) m.nodes w.nodes) (sym (show_stays m c s is))
+    (counts_still c (λ e cause. let none = show_no_call c s is in rw none refl) holder (lines_by m c) m.nodes
     (subst AreStill (sym (shown_lines m c s is))
     (cond_case (has_node m.nodes s.enclave.0) (node_shown m s) (refusal causes.NoEnclave) AreStill
     (still_shown (node_shown m s) (laws.views.shows (node_at m.nodes s.enclave.0).view s.show)) (tt, tt))))
 
 -- ---- any command
 
-counted_other : WorldLaws → (m : MachineView) (c : Command) → call_of c ≡ None → show_of c ≡ None → IsReady m → Stands m c → Counts c (lines_by m c) m.nodes (acted m c).nodes
-counted_other laws m (commands.Pool blocks) no_call no_show ready stands = counts_none (commands.Pool blocks) [] m.nodes tt
-counted_other laws m (commands.Host blocks ns) no_call no_show ready stands = counts_host m blocks ns stands.0
-counted_other laws m (commands.Boot kind parent blocks ns) no_call no_show ready stands = counts_boot m kind parent blocks ns (λ within. (ready.nodes parent.0 within).me)
-counted_other laws m (commands.Proc e uid gid) no_call no_show ready stands = counts_start m e uid gid (λ within. (ready.nodes e.0 within).me)
-counted_other laws m (commands.Touch e p addr want) no_call no_show ready stands = counts_touch m e p addr want
-counted_other laws m (commands.Deliver x y count) no_call no_show ready stands = counts_deliver laws (commands.Deliver x y count) (λ e cause. refl) m x y count (λ within. (ready.nodes y.0 within).me)
-counted_other laws m (commands.Settle most) no_call no_show ready stands = absurd stands
-counted_other laws m (commands.ShowLink x y) no_call no_show ready stands = counts_show_link m x y
-counted_other laws m (commands.Alloc e p page count) no_call no_show ready stands = cc
-counted_other laws m (commands.ShowRoutes e) no_call no_show ready stands = cc
-counted_other laws m commands.ShowPool no_call no_show ready stands = cc
-counted_other laws m c no_call no_show ready stands = counts_none c [] m.nodes tt
+counted_other : WorldLaws → (holder : Enclave) (m : MachineView) (c : Command) → call_of c ≡ None → show_of c ≡ None → Seats m holder → IsReady m → Stands m c → Counts c holder (lines_by m c) m.nodes (acted m c).nodes
+counted_other laws holder m (commands.Pool blocks) no_call no_show seats ready stands = counts_none (commands.Pool blocks) holder [] m.nodes tt
+counted_other laws holder m (commands.Host blocks ns) no_call no_show seats ready stands = counts_host holder m blocks ns stands.0
+counted_other laws holder m (commands.Boot kind parent blocks ns) no_call no_show seats ready stands = counts_boot holder m kind parent blocks ns (λ within. (ready.nodes parent.0 within).me)
+counted_other laws holder m (commands.Proc e uid gid) no_call no_show seats ready stands = counts_start holder m e uid gid (λ within. (ready.nodes e.0 within).me)
+counted_other laws holder m (commands.Touch e p addr want) no_call no_show seats ready stands = counts_touch holder m e p addr want
+counted_other laws holder m (commands.Deliver x y count) no_call no_show seats ready stands = counts_deliver laws (commands.Deliver x y count) (λ e cause. refl) holder m x y count seats (λ within. (ready.nodes y.0 within).me)
+counted_other laws holder m (commands.Settle most) no_call no_show seats ready stands = absurd stands
+counted_other laws holder m (commands.ShowLink x y) no_call no_show seats ready stands = counts_show_link holder m x y
+counted_other laws holder m commands.ShowNames no_call no_show seats ready stands = counts_show_names laws holder m
+counted_other laws holder m (commands.Alloc e p page count) no_call no_show seats ready stands = cc
+counted_other laws holder m (commands.Make e p addr size mode) no_call no_show seats ready stands = cc
+counted_other laws holder m (commands.Remove e p segid) no_call no_show seats ready stands = cc
+counted_other laws holder m (commands.ShowRoutes e) no_call no_show seats ready stands = cc
+counted_other laws holder m commands.ShowPool no_call no_show seats ready stands = cc
+counted_other laws holder m c no_call no_show seats ready stands = counts_none c holder [] m.nodes tt
 
-pub counted : WorldLaws → (m : MachineView) (c : Command) → IsReady m → Stands m c → Counts c (lines_by m c) m.nodes (acted m c).nodes
-counted laws m c ready stands = by (call_of c) refl (show_of c) refl
+pub counted : WorldLaws → (holder : Enclave) (m : MachineView) (c : Command) → Seats m holder → IsReady m → Stands m c → Counts c holder (lines_by m c) m.nodes (acted m c).nodes
+counted laws holder m c seats ready stands = by (call_of c) refl (show_of c) refl
   where
-    by : (call : Option ProcessCall) → call_of c ≡ call → (show : Option NodeShow) → show_of c ≡ show → Counts c (lines_by m c) m.nodes (acted m c).nodes
-    by (Some k) is show shown = counts_call laws m c k is (λ within. (ready.nodes k.enclave.0 within).me)
-    by None no_call (Some s) shown = counts_show laws m c s shown
-    by None no_call None no_show = counted_other laws m c no_call no_show ready stands
+    by : (call : Option ProcessCall) → call_of c ≡ call → (show : Option NodeShow) → show_of c ≡ show → Counts c holder (lines_by m c) m.nodes (acted m c).nodes
+    by (Some k) is show shown = counts_call laws holder m c k is seats (λ within. (ready.nodes k.enclave.0 within).me)
+    by None no_call (Some s) shown = counts_show laws holder m c s shown
+    by None no_call None no_show = counted_other laws holder m c no_call no_show seats ready stands
 
 -- ---- a journal
 
@@ -372,27 +401,27 @@ counted_line m journal line quiet counted e =
     counted e ∙ sym (ap (words_by e) (onto-append journal (line ∷ []) []) ∙ ap (λ b. cond b (length (line_words line)) 0 + words_by e (onto journal [])) (quiet e (onto journal [])) ∙ omega arith)
 
 -- the lines of a command raise the counts, as long as the journal is short
-counted_more : (hand : Command) (m : MachineView) (ls journal : List Line) (after : List NodeView) → Counts hand ls m.nodes after → command_at (onto journal []) ≡ Some hand → AreOwnWords m journal → words_in (journal ++ ls) ≤ most_words
+counted_more : (hand : Command) (m : MachineView) (ls journal : List Line) (after : List NodeView) → Counts hand (facts_at (onto journal [])).holder ls m.nodes after → command_at (onto journal []) ≡ Some hand → AreOwnWords m journal → words_in (journal ++ ls) ≤ most_words
     → (e : ℕ) → count_at after e ≡ words_by e (onto (journal ++ ls) [])
 counted_more hand m ls journal after k at old short e =
     let all = ap (words_by e) (onto-append journal ls []) in
-    let words = k.adds.words (onto journal []) at e in
+    let words = k.adds.words (onto journal []) at refl e in
     let few = few_by e (journal ++ ls) [] in
     let sum : count_at m.nodes e + k.gain e ≡ words_by e (onto (journal ++ ls) []) = omega (arith, old e, all, words) in
     k.raises e (omega (arith, sum, few, short)) ∙ sum
 
 -- those of a command at hand
-pub counted_after : WorldLaws → (m : MachineView) (c : Command) (journal : List Line) → IsReady m → Stands m c → command_at (onto journal []) ≡ Some c → AreOwnWords m journal → words_in (journal ++ lines_by m c) ≤ most_words
+pub counted_after : WorldLaws → (m : MachineView) (c : Command) (journal : List Line) → IsReady m → Stands m c → Seats m (facts_at (onto journal [])).holder → command_at (onto journal []) ≡ Some c → AreOwnWords m journal → words_in (journal ++ lines_by m c) ≤ most_words
     → AreOwnWords (after_command m c) (journal ++ lines_by m c)
-counted_after laws m c journal ready stands at old short = counted_more c m (lines_by m c) journal (acted m c).nodes (counted laws m c ready stands) at old short
+counted_after laws m c journal ready stands seats at old short = counted_more c m (lines_by m c) journal (acted m c).nodes (counted laws (facts_at (onto journal [])).holder m c seats ready stands) at old short
 
 -- those of a delivery, while a settle is at hand, which stays so
-module _ (laws : WorldLaws) (m : MachineView) (x y : Enclave) (count most : ℕ) (journal : List Line) (ready : IsReady m) (at : command_at (onto journal []) ≡ Some (commands.Settle most)) where
+module _ (laws : WorldLaws) (m : MachineView) (x y : Enclave) (count most : ℕ) (journal : List Line) (ready : IsReady m) (seats : Seats m (facts_at (onto journal [])).holder) (at : command_at (onto journal []) ≡ Some (commands.Settle most)) where
   abbrev ls : List Line
   ls = lines_by m (commands.Deliver x y count)
 
-  made : Counts (commands.Settle most) ls m.nodes (acted m (commands.Deliver x y count)).nodes
-  made = counts_deliver laws (commands.Settle most) (λ e cause. refl) m x y count (λ within. (ready.nodes y.0 within).me)
+  made : Counts (commands.Settle most) (facts_at (onto journal [])).holder ls m.nodes (acted m (commands.Deliver x y count)).nodes
+  made = counts_deliver laws (commands.Settle most) (λ e cause. refl) (facts_at (onto journal [])).holder m x y count seats (λ within. (ready.nodes y.0 within).me)
 
   pub counted_delivery : AreOwnWords m journal → words_in (journal ++ ls) ≤ most_words → AreOwnWords (after_command m (commands.Deliver x y count)) (journal ++ ls)
   counted_delivery old short = counted_more (commands.Settle most) m ls journal (acted m (commands.Deliver x y count)).nodes made at old short

@@ -15,7 +15,7 @@ use Rattle.xemem_language.specs.declared.line.Line.{Line}
 use Rattle.xemem_language.specs.declared.line.Line.TheVariants as lines
 use Rattle.global_model.specs.Facts.{Facts, ChannelFact, with_taken, after_line, after_lines, is_living_enclave, lives_at}
 use Rattle.enclave_rules.specs.Core.{host}
-use Rattle.enclave_rules.specs.View.{AreOf}
+use Rattle.enclave_rules.specs.View.{View, IsOf, AreOf}
 use Rattle.global_model.specs.Apt.{IsTaking}
 use Rattle.global_model.specs.Channels.{whole_records, arriving, is_child_of, is_neighbour, was_born}
 use Rattle.global_model.specs.Handled.{AreHandled}
@@ -32,24 +32,23 @@ use Rattle.node_world.specs.Shown.{IsNodeOf, IsShown}
 use Rattle.node_world.specs.Laws.{WireLaws, ViewLaws}
 use Rattle.node_world.proofs.Lists.{has-set, node_within, same_either, set_case}
 use Rattle.node_world.proofs.Flows.{waiting-length, link_taken, uncut_waiting, got_is, IsFedOn, feed_from, feed_fed}
-use Rattle.node_world.proofs.Carriage.{TakenWithin, AreUncounted, feed_by, pair_here, pair_other, pair_case, over, with_link-parent, with_link-length, counted_lines}
+use Rattle.node_world.proofs.Carriage.{TakenWithin, IsUncounted, AreUncounted, feed_by, pair_here, pair_other, pair_case, over, with_link-parent, with_link-length, counted_lines}
 use Rattle.node_world.proofs.Acted.{IsActed, HasFeed, IsFedPair, shown_by, linked_of, fed_of}
-use Rattle.node_world.proofs.Stills.{IsStep, IsTied, AreStill, tied_still}
+use Rattle.node_world.proofs.Stills.{IsStep, IsTied, AreStill, holder_is, tied_still}
 use Rattle.node_world.proofs.Neighbours.{IsOver, cause_of, refused_is, over_up, over_down, over_waits}
 
 -- ---- the lines of records are uncounted
 
-uncounted_of : (y : Enclave) (ls : List Line) → AreOf y ls → AreUncounted ls
-uncounted_of y [] of = tt
-uncounted_of y (lines.Admitted e ∷ ls) of = (tt, uncounted_of y ls of.1)
-uncounted_of y (lines.Asked e by ∷ ls) of = (tt, uncounted_of y ls of.1)
-uncounted_of y (lines.Way e over ∷ ls) of = (tt, uncounted_of y ls of.1)
-uncounted_of y (lines.Sent a b r ∷ ls) of = (tt, uncounted_of y ls of.1)
-uncounted_of y (lines.Got a b ∷ ls) of = (tt, uncounted_of y ls of.1)
-uncounted_of y (lines.Dropped e ∷ ls) of = (tt, uncounted_of y ls of.1)
-uncounted_of y (lines.Back e d over ∷ ls) of = (tt, uncounted_of y ls of.1)
-uncounted_of y (lines.Route e d over ∷ ls) of = (tt, uncounted_of y ls of.1)
-uncounted_of y (_ ∷ ls) of = absurd of.0
+uncounted_of : (holder y : Enclave) (ls : List Line) → AreOf holder y ls → AreUncounted ls
+uncounted_of holder y [] of = tt
+uncounted_of holder y (line ∷ ls) of = (one line of.0, uncounted_of holder y ls of.1)
+  where
+    one : (line : Line) → IsOf holder y line → IsUncounted line
+    one (lines.Do command) of = absurd of
+    one (lines.Born child kind parent ns blocks) of = absurd of
+    one (lines.Proc e p uid gid) of = absurd of
+    one (lines.Took a b count) of = absurd of
+    one _ of = tt
 
 -- ---- a delivery over a channel
 
@@ -189,6 +188,7 @@ module _ (wire : WireLaws) (views : ViewLaws) (G H : Facts) (m : MachineView) (x
       record {
         pool = h.pool;
         server = h.server;
+        holder = h.holder;
         starts = h.starts;
         born = length-set m.nodes y.0 after ∙ h.born;
         pairs = with_link-length m.pairs hop (taken link n) ∙ h.pairs;
@@ -210,6 +210,10 @@ module _ (wire : WireLaws) (views : ViewLaws) (G H : Facts) (m : MachineView) (x
             down = subst (λ (e : Enclave). lives_at G (i + 1) ≡ true → HasFeed T.channel w.nodes e.0 (i + 1)) same (λ lives. feed_after (pair_at m.pairs i).parent.0 (i + 1) (old.down lives));
           }
 
+  -- the node knows that it holds the name server where it does
+  holds : node.view.core.holder ≡ true → G.holder ≡ node.view.me
+  holds = subst (λ (v : View). v.core.holder ≡ true → G.holder ≡ v.me) is_view (holder_is G step.before y)
+
   -- so the delivery is tied, where the machine makes this of it
   pub tied_over : command_lines G (commands.Deliver x y count) ≡ deliver_lines G x y count → lines_by m (commands.Deliver x y count) ≡ lines_over m x y count hop → acted m (commands.Deliver x y count) ≡ over_machine m x y count hop
       → IsTied G H (commands.Deliver x y count) m
@@ -224,7 +228,7 @@ module _ (wire : WireLaws) (views : ViewLaws) (G H : Facts) (m : MachineView) (x
           tied_still G H (commands.Deliver x y count) m step h tt (machine ∙ ap (λ b. cond b m w) is) (made ∙ sym all) (subst AreStill (sym idle) (tt, tt))
       by false is =
           let busy : command_lines G (commands.Deliver x y count) ≡ lines.Took x y n ∷ ls = all ∙ ap (λ b. cond b (lines.Idle x y ∷ []) (lines.Took x y n ∷ ls)) is in
-          let plain : AreUncounted ls = uncounted_of node.view.me ls (views.of node.view x d.records) in
+          let plain : AreUncounted ls = uncounted_of G.holder node.view.me ls (views.of G.holder node.view x d.records holds) in
           let facts : H ≡ after_lines T ls = step.after ∙ ap (after_lines (after_line G (lines.Do (commands.Deliver x y count)))) busy in
           let living : (e : ℕ) → lives_at H e ≡ lives_at G e = λ e. ap (λ F. lives_at F e) facts ∙ (counted_lines ls T plain).living e in
           let shown = shown_by step.laws T H ls w facts plain step.flowing (busy_acted is busy living) in

@@ -15,7 +15,7 @@ use Rattle.global_model.specs.Flow.{IsFlow}
 use Rattle.node_machine.specs.Links.{IsLinkFlowing}
 use Rattle.node_world.specs.Links.{IsLinkOf, got_bytes, feed_of, rows_sent}
 use Rattle.node_world.specs.Laws.{LinkLaws, WireLaws}
-use Rattle.node_world.proofs.Fronts.{spelling_of-length, IsReadFront, front_of, spellings-append, spellings-length, whole-after, whole-take, whole-bytes, whole-more}
+use Rattle.node_world.proofs.Fronts.{IsReadFront, front_of, spellings-append, spellings-length, whole-after, whole-take, whole-bytes, whole-more}
 
 -- ---- what waits in a link
 
@@ -46,8 +46,8 @@ fresh_link = record { within = omega arith; waiting = refl; pieces = refl; ended
 pub waiting-length : (dead : Bool) (f : ChannelFact) (link : Channel) → IsLinkOf dead f link → f.taken + length (waiting_bytes link) ≡ length (spellings_of f.sent)
 waiting-length dead f link h = let size = ap length (h.waiting ∙ uncut_waiting f h.uncut) ∙ length-drop f.taken (spellings_of f.sent) in omega (arith, size, h.within)
 
-pub link_sent : LinkLaws → (dead : Bool) (f : ChannelFact) (link : Channel) (r : Record) → IsLinkOf dead f link → IsLinkOf dead (with_sent r f) (sent link (spelling_of r))
-link_sent laws dead f link r h =
+pub link_sent : WireLaws → LinkLaws → (dead : Bool) (f : ChannelFact) (link : Channel) (r : Record) → IsLinkOf dead f link → IsLinkOf dead (with_sent r f) (sent link (spelling_of r))
+link_sent wire laws dead f link r h =
     let one : spellings_of (r ∷ []) ≡ spelling_of r = append-nil (spelling_of r) in
     let all : spellings_of (f.sent ++ r ∷ []) ≡ spellings_of f.sent ++ spelling_of r = spellings-append f.sent (r ∷ []) ∙ ap (λ xs. spellings_of f.sent ++ xs) one in
     let few : f.taken ≤ length (spellings_of f.sent) = omega (arith, h.within) in
@@ -55,7 +55,7 @@ link_sent laws dead f link r h =
     record {
       within = let size = ap length all ∙ length-append (spellings_of f.sent) (spelling_of r) in omega (arith, size, h.within);
       waiting = laws.send link (spelling_of r) ∙ ap (λ xs. xs ++ spelling_of r) (h.waiting ∙ uncut_waiting f h.uncut) ∙ sym (uncut_waiting (with_sent r f) h.uncut ∙ rest);
-      pieces = laws.sent link (map spelling_of f.sent) f.taken (spelling_of r) (let same = ap length (spellings-concat f.sent) in omega (arith, same, few)) (omega (arith, spelling_of-length r))
+      pieces = laws.sent link (map spelling_of f.sent) f.taken (spelling_of r) (let same = ap length (spellings-concat f.sent) in omega (arith, same, few)) (let size = wire.least r in omega (arith, size))
           (h.pieces ∙ ap (λ rows. left_of rows f.taken) (uncut_rows f h.uncut))
           ∙ ap (λ rows. left_of rows f.taken) (sym (uncut_rows (with_sent r f) h.uncut ∙ map-append spelling_of f.sent (r ∷ [])));
       ended = h.ended;
@@ -124,10 +124,10 @@ feed_is f flow none =
     ap (λ (rs : List Record). record { records = []; rest = drop (length (spellings_of rs)) (take f.taken (spellings_of f.sent)); before = length (spellings_of rs); bad = None }) same
 
 -- a record that is sent later doesn't reach it
-pub feed_sent : (rs : List Record) (n : ℕ) (r : Record) → n ≤ length (spellings_of rs) → feed_from (rs ++ r ∷ []) n ≡ feed_from rs n
-feed_sent rs n r fits =
+pub feed_sent : WireLaws → (rs : List Record) (n : ℕ) (r : Record) → n ≤ length (spellings_of rs) → feed_from (rs ++ r ∷ []) n ≡ feed_from rs n
+feed_sent wire rs n r fits =
     let same : take n (spellings_of (rs ++ r ∷ [])) ≡ take n (spellings_of rs) = ap (take n) (spellings-append rs (r ∷ [])) ∙ take-append-le n (spellings_of rs) (spellings_of (r ∷ [])) fits in
-    ap (λ (ws : List Record). record { records = []; rest = drop (length (spellings_of ws)) (take n (spellings_of (rs ++ r ∷ []))); before = length (spellings_of ws); bad = None }) (whole-more n rs r fits)
+    ap (λ (ws : List Record). record { records = []; rest = drop (length (spellings_of ws)) (take n (spellings_of (rs ++ r ∷ []))); before = length (spellings_of ws); bad = None }) (whole-more wire n rs r fits)
     ∙ ap (λ (bytes : List ℕ). record { records = []; rest = drop (length (spellings_of (whole_records n rs))) bytes; before = length (spellings_of (whole_records n rs)); bad = None }) same
 
 -- what a decoder has after a piece, by the reading of its bytes

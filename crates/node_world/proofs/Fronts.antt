@@ -6,15 +6,11 @@ use Rattle.std.proofs.Math.Seq.{take-append-add, drop-append-add}
 use Rattle.std.proofs.lemmas.List.{take-append-le, take-append-drop, length-take-le}
 use Rattle.std.proofs.lemmas.Grind.{flat_map-append}
 use Rattle.xemem_language.specs.declared.record.Record.{Record}
-use Rattle.xemem_wire.specs.Spelling.{spelling_of, header_of, spellings_of, is_valid, AreValid}
+use Rattle.xemem_wire.specs.Spelling.{spelling_of, spellings_of, is_valid, AreValid}
 use Rattle.xemem_wire.specs.Faults.{fault_of, first_failed}
 use Rattle.xemem_wire.specs.Stream.{reading_of, reading_within, record_onto, nothing_read, first_bad, moved}
 use Rattle.global_model.specs.Channels.{size_of, whole_records}
 use Rattle.node_world.specs.Laws.{WireLaws}
-
-pub spelling_of-length : (r : Record) → length (spelling_of r) ≡ 16
-unfolding spelling_of header_of
-spelling_of-length r = refl
 
 pub spellings-append : (rs ss : List Record) → spellings_of (rs ++ ss) ≡ spellings_of rs ++ spellings_of ss
 spellings-append rs ss = flat_map-append spelling_of rs ss
@@ -133,9 +129,9 @@ whole-bytes (suc k) n (r ∷ rs) some = by (whole-bytes k (n - size_of r) rs) (l
     by more false is some = absurd (omega (arith, some))
 
 -- a record that is sent later is none of them
-pub whole-more : (n : ℕ) (rs : List Record) (r : Record) → n ≤ length (spellings_of rs) → whole_records n (rs ++ r ∷ []) ≡ whole_records n rs
-whole-more n [] r fits =
-    let size = spelling_of-length r in
+pub whole-more : WireLaws → (n : ℕ) (rs : List Record) (r : Record) → n ≤ length (spellings_of rs) → whole_records n (rs ++ r ∷ []) ≡ whole_records n rs
+whole-more laws n [] r fits =
+    let size = laws.least r in
     let long : leb (size_of r) n ≡ false = lt-leb (size_of r) n (omega (arith, fits, size)) in
     ap (λ b. cond b (r ∷ whole_records (n - size_of r) []) []) long
-whole-more n (s ∷ rs) r fits = ap (λ ws. cond (leb (size_of s) n) (s ∷ ws) []) (whole-more (n - size_of s) rs r (omega (arith, fits, length-append (spelling_of s) (spellings_of rs))))
+whole-more laws n (s ∷ rs) r fits = ap (λ ws. cond (leb (size_of s) n) (s ∷ ws) []) (whole-more laws (n - size_of s) rs r (omega (arith, fits, length-append (spelling_of s) (spellings_of rs))))

@@ -9,7 +9,8 @@ use Rattle.xemem_language.specs.Ranges.{IsInRange}
 use Rattle.enclave_rules.specs.Hand.{Nothing}
 use Rattle.global_model.specs.Place.{may_stand, IsPlacedAfter, IsPlaced}
 use Rattle.xemem_language.specs.Spelling.{words_in}
-use Rattle.global_model.specs.Facts.{facts_after, after_line}
+use Rattle.global_model.specs.Facts.{facts_after, facts_at, after_line}
+use Rattle.global_model.specs.Flow.{IsFlowing}
 use Rattle.global_model.specs.Due.{command_lines, journal_of, settle_from, step_lines}
 use Rattle.global_model.specs.Journals.{do_commands, onto, command_at}
 use Rattle.node_world.specs.declared.world.Which.{Which}
@@ -21,7 +22,7 @@ use Rattle.node_world.specs.Shown.{IsShown}
 use Rattle.node_world.specs.World.{most_words, holding, IsHistoryOf, IsAlong, IsCut, IsStopped}
 use Rattle.node_world.proofs.Stills.{shown_hand}
 use Rattle.node_world.proofs.Steps.{stepped, ready, can_step, sent_valid}
-use Rattle.node_world.proofs.Counts.{AreOwnWords, counted_line, counted_after}
+use Rattle.node_world.proofs.Counts.{AreOwnWords, Seats, seats_of, counted_line, counted_after}
 use Rattle.node_world.proofs.Stops.{stopped_more, stopped_behind}
 use Rattle.node_world.proofs.Words.{onto-append}
 
@@ -78,6 +79,12 @@ module _ (laws : WorldLaws) (m : MachineView) (journal : List Line) (h : IsHisto
     counted_begun : AreOwnWords m begun
     counted_begun = subst (AreOwnWords m) (sym out) (counted_line m journal (lines.Do c) (λ e past. refl) h.appended)
 
+    seats_begun : Seats m (facts_at (onto begun [])).holder
+    seats_begun =
+        let flowing : IsFlowing (facts_after journal) = subst (λ j. IsFlowing (facts_after j)) (sym h.told) (laws.flowing (do_commands journal) h.placed) in
+        let same = ap (λ j. (facts_at (onto j [])).holder) out ∙ ap (λ past. (facts_at past).holder) (onto-append journal (lines.Do c ∷ []) []) in
+        subst (Seats m) (sym same) (seats_of laws m journal flowing h.shown)
+
     -- ---- a step of the machine
 
     module _ (w : MachineView) (same : w ≡ m) (quiet : IsNoSettle c) where
@@ -101,7 +108,7 @@ module _ (laws : WorldLaws) (m : MachineView) (journal : List Line) (h : IsHisto
           history_of v after whole
           (subst (λ v. IsShown (facts_after after) v) (sym then) (subst (λ j. IsShown (facts_after j) (after_command m c)) (sym whole) (stepped laws (do_commands journal) c m quiet placed shown).1))
           (subst (λ v. AreOwnWords v after) (sym then) (subst (AreOwnWords (after_command m c)) (sym written)
-          (counted_after laws m c begun (ready laws (do_commands journal) m h.placed shown) (can_step laws (do_commands journal) c m quiet placed shown).stands at_hand counted_begun (subst (λ j. words_in j ≤ most_words) written few))))
+          (counted_after laws m c begun (ready laws (do_commands journal) m h.placed shown) (can_step laws (do_commands journal) c m quiet placed shown).stands seats_begun at_hand counted_begun (subst (λ j. words_in j ≤ most_words) written few))))
 
     -- ---- a settle
 

@@ -1,4 +1,4 @@
--- Commands whose lines are all at one enclave: a process starts, and pages become own ones.
+-- Commands whose lines are all at one enclave: a process starts, and a process makes a call.
 use Rattle.std.proofs.Common.{◌≡◌, ◌+◌, ◌<◌, ℕ, List, [], ◌∷◌, length, Bool, true, false, cond, leb, Some, refl, sym, ap, ◌∙◌, subst}
 use Rattle.std.specs.Prelude.{slice_set}
 use Rattle.std.proofs.lemmas.List.{length-set}
@@ -10,13 +10,13 @@ use Rattle.xemem_language.specs.declared.command.Command.{Command}
 use Rattle.xemem_language.specs.declared.command.Command.TheVariants as commands
 use Rattle.xemem_language.specs.declared.call.ProcessCall.{ProcessCall}
 use Rattle.xemem_language.specs.Calls.{call_of}
-use Rattle.enclave_rules.specs.Calls.{call_lines, AreCallLines}
+use Rattle.enclave_rules.specs.Calls.{call_lines, IsCallLine, AreCallLines}
 use Rattle.xemem_language.specs.declared.line.Line.{Line}
 use Rattle.xemem_language.specs.declared.line.Line.TheVariants as lines
 use Rattle.global_model.specs.Facts.{Facts, after_line, after_lines, lives_at}
 use Rattle.enclave_rules.specs.Hand.{Hand, Nothing, Calls}
-use Rattle.enclave_rules.specs.Memory.{MemoryView}
-use Rattle.enclave_rules.specs.View.{View, own_lines, AreAbout}
+use Rattle.attach_map.specs.Attaching.{AttacherState}
+use Rattle.enclave_rules.specs.View.{View, own_lines, IsAbout, AreAbout}
 use Rattle.global_model.specs.Views.{view_of, seen_lines}
 use Rattle.xemem_language.specs.declared.call.Call.TheVariants as calls
 use Rattle.enclave_rules.specs.Steps.{refusal, start_lines}
@@ -27,9 +27,9 @@ use Rattle.node_machine.specs.Machine.{MachineView, has_node, node_at, pair_at, 
 use Rattle.node_machine.specs.Machine.{enclave_numbered}
 use Rattle.node_world.specs.Shown.{IsNodeOf, IsShown}
 use Rattle.node_world.proofs.Lists.{has-set, node_within, set_case}
-use Rattle.node_world.proofs.Carriage.{AreUncounted, counted_lines}
+use Rattle.node_world.proofs.Carriage.{IsUncounted, AreUncounted, counted_lines}
 use Rattle.node_world.proofs.Acted.{IsActed, shown_by, linked_of, within_of, fed_of}
-use Rattle.node_world.proofs.Stills.{IsStep, IsTied, IsNoPool, AreStill, tied_still, at_is}
+use Rattle.node_world.proofs.Stills.{IsStep, IsTied, IsNoPool, AreStill, holder_is, tied_still, at_is}
 
 -- ---- one node writes
 
@@ -41,7 +41,7 @@ module _ (G H : Facts) (c : Command) (m : MachineView) (step : IsStep G H c) (h 
   inside = node_within m.nodes e.0 (h.living e.0 ∙ lives)
 
   -- the nodes once that of the enclave wrote the lines of the command
-  own_nodes : (ls : List Line) → command_lines G c ≡ ls → AreAbout e ls → ((d : ℕ) → lives_at H d ≡ lives_at G d) → (d : ℕ) → lives_at G d ≡ true → IsNodeOf H d (node_at (slice_set m.nodes e.0 (wrote hand (node_at m.nodes e.0) ls)) d)
+  own_nodes : (ls : List Line) → command_lines G c ≡ ls → AreAbout G.holder e ls → ((d : ℕ) → lives_at H d ≡ lives_at G d) → (d : ℕ) → lives_at G d ≡ true → IsNodeOf H d (node_at (slice_set m.nodes e.0 (wrote hand (node_at m.nodes e.0) ls)) d)
   own_nodes ls is about living d there =
       let view : (k : ℕ) → lives_at G k ≡ true → view_of H (enclave_numbered k) ≡ seen_lines (after_line G (lines.Do c)) (view_of G (enclave_numbered k)) ls = λ k lt. step.views k (living k ∙ lt) ∙ ap (seen_lines (after_line G (lines.Do c)) (view_of G (enclave_numbered k))) is in
       let views = step.laws.views in
@@ -59,11 +59,12 @@ module _ (G H : Facts) (c : Command) (m : MachineView) (step : IsStep G H c) (h 
       (λ apart. refl)
 
   -- the machine shows the facts after that, where the processes are counted as by the facts
-  own_acted : (ls : List Line) → command_lines G c ≡ ls → AreAbout e ls → ((d : ℕ) → lives_at H d ≡ lives_at G d) → (count starts : ℕ) (memory : ℕ → MemoryView) (more : Hand) → count ≡ starts
+  own_acted : (ls : List Line) → command_lines G c ≡ ls → AreAbout G.holder e ls → ((d : ℕ) → lives_at H d ≡ lives_at G d) → (count starts : ℕ) (memory : ℕ → AttacherState) (more : Hand) → count ≡ starts
       → IsActed (record G { starts = starts; memory = memory; hand = more }) H (record m { nodes = slice_set m.nodes e.0 (wrote hand (node_at m.nodes e.0) ls); starts = count })
   own_acted ls is about living count starts memory more same = record {
     pool = h.pool;
     server = h.server;
+    holder = h.holder;
     starts = same;
     born = length-set m.nodes e.0 (wrote hand (node_at m.nodes e.0) ls) ∙ h.born;
     pairs = h.pairs;
@@ -128,22 +129,44 @@ tied_proc G H m e uid gid step h = by (lives_at G e.0) (leb 1024 G.starts) refl 
 -- ---- calls
 
 -- the lines of a call are about its enclave, and uncounted
-about_call : (e : Enclave) (ls : List Line) → AreCallLines e ls → AreAbout e ls
-about_call e [] own = tt
-about_call e (lines.Refused cause ∷ ls) own = (tt, about_call e ls own.1)
-about_call e (lines.Alloc of p page frames ∷ ls) own = (own.0, about_call e ls own.1)
-about_call e (_ ∷ ls) own = absurd own.0
+about_line : (holder e : Enclave) (line : Line) → IsCallLine holder e line → IsAbout holder e line
+about_line holder e (lines.Refused cause) own = tt
+about_line holder e (lines.Alloc of p page frames) own = own
+about_line holder e (lines.Issue of p call) own = own
+about_line holder e (lines.Drew of call segid) own = own
+about_line holder e (lines.Named of call segid) own = own
+about_line holder e (lines.Unnamed segid) own = own
+about_line holder e (lines.Remove of segid) own = own
+about_line holder e (lines.AnswerSegid of p call segid) own = own
+about_line holder e (lines.Sent a b r) own = tt
+about_line holder e (lines.Dropped of) own = tt
+about_line holder e _ own = absurd own
 
-uncounted_call : (e : Enclave) (ls : List Line) → AreCallLines e ls → AreUncounted ls
-uncounted_call e [] own = tt
-uncounted_call e (lines.Refused cause ∷ ls) own = (tt, uncounted_call e ls own.1)
-uncounted_call e (lines.Alloc of p page frames ∷ ls) own = (tt, uncounted_call e ls own.1)
-uncounted_call e (_ ∷ ls) own = absurd own.0
+about_call : (holder e : Enclave) (ls : List Line) → AreCallLines holder e ls → AreAbout holder e ls
+about_call holder e [] own = tt
+about_call holder e (line ∷ ls) own = (about_line holder e line own.0, about_call holder e ls own.1)
+
+uncounted_line : (holder e : Enclave) (line : Line) → IsCallLine holder e line → IsUncounted line
+uncounted_line holder e (lines.Do command) own = absurd own
+uncounted_line holder e (lines.Born child kind parent ns blocks) own = absurd own
+uncounted_line holder e (lines.Proc of p uid gid) own = absurd own
+uncounted_line holder e (lines.Took x y count) own = absurd own
+uncounted_line holder e _ own = tt
+
+uncounted_call : (holder e : Enclave) (ls : List Line) → AreCallLines holder e ls → AreUncounted ls
+uncounted_call holder e [] own = tt
+uncounted_call holder e (line ∷ ls) own = (uncounted_line holder e line own.0, uncounted_call holder e ls own.1)
 
 -- the `do` line of a call gives it into the hand
 call_begun : (G : Facts) (c : Command) (k : ProcessCall) → call_of c ≡ Some k → after_line G (lines.Do c) ≡ record G { hand = Calls k }
 call_begun G (commands.Alloc e p page count) k is =
     let same : record { enclave = e; pid = p; call = calls.Alloc page count } ≡ k = cc in
+    ap (λ (k : ProcessCall). record G { hand = Calls k }) same
+call_begun G (commands.Make e p addr size mode) k is =
+    let same : record { enclave = e; pid = p; call = calls.Make addr size mode } ≡ k = cc in
+    ap (λ (k : ProcessCall). record G { hand = Calls k }) same
+call_begun G (commands.Remove e p segid) k is =
+    let same : record { enclave = e; pid = p; call = calls.Remove segid } ≡ k = cc in
     ap (λ (k : ProcessCall). record G { hand = Calls k }) same
 call_begun G _ k is = cc
 
@@ -187,9 +210,9 @@ tied_call G H m c k is step h = by (lives_at G e.0) refl
         let node = h.nodes e.0 here in
         let w : MachineView = record m { nodes = slice_set m.nodes e.0 (wrote (Calls k) (node_at m.nodes e.0) own) } in
         let made_is : after_call m k ≡ w = rw (lives, node.view) refl in
-        let lines_are = step.laws.views.calls (view_of G e) k.pid k.call in
-        let about : AreAbout e own = about_call e own lines_are in
-        let plain : AreUncounted own = uncounted_call e own lines_are in
+        let lines_are = step.laws.views.calls G.holder (view_of G e) k.pid k.call (holder_is G step.before e) in
+        let about : AreAbout G.holder e own = about_call G.holder e own lines_are in
+        let plain : AreUncounted own = uncounted_call G.holder e own lines_are in
         let B : Facts = record G { hand = Calls k } in
         let facts : H ≡ after_lines B own = step.after ∙ ap (λ F. after_lines F (command_lines G c)) (call_begun G c k is) ∙ ap (after_lines B) own_is in
         let living : (d : ℕ) → lives_at H d ≡ lives_at G d = λ d. ap (λ F. lives_at F d) facts ∙ (counted_lines own B plain).living d in

@@ -24,6 +24,7 @@ use Rattle.node_world.specs.Shown.{IsShown}
 use Rattle.node_machine.specs.Ready.{CanTake, IsPairReady, IsReady}
 use Rattle.node_world.proofs.Lists.{node_gone}
 use Rattle.node_world.proofs.Flows.{flowing_of}
+use Rattle.node_world.proofs.Stills.{holder_lives}
 use Rattle.node_world.proofs.Births.{at_nil}
 
 -- the rows of children below a number have none at it
@@ -77,6 +78,9 @@ module _ (G : Facts) (m : MachineView) (flowing : IsFlowing G) (h : IsShown G m)
         root = λ some. h.living 0 ∙ flowing.tree.root (omega (arith, born, some));
         nodes = λ e has. let k = h.nodes e (sym (h.living e) ∙ has) in record { me = ap (λ (v : View). v.me) k.view; going = k.going };
         links = pair_ready;
+        seated = λ served. ap (λ (e : Enclave). has_node m.nodes e.0) h.holder ∙ h.living G.holder.0 ∙ holder_lives G flowing (sym h.server ∙ served);
+        holds = λ served. ap (λ (e : Enclave). (node_at m.nodes e.0).view.core.holder) h.holder
+            ∙ ap (λ (v : View). v.core.holder) (h.nodes G.holder.0 (holder_lives G flowing (sym h.server ∙ served))).view ∙ flowing.server.seated (sym h.server ∙ served);
         recorded = λ some. ap (λ (v : View). length v.host.parents) (h.nodes 0 (flowing.tree.root (omega (arith, born, some)))).view ∙ parents ∙ sym h.born;
         strangers = λ e c far. h.strangers e c (omega (arith, born, far));
         unborn = no_child;

@@ -18,7 +18,7 @@ use Rattle.global_model.specs.Due.{command_lines, step_lines, journal_of}
 use Rattle.global_model.specs.Journals.{Follows}
 use Rattle.global_model.specs.Carriage.{CarriedAt}
 use Rattle.xemem_language.specs.Ranges.{IsWithin, IsInRange}
-use Rattle.enclave_rules.specs.Built.{is_cokernel}
+use Rattle.enclave_rules.specs.Built.{is_built, is_cokernel}
 use Rattle.enclave_rules.specs.Core.{is_guest}
 use Rattle.global_model.specs.Place.{may_stand, IsPlaced, IsPlacedAfter}
 use Rattle.node_machine.specs.Links.{sent_in}
@@ -27,7 +27,7 @@ use Rattle.node_world.specs.Shown.{IsShown}
 use Rattle.node_machine.specs.Ready.{IsReady, IsNoSettle, Stands, CanStep}
 use Rattle.node_world.specs.Laws.{WorldLaws}
 use Rattle.node_world.proofs.Flows.{more-valid}
-use Rattle.node_world.proofs.Stills.{IsTied, placed_before, step_of, tied_touch, tied_show}
+use Rattle.node_world.proofs.Stills.{IsTied, placed_before, step_of, tied_touch, tied_show, tied_show_names}
 use Rattle.node_world.proofs.Owns.{tied_proc, tied_call}
 use Rattle.node_world.proofs.Neighbours.{tied_show_link}
 use Rattle.node_world.proofs.Deliveries.{tied_deliver}
@@ -40,6 +40,7 @@ pub start : IsShown no_facts no_machine
 start = record {
   pool = refl;
   server = refl;
+  holder = refl;
   starts = refl;
   born = refl;
   pairs = refl;
@@ -58,6 +59,9 @@ last_stands before (d ∷ commands) c placed =
     let more = last_stands (before + 1) commands c placed.2 in
     let next : before + length (d ∷ commands) ≡ before + 1 + length commands = omega arith in
     (ap (λ n. may_stand n c) next ∙ more.0, more.1)
+
+built_last : (commands : List Command) (c : Command) → IsPlaced (commands ++ c ∷ []) → is_built c ≡ true
+built_last commands c placed = (and_parts _ _ (last_stands 0 commands c placed).0).1
 
 none_born : (commands : List Command) → length commands ≡ 0 → (facts_after (journal_of commands)).born ≡ 0
 none_born [] none = refl
@@ -103,10 +107,13 @@ stepped_other laws before (commands.Touch e p addr want) no_call no_show m step 
 stepped_other laws before (commands.Deliver x y count) no_call no_show m step placed h = tied_deliver laws.wire laws.views _ _ m x y count (last_stands 0 before (commands.Deliver x y count) placed).1.2.0 (step_of laws before (commands.Deliver x y count) placed) h
 stepped_other laws before (commands.Settle most) no_call no_show m step placed h = absurd step
 stepped_other laws before (commands.ShowLink x y) no_call no_show m step placed h = tied_show_link _ _ m x y (step_of laws before (commands.ShowLink x y) placed) h
+stepped_other laws before commands.ShowNames no_call no_show m step placed h = tied_show_names _ _ m (step_of laws before commands.ShowNames placed) h
 stepped_other laws before (commands.Alloc e p page count) no_call no_show m step placed h = cc
+stepped_other laws before (commands.Make e p addr size mode) no_call no_show m step placed h = cc
+stepped_other laws before (commands.Remove e p segid) no_call no_show m step placed h = cc
 stepped_other laws before (commands.ShowRoutes e) no_call no_show m step placed h = cc
 stepped_other laws before commands.ShowPool no_call no_show m step placed h = cc
-stepped_other laws before c no_call no_show m step placed h = let no : false ≡ true = (and_parts _ _ (last_stands 0 before c placed).0).1 in cc
+stepped_other laws before c no_call no_show m step placed h = let no : false ≡ true = built_last before c placed in cc
 
 -- and for any command
 pub stepped : WorldLaws → (commands : List Command) (c : Command) (m : MachineView) → IsNoSettle c → IsPlaced (commands ++ c ∷ []) → IsShown (facts_after (journal_of commands)) m

@@ -1,5 +1,7 @@
 -- A command by the facts is the one that the machine makes: those that change nothing.
-use Rattle.std.proofs.Common.{◌≡◌, ◌+◌, ◌≤◌, ℕ, zero, suc, List, [], ◌∷◌, ◌++◌, drop, Bool, true, false, cond, None, Some, Result, Ok, Err, refl, sym, ap, ◌∙◌, subst}
+use Rattle.std.proofs.Common.{◌≡◌, ◌+◌, ◌≤◌, ℕ, zero, suc, List, [], ◌∷◌, ◌++◌, drop, Bool, true, false, cond, Option, None, Some, Result, Ok, Err, refl, sym, ap, ◌∙◌, subst}
+use Rattle.std.specs.Prelude.{is_some}
+use Rattle.std.proofs.lemmas.Bool.{ltb-true}
 use Rattle.xm_num.specs.declared.Enclave.{Enclave}
 use Rattle.xm_num.specs.declared.Pid.{Pid}
 use Rattle.xm_num.specs.declared.Vpn.{Vpn}
@@ -10,11 +12,12 @@ use Rattle.xm_num.specs.declared.Cause.TheVariants as causes
 use Rattle.xemem_language.specs.declared.command.Command.{Command}
 use Rattle.xemem_language.specs.declared.command.Command.TheVariants as commands
 use Rattle.xemem_language.specs.declared.call.NodeShow.{NodeShow}
+use Rattle.xemem_language.specs.declared.call.Show.TheVariants as shows
 use Rattle.xemem_language.specs.Calls.{call_of, show_of}
 use Rattle.enclave_rules.specs.Calls.{show_lines, AreShowLines}
 use Rattle.xemem_language.specs.declared.line.Line.{Line}
 use Rattle.xemem_language.specs.declared.line.Line.TheVariants as lines
-use Rattle.global_model.specs.Facts.{Facts, facts_after, after_line, after_lines, lives_at}
+use Rattle.global_model.specs.Facts.{EnclaveFact, Facts, facts_after, after_line, after_lines, fact_of, lives_at}
 use Rattle.global_model.specs.Flow.{IsFlowing}
 use Rattle.enclave_rules.specs.Core.{is_guest}
 use Rattle.enclave_rules.specs.Hand.{Hand}
@@ -23,7 +26,7 @@ use Rattle.global_model.specs.Apt.{IsTaking}
 use Rattle.global_model.specs.Handled.{AreHandled}
 use Rattle.global_model.specs.Views.{view_of, seen_lines}
 use Rattle.enclave_rules.specs.Steps.{refusal, answer_lines, touch_answer, bytes_lines}
-use Rattle.global_model.specs.Known.{IsAnswered, at_living}
+use Rattle.global_model.specs.Known.{IsAnswered, at_living, names_asked}
 use Rattle.global_model.specs.Due.{command_lines, step_lines, journal_of}
 use Rattle.global_model.specs.Place.{IsPlaced, IsPlacedAfter}
 use Rattle.node_machine.specs.declared.pair.Pair.{Pair}
@@ -74,6 +77,20 @@ step_of laws commands c placed =
 abbrev pub IsTied : Facts → Facts → Command → MachineView → Type 0
 IsTied G H c m = (lines_by m c ≡ command_lines G c) × IsShown H (after_command m c)
 
+-- ---- the name server
+
+-- who knows that it holds the name server is the one that does
+pub holder_is : (G : Facts) → IsFlowing G → (e : Enclave) → (view_of G e).core.holder ≡ true → G.holder ≡ e
+holder_is G flowing e holds = ap enclave_numbered (flowing.server.held e.0 holds).1
+
+-- and that one lives
+pub holder_lives : (G : Facts) → IsFlowing G → G.server ≡ true → lives_at G G.holder.0 ≡ true
+holder_lives G flowing served = flowing.tree.all_live G.holder.0 (ltb-true G.holder.0 G.born (sym (flowing.tree.enclaves G.holder.0).known ∙ known (G.enclave G.holder.0) (flowing.server.seated served)))
+  where
+    known : (fact : Option EnclaveFact) → (fact_of fact).ns ≡ true → is_some fact ≡ true
+    known None holds = cc
+    known (Some fact) holds = refl
+
 -- ---- lines that change nothing
 
 abbrev pub IsStill : Line → Type 0
@@ -88,6 +105,7 @@ IsStill (lines.AtRoute e of over) = Unit {0}
 IsStill (lines.BlockFree b) = Unit {0}
 IsStill (lines.BlockLent b e) = Unit {0}
 IsStill (lines.BlockHeld b e) = Unit {0}
+IsStill (lines.Name segid owner) = Unit {0}
 IsStill line = ⊥
 
 abbrev pub AreStill : List Line → Type 0
@@ -107,6 +125,7 @@ still_facts (lines.AtRoute e of over ∷ ls) G still = still_facts ls G still.1
 still_facts (lines.BlockFree b ∷ ls) G still = still_facts ls G still.1
 still_facts (lines.BlockLent b e ∷ ls) G still = still_facts ls G still.1
 still_facts (lines.BlockHeld b e ∷ ls) G still = still_facts ls G still.1
+still_facts (lines.Name segid owner ∷ ls) G still = still_facts ls G still.1
 still_facts (_ ∷ ls) G still = absurd still.0
 
 still_carried : (ls : List Line) (nodes : List NodeView) (pairs : List Pair) → AreStill ls → carried nodes pairs ls ≡ pairs
@@ -124,6 +143,7 @@ pub shown_hand : (G : Facts) (hand : Hand) (m : MachineView) → IsShown G m →
 shown_hand G hand m h = record {
   pool = h.pool;
   server = h.server;
+  holder = h.holder;
   starts = h.starts;
   born = h.born;
   pairs = h.pairs;
@@ -182,11 +202,14 @@ still_shown (lines.AtRoute e of over ∷ ls) shown = (tt, still_shown ls shown.1
 still_shown (lines.BlockFree b ∷ ls) shown = (tt, still_shown ls shown.1)
 still_shown (lines.BlockLent b e ∷ ls) shown = (tt, still_shown ls shown.1)
 still_shown (lines.BlockHeld b e ∷ ls) shown = (tt, still_shown ls shown.1)
+still_shown (lines.Name segid owner ∷ ls) shown = (tt, still_shown ls shown.1)
 still_shown (_ ∷ ls) shown = absurd shown.0
 
 -- a command that shows a node is no call, and changes neither the facts nor the machine
 pub show_no_call : (c : Command) (s : NodeShow) → show_of c ≡ Some s → call_of c ≡ None
 show_no_call (commands.Alloc e p at pages) s is = cc
+show_no_call (commands.Make e p addr size mode) s is = cc
+show_no_call (commands.Remove e p segid) s is = cc
 show_no_call _ s is = refl
 
 show_no_pool : (c : Command) (s : NodeShow) → show_of c ≡ Some s → IsNoPool c
@@ -208,6 +231,24 @@ tied_show G H m c s is step h =
     tied_still G H c m step h (show_no_pool c s is) (show_stays m c s is)
     (shown_lines m c s is ∙ at_is G m h s.enclave (λ v. show_lines v s.show) ∙ sym rule)
     (subst AreStill (sym rule) (cond_case (lives_at G s.enclave.0) _ (refusal causes.NoEnclave) AreStill still (tt, tt)))
+
+-- the names are shown of the node that holds them
+pub tied_show_names : (G H : Facts) (m : MachineView) → IsStep G H commands.ShowNames → IsShown G m → IsTied G H commands.ShowNames m
+tied_show_names G H m step h = tied_still G H commands.ShowNames m step h tt refl (shown G.server refl ∙ sym rule) (subst AreStill (sym rule) still)
+  where
+    rule : command_lines G commands.ShowNames ≡ names_asked G
+    rule = step.answered.names
+
+    still : AreStill (names_asked G)
+    still = cond_case G.server (show_lines (view_of G G.holder) shows.Names) (refusal causes.NotReady) AreStill
+        (still_shown (show_lines (view_of G G.holder) shows.Names) (step.laws.views.shows (view_of G G.holder) shows.Names)) (tt, tt)
+
+    shown : (b : Bool) → G.server ≡ b → lines_by m commands.ShowNames ≡ names_asked G
+    shown true served =
+        let known : m.server ≡ true = h.server ∙ served in
+        let there = holder_lives G step.before served in
+        rw (known, served) (ap (λ (e : Enclave). show_lines (node_at m.nodes e.0).view shows.Names) h.holder ∙ ap (λ v. show_lines v shows.Names) (h.nodes G.holder.0 there).view)
+    shown false served = let known : m.server ≡ false = h.server ∙ served in rw (known, served) refl
 
 pub still_bytes : (x y : Enclave) (most at : ℕ) (bytes : List ℕ) → AreStill (bytes_lines x y most at bytes)
 still_bytes x y zero at bytes = tt

@@ -2,6 +2,7 @@
 use Rattle.std.specs.Prelude.{◌+◌, ℕ, List, [], ◌∷◌, length, Bool, true, false, not, ◌&&◌, ◌==◌, if◌then◌else◌, Option, Some, None}
 use Rattle.std.specs.Option.{option_map_or}
 use Rattle.xm_num.specs.declared.Cause.{Cause}
+use Rattle.xm_num.specs.declared.Enclave.{Enclave}
 use Rattle.xm_num.specs.declared.Cause.TheVariants as causes
 use Rattle.xemem_language.specs.declared.command.Command.{Command}
 use Rattle.xemem_language.specs.declared.call.ProcessCall.{ProcessCall}
@@ -10,6 +11,7 @@ use Rattle.xemem_language.specs.declared.line.Line.{Line}
 use Rattle.xemem_language.specs.declared.line.Line.TheVariants as lines
 use Rattle.xemem_language.specs.Spelling.{line_words}
 use Rattle.enclave_rules.specs.View.{is_writer}
+use Rattle.global_model.specs.Facts.{facts_at}
 use Rattle.global_model.specs.Journals.{command_at}
 
 -- the enclave doesn't live: the world refuses so, and no node does
@@ -32,10 +34,14 @@ is_worlds (lines.Touched of p page frame) = true
 is_worlds (lines.Took x y count) = true
 is_worlds line = false
 
--- the enclave's node appended this line behind a past, the newest line first
+-- the enclave's node appended this line, where that command is at hand, and `holder` is the enclave with the name server
+abbrev pub is_appended : Enclave → Option Command → ℕ → Line → Bool
+is_appended holder hand e (lines.Refused cause) = refuses e hand cause
+is_appended holder hand e line = not (is_worlds line) && is_writer holder e line
+
+-- and behind a past, the newest line first
 abbrev pub is_by : ℕ → List Line → Line → Bool
-is_by e past (lines.Refused cause) = refuses e (command_at past) cause
-is_by e past line = not (is_worlds line) && is_writer e line
+is_by e past line = is_appended (facts_at past).holder (command_at past) e line
 
 -- how many words the lines of a past have that the enclave's node appended
 abbrev pub words_by : ℕ → List Line → ℕ

@@ -18,7 +18,7 @@ use Rattle.xemem_language.specs.declared.command.Command.{Command}
 use Rattle.xemem_language.specs.declared.command.Command.TheVariants as commands
 use Rattle.xemem_language.specs.declared.line.Line.{Line}
 use Rattle.xemem_language.specs.declared.line.Line.TheVariants as lines
-use Rattle.global_model.specs.Facts.{Facts, facts_after, after_line, after_lines, is_living_enclave}
+use Rattle.global_model.specs.Facts.{Facts, facts_after, facts_at, after_line, after_lines, is_living_enclave}
 use Rattle.enclave_rules.specs.Core.{is_guest}
 use Rattle.enclave_rules.specs.View.{View, own_lines, unborn_view, AreOf, AreAbout}
 use Rattle.global_model.specs.Apt.{IsTaking}
@@ -29,7 +29,7 @@ use Rattle.enclave_rules.specs.Steps.{refusal, host_lines, first_blocks, lines_o
 use Rattle.global_model.specs.Known.{IsAnswered}
 use Rattle.global_model.specs.Due.{deliver_lines, next_rest, first_waiting, command_lines, journal_of, step_lines}
 use Rattle.global_model.specs.Flow.{IsFlowing}
-use Rattle.global_model.specs.Journals.{do_commands}
+use Rattle.global_model.specs.Journals.{do_commands, onto}
 use Rattle.global_model.specs.Carriage.{IsCarried}
 use Rattle.global_model.specs.Place.{IsPlaced}
 use Rattle.global_model.specs.Rest.{EndsSettle}
@@ -42,15 +42,16 @@ pub record WireLaws : Type 0 where
   pub first : (r : Record) (more : List ℕ) → is_valid r ≡ true → reading_of (spelling_of r ++ more) ≡ record_onto r (reading_of more)
   pub bad : (rs : List Record) (more : List ℕ) → AreValid rs → first_bad (spellings_of rs ++ more) ≡ option_map (moved (length (spellings_of rs))) (first_bad more)
   pub reading : (rs : List Record) (r : Record) (n : ℕ) → AreValid rs → is_valid r ≡ true → n < length (spelling_of r) → reading_of (spellings_of rs ++ take n (spelling_of r)) ≡ records_onto rs (nothing_read (take n (spelling_of r)))
+  pub least : (r : Record) → 16 ≤ length (spelling_of r)
   pub fine : (rs : List Record) (r : Record) (n : ℕ) → AreValid rs → is_valid r ≡ true → n < length (spelling_of r) → first_bad (spellings_of rs ++ take n (spelling_of r)) ≡ None
 
 -- what an enclave writes and keeps follows from its view
 pub record ViewLaws : Type 0 where
-  pub calls : (v : View) (p : Pid) (call : Call) → AreCallLines v.me (call_lines v p call)
+  pub calls : (holder : Enclave) (v : View) (p : Pid) (call : Call) → (v.core.holder ≡ true → holder ≡ v.me) → AreCallLines holder v.me (call_lines v p call)
   pub shows : (v : View) (show : Show) → AreShowLines (show_lines v show)
-  pub of : (v : View) (x : Enclave) (rs : List Record) → AreOf v.me (lines_of_records v x rs)
-  pub own : (G : Facts) (v : View) (lines : List Line) → is_guest v.core.kind ≡ false → AreAbout v.me lines → seen_lines G v lines ≡ own_lines G.hand v lines
-  pub others : (G : Facts) (y : Enclave) (w : View) (lines : List Line) → AreAbout y lines → w.me.0 ≢ y.0 → seen_lines G w lines ≡ w
+  pub of : (holder : Enclave) (v : View) (x : Enclave) (rs : List Record) → (v.core.holder ≡ true → holder ≡ v.me) → AreOf holder v.me (lines_of_records v x rs)
+  pub own : (G : Facts) (v : View) (lines : List Line) → is_guest v.core.kind ≡ false → AreAbout G.holder v.me lines → seen_lines G v lines ≡ own_lines G.hand v lines
+  pub others : (G : Facts) (y : Enclave) (w : View) (lines : List Line) → AreAbout G.holder y lines → w.me.0 ≢ y.0 → seen_lines G w lines ≡ w
   pub answered : (commands : List Command) → IsPlaced commands → IsAnswered (facts_after (journal_of commands))
   pub host : (pool blocks : ℕ) (ns : Bool) → command_lines (facts_after (journal_of (commands.Pool pool ∷ []))) (commands.Host blocks ns) ≡ (if nat_lt pool blocks then refusal causes.NoBlocks else host_lines (first_blocks blocks) ns)
   pub unborn : (commands : List Command) → IsPlaced commands → (e : Enclave) → (facts_after (journal_of commands)).born ≤ e.0 → view_of (facts_after (journal_of commands)) e ≡ unborn_view (facts_after (journal_of commands)).pool e
@@ -92,6 +93,7 @@ pub record WorldLaws : Type 0 where
   pub flowing : (commands : List Command) → IsPlaced commands → IsFlowing (facts_after (journal_of commands))
   pub journal : (commands : List Command) (command : Command) → journal_of (commands ++ command ∷ []) ≡ journal_of commands ++ step_lines (facts_after (journal_of commands)) command
   pub facts : (journal lines : List Line) → facts_after (journal ++ lines) ≡ after_lines (facts_after journal) lines
+  pub past : (journal past : List Line) → facts_at (onto journal past) ≡ after_lines (facts_at past) journal
   pub put : (table : List (ℕ × Decoding)) (k q : ℕ) (v : Decoding) → at (put table k v) q ≡ (if k == q then Some v else at table q)
   pub wire : WireLaws
   pub links : LinkLaws

@@ -35,6 +35,7 @@ pub record IsPairOf (G : Facts) (m : MachineView) (c : ℕ) (pair : Pair) : Type
 pub record IsShown (G : Facts) (m : MachineView) : Type 0 where
   pub pool : m.pool ≡ G.pool
   pub server : m.server ≡ G.server
+  pub holder : m.holder ≡ G.holder
   pub starts : m.starts ≡ G.starts
   pub born : length m.nodes ≡ G.born
   pub pairs : length m.pairs ≡ G.born - 1

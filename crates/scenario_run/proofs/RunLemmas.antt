@@ -282,6 +282,6 @@ no_run bytes = record {
   text = refl;
   read = refl;
   commands = record { rest = (scenario_of bytes).commands; is = refl };
-  history = record { legal = tt; carried = tt; told = tt; rested = tt; found = none_found };
+  history = record { legal = tt; carried = tt; told = tt; rested = tt; found = none_found; calls = tt };
   whole = refl;
 }

@@ -13,8 +13,10 @@ pub fn is_built(command: &Command) -> bool
         Command::Boot { kind, .. } => *kind == Kind::Cokernel,
         Command::Pool { .. } | Command::Host { .. } | Command::Proc { .. } => true,
         Command::Alloc { .. } | Command::Touch { .. } => true,
+        Command::Make { .. } | Command::Remove { .. } => true,
         Command::Deliver { .. } | Command::Settle { .. } => true,
-        Command::ShowRoutes { .. } | Command::ShowLink { .. } | Command::ShowPool => true,
+        Command::ShowRoutes { .. } | Command::ShowLink { .. } => true,
+        Command::ShowPool | Command::ShowNames => true,
         _ => false,
     }
 }

@@ -49,13 +49,3 @@ read_all split back journal typed spelled = ap (map text_line) (split journal) �
     each : (js : List Line) → All IsTyped js → All IsSpelled js → map text_line (map (λ line. join_with_byte 32 (line_words line)) js) ≡ map (λ line. Some line) js
     each [] t s = refl
     each (line ∷ js) t s = rw (back line (All-head IsTyped line js t) (All-head IsSpelled line js s), each js (All-tail IsTyped line js t) (All-tail IsSpelled line js s)) refl
-
-pub some_apart : (a b : List Line) → map (λ line. Some line) a ≡ map (λ line. Some line) b → a ≡ b
-some_apart [] [] h = refl
-some_apart [] (y ∷ b) h = cc
-some_apart (x ∷ a) [] h = cc
-some_apart (x ∷ a) (y ∷ b) h =
-    let first : Some x ≡ Some y = cc in
-    let same : x ≡ y = cc in
-    let rest : map (λ line. Some line) a ≡ map (λ line. Some line) b = cc in
-    rw (same, some_apart a b rest) refl

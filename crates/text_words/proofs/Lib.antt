@@ -1,3 +1,3 @@
 pub mod WordLemmas
 pub mod ReadLemmas
-pub mod JoinedLemmas
+pub mod WordShapes

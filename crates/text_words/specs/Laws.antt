@@ -1,8 +1,7 @@
 -- Laws of words and numbers, in the shape in which proofs hand them on.
 use Rattle.std.specs.Prelude.{◌≡◌, ◌<◌, ◌≤◌, ◌^◌, ℕ, List, true, ◌&&◌, Some, decimal}
-use Rattle.std.specs.List.{join_with_byte}
-use Rattle.text_words.specs.Words.{number_in, words_of, is_filled}
-use Rattle.text_words.specs.Solid.{IsWord, AreWords, is_printed}
+use Rattle.text_words.specs.Words.{number_in, is_filled}
+use Rattle.text_words.specs.Solid.{IsWord, is_printed}
 
 -- the word is the number's, which is in the range
 pub record Spells (low high : ℕ) (word : List ℕ) (n : ℕ) : Type 0 where
@@ -15,8 +14,7 @@ pub record NumberLaws : Type 0 where
   pub back : (low high n : ℕ) → low ≤ n → n ≤ high → n < 2 ^ 64 → number_in low high (decimal n) ≡ Some n
   pub spelled : (low high : ℕ) (word : List ℕ) (n : ℕ) → high < 2 ^ 64 → number_in low high word ≡ Some n → Spells low high word n
 
--- words that are joined are split again, and numbers and names are words
+-- numbers and names are words
 pub record WordLaws : Type 0 where
-  pub split : (words : List (List ℕ)) → AreWords words → words_of (join_with_byte 32 words) ≡ words
   pub number : (n : ℕ) → IsWord (decimal n)
   pub name : (text : List ℕ) → (is_filled text && is_printed text) ≡ true → IsWord text

@@ -6,7 +6,7 @@ pub fn numbers_are_read_back()
     ensures { NumberLaws }
 {}
 
-/// Words that are joined by a space are split again. Numbers are words, and so are names.
-pub fn words_are_split_again()
+/// Numbers are words, and so are names.
+pub fn spellings_are_words()
     ensures { WordLaws }
 {}

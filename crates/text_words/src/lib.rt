@@ -5,6 +5,6 @@ mod laws;
 mod number;
 mod split;
 
-pub use laws::{numbers_are_read_back, words_are_split_again};
+pub use laws::{numbers_are_read_back, spellings_are_words};
 pub use number::number_of;
 pub use split::{first_line, words};

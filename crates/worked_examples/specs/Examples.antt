@@ -200,6 +200,81 @@ refused_calls_journal =
     ∷ codes "do touch 0 2 81920 w" ∷ codes "refused NotMapped" ∷ codes "do touch 0 1 81920 w"
     ∷ codes "touched 0 1 20 0" ∷ []
 
+-- a child makes a segment, whose name is shown, and removes it
+abbrev pub segments_end : List (List ℕ)
+segments_end =
+    codes "pool 4" ∷ codes "host 1 ns" ∷ codes "boot cokernel under 0 blocks 1" ∷ codes "settle 100" ∷ codes "proc 1 5 5"
+    ∷ codes "alloc 1 1 16 1" ∷ codes "make 1 1 65536 4096 0600" ∷ codes "settle 10" ∷ codes "show names" ∷ codes "remove 1 1 1"
+    ∷ codes "settle 10" ∷ []
+
+abbrev pub segments_end_journal : List (List ℕ)
+segments_end_journal =
+    codes "do pool 4" ∷ codes "do host 1 ns" ∷ codes "born 0 host 0 ns 0" ∷ codes "admitted 0"
+    ∷ codes "do boot cokernel under 0 blocks 1" ∷ codes "born 1 cokernel 0 - 1" ∷ codes "sent 1 0 query 1 65535 0"
+    ∷ codes "do settle 100" ∷ codes "took 1 0 16" ∷ codes "got 1 0" ∷ codes "sent 0 1 here 0 65535 0" ∷ codes "took 0 1 16"
+    ∷ codes "got 0 1" ∷ codes "way 1 0" ∷ codes "sent 1 0 register 1 65535 0" ∷ codes "took 1 0 16" ∷ codes "got 1 0"
+    ∷ codes "back 0 1 1" ∷ codes "route 0 1 1" ∷ codes "sent 0 1 admit 0 1 0" ∷ codes "took 0 1 16" ∷ codes "got 0 1"
+    ∷ codes "admitted 1" ∷ codes "settled 4" ∷ codes "do proc 1 5 5" ∷ codes "proc 1 1 5 5" ∷ codes "do alloc 1 1 16 1"
+    ∷ codes "alloc 1 1 16 64" ∷ codes "do make 1 1 65536 4096 0600" ∷ codes "issue 1 1 1" ∷ codes "sent 1 0 namereq 1 65535 1"
+    ∷ codes "do settle 10" ∷ codes "took 1 0 16" ∷ codes "got 1 0" ∷ codes "drew 1 1 1" ∷ codes "sent 0 1 named 0 1 1 1"
+    ∷ codes "took 0 1 24" ∷ codes "got 0 1" ∷ codes "named 1 1 1" ∷ codes "answer 1 1 1 segid 1" ∷ codes "settled 2"
+    ∷ codes "do show names" ∷ codes "name 1 1" ∷ codes "do remove 1 1 1" ∷ codes "remove 1 1" ∷ codes "sent 1 0 unname 1 65535 1 1"
+    ∷ codes "do settle 10" ∷ codes "took 1 0 24" ∷ codes "got 1 0" ∷ codes "unnamed 1" ∷ codes "settled 1" ∷ []
+
+-- processes of two enclaves; the one in that of the name server makes a segment, and is answered at once
+abbrev pub script_front : List (List ℕ)
+script_front =
+    codes "pool 4" ∷ codes "host 1 ns" ∷ codes "boot cokernel under 0 blocks 1" ∷ codes "settle 100" ∷ codes "proc 0 10 20"
+    ∷ codes "proc 1 11 20" ∷ codes "alloc 0 1 16 3" ∷ codes "make 0 1 65536 12288 0640" ∷ []
+
+abbrev pub script_front_journal : List (List ℕ)
+script_front_journal =
+    codes "do pool 4" ∷ codes "do host 1 ns" ∷ codes "born 0 host 0 ns 0" ∷ codes "admitted 0"
+    ∷ codes "do boot cokernel under 0 blocks 1" ∷ codes "born 1 cokernel 0 - 1" ∷ codes "sent 1 0 query 1 65535 0"
+    ∷ codes "do settle 100" ∷ codes "took 1 0 16" ∷ codes "got 1 0" ∷ codes "sent 0 1 here 0 65535 0" ∷ codes "took 0 1 16"
+    ∷ codes "got 0 1" ∷ codes "way 1 0" ∷ codes "sent 1 0 register 1 65535 0" ∷ codes "took 1 0 16" ∷ codes "got 1 0"
+    ∷ codes "back 0 1 1" ∷ codes "route 0 1 1" ∷ codes "sent 0 1 admit 0 1 0" ∷ codes "took 0 1 16" ∷ codes "got 0 1"
+    ∷ codes "admitted 1" ∷ codes "settled 4" ∷ codes "do proc 0 10 20" ∷ codes "proc 0 1 10 20" ∷ codes "do proc 1 11 20"
+    ∷ codes "proc 1 1 11 20" ∷ codes "do alloc 0 1 16 3" ∷ codes "alloc 0 1 16 0 1 2" ∷ codes "do make 0 1 65536 12288 0640"
+    ∷ codes "issue 0 1 1" ∷ codes "drew 0 1 1" ∷ codes "named 0 1 1" ∷ codes "answer 0 1 1 segid 1" ∷ []
+
+-- conditions of makes and removes, alone and several at once, while the enclave isn't ready, while a make waits, and afterwards
+abbrev pub refused_segments : List (List ℕ)
+refused_segments =
+    codes "pool 2" ∷ codes "host 1" ∷ codes "show names" ∷ codes "make 0 1 65536 4096 0600" ∷ codes "proc 0 1 1"
+    ∷ codes "alloc 0 1 16 2" ∷ codes "make 0 1 65537 4096 0600" ∷ codes "remove 0 1 1" ∷ codes "make 1 1 65536 4096 0600"
+    ∷ codes "remove 1 1 1" ∷ codes "boot cokernel under 0 blocks 1 ns" ∷ codes "show names" ∷ codes "settle 100"
+    ∷ codes "make 0 2 65537 4096 0600" ∷ codes "remove 0 2 1" ∷ codes "make 0 1 65537 0 0600" ∷ codes "make 0 1 65536 0 0600"
+    ∷ codes "make 0 1 0 16781312 0600" ∷ codes "make 0 1 0 12288 0600" ∷ codes "make 0 1 68719472640 8192 0600"
+    ∷ codes "make 0 1 65536 12288 0600" ∷ codes "remove 0 1 1" ∷ codes "make 0 1 65536 8192 0600" ∷ codes "make 0 1 65537 4096 0600"
+    ∷ codes "alloc 0 1 16777215 2" ∷ codes "alloc 0 1 18 1" ∷ codes "remove 0 1 1" ∷ codes "settle 100" ∷ codes "proc 0 1 1"
+    ∷ codes "remove 0 2 1" ∷ codes "remove 0 2 2" ∷ codes "remove 0 1 1" ∷ codes "remove 0 1 1" ∷ []
+
+abbrev pub refused_segments_journal : List (List ℕ)
+refused_segments_journal =
+    codes "do pool 2" ∷ codes "do host 1" ∷ codes "born 0 host 0 - 0" ∷ codes "do show names" ∷ codes "refused NotReady"
+    ∷ codes "do make 0 1 65536 4096 0600" ∷ codes "refused NoProcess" ∷ codes "do proc 0 1 1" ∷ codes "proc 0 1 1 1"
+    ∷ codes "do alloc 0 1 16 2" ∷ codes "alloc 0 1 16 0 1" ∷ codes "do make 0 1 65537 4096 0600" ∷ codes "refused NotReady"
+    ∷ codes "do remove 0 1 1" ∷ codes "refused NotReady" ∷ codes "do make 1 1 65536 4096 0600" ∷ codes "refused NoEnclave"
+    ∷ codes "do remove 1 1 1" ∷ codes "refused NoEnclave" ∷ codes "do boot cokernel under 0 blocks 1 ns"
+    ∷ codes "born 1 cokernel 0 ns 1" ∷ codes "admitted 1" ∷ codes "sent 0 1 query 0 65535 0" ∷ codes "do show names"
+    ∷ codes "do settle 100" ∷ codes "took 0 1 16" ∷ codes "got 0 1" ∷ codes "sent 1 0 here 1 65535 0" ∷ codes "took 1 0 16"
+    ∷ codes "got 1 0" ∷ codes "way 0 1" ∷ codes "sent 0 1 register 0 65535 0" ∷ codes "took 0 1 16" ∷ codes "got 0 1"
+    ∷ codes "back 1 0 0" ∷ codes "route 1 0 0" ∷ codes "sent 1 0 admit 1 0 0" ∷ codes "took 1 0 16" ∷ codes "got 1 0"
+    ∷ codes "admitted 0" ∷ codes "settled 4" ∷ codes "do make 0 2 65537 4096 0600" ∷ codes "refused NoProcess"
+    ∷ codes "do remove 0 2 1" ∷ codes "refused NoProcess" ∷ codes "do make 0 1 65537 0 0600" ∷ codes "refused BadAlign"
+    ∷ codes "do make 0 1 65536 0 0600" ∷ codes "refused BadRange" ∷ codes "do make 0 1 0 16781312 0600" ∷ codes "refused TooLarge"
+    ∷ codes "do make 0 1 0 12288 0600" ∷ codes "refused BadRange" ∷ codes "do make 0 1 68719472640 8192 0600"
+    ∷ codes "refused BadRange" ∷ codes "do make 0 1 65536 12288 0600" ∷ codes "refused NotMapped" ∷ codes "do remove 0 1 1"
+    ∷ codes "refused NoSegment" ∷ codes "do make 0 1 65536 8192 0600" ∷ codes "issue 0 1 1" ∷ codes "sent 0 1 namereq 0 65535 1"
+    ∷ codes "do make 0 1 65537 4096 0600" ∷ codes "refused Busy" ∷ codes "do alloc 0 1 16777215 2" ∷ codes "refused Busy"
+    ∷ codes "do alloc 0 1 18 1" ∷ codes "refused Busy" ∷ codes "do remove 0 1 1" ∷ codes "refused Busy" ∷ codes "do settle 100"
+    ∷ codes "took 0 1 16" ∷ codes "got 0 1" ∷ codes "drew 0 1 1" ∷ codes "sent 1 0 named 1 0 1 1" ∷ codes "took 1 0 24"
+    ∷ codes "got 1 0" ∷ codes "named 0 1 1" ∷ codes "answer 0 1 1 segid 1" ∷ codes "settled 2" ∷ codes "do proc 0 1 1"
+    ∷ codes "proc 0 2 1 1" ∷ codes "do remove 0 2 1" ∷ codes "refused NotOwner" ∷ codes "do remove 0 2 2"
+    ∷ codes "refused NoSegment" ∷ codes "do remove 0 1 1" ∷ codes "remove 0 1" ∷ codes "sent 0 1 unname 0 65535 1 1"
+    ∷ codes "do remove 0 1 1" ∷ codes "refused NoSegment" ∷ []
+
 -- the facts after the journal of so many boots under the host, which holds the name server, and so many processes of it
 abbrev pub crowd : ℕ → ℕ → Facts
 crowd boots starts =

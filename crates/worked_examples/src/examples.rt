@@ -2,10 +2,13 @@
 ghost use Rattle.std.specs.Prelude.{◌≡◌, ◌++◌, ◌∷◌, [], None, Some, false, true, codes};
 ghost use Rattle.xm_num.specs.declared.Cause.TheVariants as causes;
 ghost use Rattle.enclave_rules.specs.Core.{host};
+ghost use Rattle.xemem_language.specs.declared.line.Line.TheVariants as lines;
+ghost use Rattle.enclave_rules.specs.Names.{segid_of};
+ghost use Rattle.enclave_rules.specs.Segments.{name_request, named_record, unname_record};
 ghost use Rattle.enclave_rules.specs.Steps.{record_lines, here_of, register_of, admit_of};
 ghost use Rattle.global_model.specs.Refusals.{refusal_of};
-ghost use Rattle.worked_examples.specs.Examples.{Gives, at_line, text, smallest, smallest_journal, refused, refused_journal, one_byte_short, one_byte_short_journal, discovered, discovered_journal, child_memory, child_memory_journal, no_host_born, no_host_born_journal, settled, settled_journal, late_name_server, late_name_server_journal, server_first, server_first_journal, blocks_first, blocks_first_journal, refused_calls, refused_calls_journal, crowd, boot_under, start_at, two_lines, two_lines_journal};
-ghost use Rattle.worked_examples.specs.Records.{learned, numbered, dropped, noted};
+ghost use Rattle.worked_examples.specs.Examples.{Gives, at_line, text, smallest, smallest_journal, refused, refused_journal, one_byte_short, one_byte_short_journal, discovered, discovered_journal, child_memory, child_memory_journal, no_host_born, no_host_born_journal, settled, settled_journal, late_name_server, late_name_server_journal, server_first, server_first_journal, blocks_first, blocks_first_journal, refused_calls, refused_calls_journal, segments_end, segments_end_journal, script_front, script_front_journal, refused_segments, refused_segments_journal, crowd, boot_under, start_at, two_lines, two_lines_journal};
+ghost use Rattle.worked_examples.specs.Records.{learned, numbered, dropped, noted, asking, answered, naming, dropped_there};
 ghost use Rattle.scenario_text.specs.Scenario.{Faulty, Unbuilt};
 ghost use Rattle.scenario_text.specs.declared.SyntaxFault.TheVariants as faults;
 
@@ -22,6 +25,9 @@ pub fn worked_examples()
     ensures server_first { Gives (text server_first) None (text server_first_journal) }
     ensures blocks_first { Gives (text blocks_first) None (text blocks_first_journal) }
     ensures refused_calls { Gives (text refused_calls) None (text refused_calls_journal) }
+    ensures segments_end { Gives (text segments_end) None (text segments_end_journal) }
+    ensures script_front { Gives (text script_front) None (text script_front_journal) }
+    ensures refused_segments { Gives (text refused_segments) None (text refused_segments_journal) }
     ensures comment { Gives (codes "# nothing") None [] }
     ensures no_number { Gives (text (two_lines ++ codes "proc 0 x 1" ∷ [])) (at_line 3 (Faulty (faults.Number 2))) (text two_lines_journal) }
     ensures no_keyword { Gives (text (two_lines ++ codes "boot vm over 0 blocks 1" ∷ [])) (at_line 3 (Faulty (faults.Keyword 2))) (text two_lines_journal) }
@@ -31,7 +37,7 @@ pub fn worked_examples()
     ensures no_count { Gives (text (two_lines ++ codes "stop" ∷ [])) (at_line 3 (Faulty faults.Count)) (text two_lines_journal) }
     ensures no_place { Gives (codes "host 1") (at_line 1 (Faulty faults.Place)) [] }
     ensures out_of_range { Gives (codes "pool 5000") (at_line 1 (Faulty (faults.Number 1))) [] }
-    ensures unbuilt { Gives (text (two_lines ++ codes "make 0 1 0 4096 0640" ∷ [])) (at_line 3 Unbuilt) (text two_lines_journal) }
+    ensures unbuilt { Gives (text (two_lines ++ codes "get 0 1 1 ro" ∷ [])) (at_line 3 Unbuilt) (text two_lines_journal) }
 {}
 
 /// An enclave behind 256, and a process behind 1,024, are refused as too many, whatever other condition holds but that the
@@ -57,4 +63,20 @@ pub fn needless_records_are_dropped()
     ensures admit_without_a_way_back { record_lines learned host (admit_of host (numbered 5)) ≡ dropped }
     ensures register_from_the_way { record_lines learned host (register_of (numbered 5)) ≡ noted 5 host }
     ensures own_register { record_lines learned (numbered 2) (register_of (numbered 1)) ≡ dropped }
+{}
+
+/// A name counts for a make that waits, under a segid that isn't live in its enclave. Of records that no worked scenario brings are dropped: a
+/// name for a make that was answered, for one that was never issued, and under a segid that is live; what would go back to the way
+/// that it came over; and the end of a name that stands for another enclave, or that doesn't stand.
+pub fn needless_names_are_dropped()
+    ensures first_name { record_lines asking host (named_record host (numbered 1) 2 (segid_of 2)) ≡ answered 2 }
+    ensures later_name { record_lines asking host (named_record host (numbered 1) 1 (segid_of 2)) ≡ dropped }
+    ensures name_of_no_call { record_lines asking host (named_record host (numbered 1) 3 (segid_of 2)) ≡ dropped }
+    ensures name_that_is_live { record_lines asking host (named_record host (numbered 1) 2 (segid_of 1)) ≡ dropped }
+    ensures request_from_the_way { record_lines learned host (name_request (numbered 5) 1) ≡ dropped }
+    ensures end_from_the_way { record_lines learned host (unname_record (numbered 5) 1 (segid_of 1)) ≡ dropped }
+    ensures name_without_a_route { record_lines learned host (named_record host (numbered 5) 1 (segid_of 1)) ≡ dropped }
+    ensures own_end { record_lines naming (numbered 1) (unname_record (numbered 1) 1 (segid_of 1)) ≡ lines.Unnamed (segid_of 1) ∷ [] }
+    ensures end_of_anothers { record_lines naming (numbered 2) (unname_record (numbered 2) 1 (segid_of 1)) ≡ dropped_there }
+    ensures end_of_none { record_lines naming (numbered 1) (unname_record (numbered 1) 1 (segid_of 2)) ≡ dropped_there }
 {}

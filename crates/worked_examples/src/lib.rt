@@ -3,4 +3,6 @@
 
 mod examples;
 
-pub use examples::{crowds_are_refused, needless_records_are_dropped, worked_examples};
+pub use examples::{
+    crowds_are_refused, needless_names_are_dropped, needless_records_are_dropped, worked_examples,
+};

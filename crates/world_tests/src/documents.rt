@@ -93,6 +93,8 @@ block 1 held 1
 name 1 1
 bytes 1 0 0 1000000001010100ffff000000000000
 sent 1 0 register 1 65535 0
+sent 1 0 namereq 1 65535 1
+sent 0 1 named 0 1 1 1
 sent 1 0 lookup 1 65535 1 1
 sent 0 1 found 0 1 1 1 65535
 sent 1 0 get 1 0 1 1 1 11 20
@@ -101,6 +103,7 @@ sent 0 1 attachrefused 0 1 4 5
 sent 1 0 release 1 0 1 1
 sent 1 0 attach 1 0 2 1 1 2
 sent 0 1 attached 0 1 2 2 1 2
+sent 1 0 detach 1 0 2
 sent 2 0 confirm 2 65535 0 1
 ";
 

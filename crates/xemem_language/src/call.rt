@@ -4,13 +4,17 @@ ghost use Rattle.xemem_language.specs.Ranges.{IsInRange};
 ghost use Rattle.xemem_language.specs.Calls as spec;
 
 use crate::Command;
-use xm_num::{Enclave, Pid, Vpn};
+use xm_num::{Enclave, Pid, Segid, Vpn};
 
 /// A call of a process.
 #[derive(Clone, Copy, Debug, PartialEq, Eq)]
 pub enum Call {
     /// Maps own pages to the lowest unused frames: `n` of them, 1 to 4,096, from page `at` on.
     Alloc { at: Vpn, n: u32 },
+    /// Exports the own pages from the address on, of so many bytes, to those that the mode allows.
+    Make { addr: u64, size: u64, mode: u16 },
+    /// Ends an export of the process.
+    Remove { segid: Segid },
 }
 
 /// A call, and the process of an enclave that makes it.
@@ -28,6 +32,8 @@ pub enum Show {
     Routes,
     /// The state of each block, at the host.
     Pool,
+    /// The segments and their owners, at the name server's enclave.
+    Names,
 }
 
 /// What is to be shown, and the enclave of which.
@@ -52,6 +58,26 @@ pub fn call_of(command: &Command) -> Option<ProcessCall>
             enclave,
             pid,
             call: Call::Alloc { at, n: pages },
+        }),
+        Command::Make {
+            enclave,
+            pid,
+            addr,
+            size,
+            mode,
+        } => Some(ProcessCall {
+            enclave,
+            pid,
+            call: Call::Make { addr, size, mode },
+        }),
+        Command::Remove {
+            enclave,
+            pid,
+            segid,
+        } => Some(ProcessCall {
+            enclave,
+            pid,
+            call: Call::Remove { segid },
         }),
         _ => None,
     }

@@ -8,11 +8,14 @@ use Rattle.std.proofs.lemmas.List.{append-nil, drop-append-le, drop-take, take_a
 use Rattle.xemem_wire.specs.declared.format.BadField.{BadField}
 use Rattle.xemem_wire.specs.Table.{u32_at}
 use Rattle.xemem_wire.specs.Spelling.{spelling_of, spellings_of}
-use Rattle.xemem_wire.specs.Faults.{first_failed, fault_of}
+use Rattle.xemem_wire.specs.Faults.{kind_at, fault_of}
+use Rattle.xemem_wire.specs.Fields.{length_of_kind}
 use Rattle.xemem_wire.specs.Stream.{record_at, front_record, Reading, record_onto, records_onto, nothing_read, reading_of, records_of, rest_of, moved, first_bad}
 use Rattle.xemem_wire.specs.Decoding.{Decoding, nothing_taken, after_piece}
 use Rattle.xemem_wire.specs.Kept.{decoded, KeepsBytes, Takes}
-use Rattle.xemem_wire.proofs.SpellingLemmas.{IsBytes, u32_at-spelling_of, told_length}
+use Rattle.xemem_wire.proofs.FieldLemmas.{IsBytes}
+use Rattle.xemem_wire.proofs.FaultLemmas.{fault_of-empty}
+use Rattle.xemem_wire.proofs.SpellingLemmas.{u32_at-spelling_of, fault_of-spelling_of, told_kind, told_length}
 use Rattle.xemem_wire.proofs.StreamLemmas.{option_cases, Begins, front_record_begins, front_record_short, reading_of-none, reading_of-some, reading_of-spellings, reading_of-append, Splits, splits, length-rest_of, front_record-is, whole_found}
 use Rattle.xemem_wire.proofs.DecodingLemmas.{decoding_equal, taken-fine, taken-bad, stopped_at, after_piece-going}
 
@@ -20,12 +23,11 @@ pub reading_of-empty : reading_of [] ≡ nothing_read []
 reading_of-empty = reading_of-none [] (front_record_short [] (omega arith))
 
 kept_empty : KeepsBytes [] 0 0 None
-unfolding fault_of first_failed
 kept_empty = record {
   order = omega arith;
   within = omega arith;
   rest = ap (λ reading. reading.rest) reading_of-empty;
-  fine = refl;
+  fine = fault_of-empty;
   stopped = λ h. refl;
 }
 
@@ -59,6 +61,7 @@ kept_fine bytes given whole bad k = rw take_rest k.fine
 -- the next record, and its length
 pub record GivesNext (bytes : List ℕ) (given whole n : ℕ) (bad : Option BadField) : Type 0 where
   pub long : given + 16 ≤ length bytes
+  pub whole_long : length_of_kind (kind_at (drop given bytes)) ≤ length (drop given bytes)
   pub kept : KeepsBytes bytes (given + n) whole bad
   pub records : records_of (drop given bytes) ≡ record_at (drop given bytes) ∷ records_of (drop (given + n) bytes)
   pub rest : rest_of (drop given bytes) ≡ rest_of (drop (given + n) bytes)
@@ -73,6 +76,8 @@ gives_next bytes given whole n bad k lt told =
     (λ r found.
     let b : Begins front r = front_record_begins front r found in
     let is_it : record_at front ≡ r = front_record-is front r found in
+    let fine : fault_of front ≡ None
+    = ap fault_of b.spelled ∙ fault_of-spelling_of r (drop (length (spelling_of r)) front) b.valid in
     let length_is : length (spelling_of r) ≡ n
     = sym (told ∙ ap (λ xs. u32_at xs 0) b.spelled ∙ u32_at-spelling_of r (drop (length (spelling_of r)) front)) in
     let read : reading_of front ≡ record_onto r (reading_of (drop (given + n) bytes))
@@ -85,6 +90,7 @@ gives_next bytes given whole n bad k lt told =
     = omega (arith, length_is, b.fits, shorter, ap length (sym rest ∙ k.rest), length-drop given bytes, length-drop whole bytes, length-drop (given + n) bytes, k.within) in
     record {
       long = omega (arith, b.long, length-drop given bytes);
+      whole_long = omega (arith, told_kind front (omega (arith, b.long)) fine, told, length_is, b.fits);
       kept = record { order = within; within = k.within; rest = sym rest ∙ k.rest; fine = k.fine; stopped = k.stopped };
       records = ap (λ reading. reading.records) read ∙ ap (λ x. x ∷ records_of (drop (given + n) bytes)) (sym is_it);
       rest = rest;
@@ -169,7 +175,6 @@ fed_records bytes piece given whole start k f =
     ∙ ap (λ xs. let reading : Reading = record { records = xs; rest = [] } in reading) (append-nil (records_of u))
 
 pub stopped_kept : (bytes piece : List ℕ) (given whole start : ℕ) (bad : Option BadField) → KeepsBytes bytes given whole None → IsFed bytes piece given whole start → KeepsBytes (take start (bytes ++ piece)) given start bad
-unfolding fault_of first_failed
 stopped_kept bytes piece given whole start bad k f =
     let long : length (take start (bytes ++ piece)) ≡ start = length-take-le start (bytes ++ piece) f.within in
     let none : drop start (take start (bytes ++ piece)) ≡ [] = drop_all start (take start (bytes ++ piece)) (omega (arith, long)) in
@@ -177,7 +182,7 @@ stopped_kept bytes piece given whole start bad k f =
       order = omega (arith, k.order, f.order);
       within = omega (arith, long);
       rest = ap (λ reading. reading.rest) (fed_records bytes piece given whole start k f) ∙ sym none;
-      fine = ap fault_of none;
+      fine = ap fault_of none ∙ fault_of-empty;
       stopped = λ h. sym long;
     }
 

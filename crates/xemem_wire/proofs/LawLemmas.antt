@@ -8,7 +8,8 @@ use Rattle.std.proofs.lemmas.List.{append-nil, drop_at}
 use Rattle.xemem_language.specs.declared.record.Record.{Record}
 use Rattle.xemem_wire.specs.declared.format.BadField.{BadField}
 use Rattle.xemem_wire.specs.Spelling.{spelling_of, spellings_of, is_valid, AreValid}
-use Rattle.xemem_wire.specs.Faults.{first_failed, fault_of}
+use Rattle.xemem_wire.specs.Faults.{fault_of}
+use Rattle.xemem_wire.proofs.FaultLemmas.{fault_of-empty}
 use Rattle.xemem_wire.specs.Stream.{front_record, records_onto, nothing_read, reading_of, records_of, rest_of, moved, first_bad, IsSplit}
 use Rattle.xemem_wire.specs.Decoding.{nothing_taken, with_bytes, after_piece, from_the_start}
 use Rattle.xemem_wire.proofs.StreamLemmas.{option_cases, moved_twice, front_record-spelling_of, Begins, front_record_begins, Splits, splits, reading_of-append, reading_of-splits, reading_of-spellings, reading_of-take, fault_of-take, length-rest_of}
@@ -69,10 +70,6 @@ first_bad-cut rs r n h k short =
     ∙ ap (option_map (moved (length (spellings_of rs)))) (first_bad-take r n k short)
 
 -- the empty stream
-fault_of-empty : fault_of [] ≡ None
-unfolding fault_of first_failed
-fault_of-empty = refl
-
 first_bad-empty : first_bad [] ≡ None
 unfolding first_bad
 first_bad-empty =

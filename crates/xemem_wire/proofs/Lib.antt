@@ -1,3 +1,4 @@
+pub mod FieldLemmas
 pub mod FaultLemmas
 pub mod SpellingLemmas
 pub mod StreamLemmas

@@ -1,52 +1,137 @@
 -- The spelling of a valid record has no bad field and gives the record back; a front without a bad field is a spelling.
-use Rattle.std.proofs.Common.{◌≡◌, ℕ, ◌+◌, ◌*◌, ◌/◌, ◌%◌, ◌^◌, ◌<◌, ◌≤◌, true, not, inl, inr, Option, Some, None, List, ◌∷◌, ◌++◌, eqb, leb, lit<, length, take, drop, get_or, refl, sym, ap, ◌∙◌, arith}
-use Rattle.std.proofs.lemmas.Bool.{cases_Bool, and_parts, and_from, ne_eqb, eqb-true}
+use Rattle.std.proofs.Common.{◌≡◌, ◌≢◌, ℕ, ℤ, pos, negsuc, ◌+◌, ◌*◌, ◌^◌, ◌<◌, ◌≤◌, Bool, true, false, not, inl, inr, Option, Some, None, List, [], ◌∷◌, ◌++◌, ◌&&◌, ◌||◌, if◌then◌else◌, eqb, leb, lit<, lit≤, length, take, drop, get_or, refl, sym, ap, ◌∙◌, subst, arith, drop-drop}
+use Rattle.std.proofs.lemmas.Int.{ints}
+use Rattle.std.proofs.lemmas.Bool.{cases_Bool, and_parts, and_from, ne_eqb, eqb-true, eq-eqb, le-leb, false≢true}
 use Rattle.std.proofs.lemmas.List.{get_or-take}
-use Rattle.std.proofs.lemmas.Bool.Decides.{nat_tests}
 use borrow.Author.Tests.{leb-true, ltb-true}
 use Rattle.std.specs.List.{AllByRecursion}
 use Rattle.xm_num.specs.declared.Enclave.{Enclave}
+use Rattle.xm_num.specs.declared.Segid.{Segid}
 use Rattle.xemem_language.specs.declared.record.Record.{Record}
 use Rattle.xemem_language.specs.declared.record.Body.{Body}
 use Rattle.xemem_language.specs.declared.record.Body.TheVariants as bodies
-use Rattle.xemem_wire.specs.Table.{kind_of, is_kind_built, body_of, is_enclave, has_call, is_undirected, is_destination, is_call, u32_at}
+use Rattle.xemem_language.specs.Ranges.{IsName, IsSpelledBody}
+use Rattle.xemem_wire.specs.Table.{kind_of, is_kind_built, is_enclave, has_call, is_undirected, is_destination, is_call, u32_at}
 use Rattle.xemem_language.specs.Destinations.{destination_of, destination_number}
-use Rattle.xemem_wire.specs.Spelling.{header_of, spelling_of, is_valid}
-use Rattle.xemem_wire.specs.Faults.{checks, fault_of}
+use Rattle.xemem_wire.specs.Fields.{segid_field, fields_of_kind, name_number, name_of, numbers_of, body_of, is_allowed, fields_length, fields_spelling, fields_numbers, are_allowed, length_of_kind}
+use Rattle.xemem_wire.specs.Spelling.{header_of, body_spelling, spelling_of, is_body, is_valid}
+use Rattle.xemem_wire.specs.Faults.{kind_at, header_checks, fault_of}
 use Rattle.xemem_wire.specs.Stream.{record_at}
-use Rattle.xemem_wire.proofs.FaultLemmas.{first_failed-met, met-first_failed}
+use Rattle.xemem_wire.proofs.FieldLemmas.{IsBytes, is_bytes-drop, number_16, number_32, bytes_16, bytes_32, AllFit, fields_numbers-spelling, fields_fault-spelling, length-fields_spelling, AreWhole, are_whole, fields_bytes}
+use Rattle.xemem_wire.proofs.FaultLemmas.{first_failed-met, met-first_failed, fault_of-none, none-fault_of}
 
-length-spelling_of : (r : Record) → length (spelling_of r) ≡ 16
+-- ---- the table
+
+-- a number is that one or another
+either : (P : ℕ → Type 0) (kind n : ℕ) → P n → (kind ≢ n → P kind) → P kind
+either P kind n p other =
+    elim (cases_Bool (eqb kind n)) [
+      | inl t ↦ subst P (sym (eqb-true kind n t)) p
+      | inr f ↦ other (λ e. false≢true (sym f ∙ eq-eqb kind n e))
+    ]
+
+-- what holds at each built kind
+each_kind : (P : ℕ → Type 0) → P 1 → P 2 → P 3 → P 4 → P 5 → P 6 → P 7 → (kind : ℕ) → is_kind_built kind ≡ true → P kind
+each_kind P p1 p2 p3 p4 p5 p6 p7 kind h =
+    let parts = and_parts _ _ h in
+    let low : 1 ≤ kind = leb-true 1 kind parts.0 in
+    let high : kind ≤ 7 = leb-true kind 7 parts.1 in
+    either P kind 1 p1
+    (λ n1. either P kind 2 p2
+    (λ n2. either P kind 3 p3
+    (λ n3. either P kind 4 p4
+    (λ n4. either P kind 5 p5
+    (λ n5. either P kind 6 p6
+    (λ n6. either P kind 7 p7 (λ n7. absurd (omega arith))))))))
+
+-- each row's numbers have room
+rows_fit : (named : Bool) → AllFit (if named then segid_field ∷ [] else [])
+rows_fit true = (lit< tt, tt)
+rows_fit false = tt
+
+all_fit : (kind : ℕ) → AllFit (fields_of_kind kind)
+all_fit kind = rows_fit (eqb kind 6 || eqb kind 7)
+
+-- and is short
+rows_short : (named : Bool) → fields_length (if named then segid_field ∷ [] else []) ≤ 16388
+rows_short true = lit≤ tt
+rows_short false = lit≤ tt
+
+pub fields_short : (kind : ℕ) → fields_length (fields_of_kind kind) ≤ 16388
+fields_short kind = rows_short (eqb kind 6 || eqb kind 7)
+
+-- the body comes back
+name_again : (z : ℤ) → is_allowed segid_field (name_number z) ≡ true → name_of (name_number z) ≡ z
+name_again (pos n) h = rw (and_parts (leb 0 n) (leb n 9223372036854775807) h).1 refl
+name_again (negsuc n) h = cc
+
+named_again : (segid : Segid) → (is_allowed segid_field (name_number segid.0) && true) ≡ true → (let s : Segid = record { 0 = name_of (name_number segid.0) } in s) ≡ segid
+named_again segid h =
+    ap (λ z. let s : Segid = record { 0 = z } in s) (name_again segid.0 (and_parts (is_allowed segid_field (name_number segid.0)) true h).0)
+
+body_again : (body : Body) → is_body body ≡ true → body_of (kind_of body) (numbers_of body) ≡ body
+body_again bodies.Query h = refl
+body_again bodies.Here h = refl
+body_again bodies.Register h = refl
+body_again bodies.Admit h = refl
+body_again bodies.NameReq h = refl
+body_again (bodies.Named segid) h = ap (λ s. bodies.Named s) (named_again segid h)
+body_again (bodies.Unname segid) h = ap (λ s. bodies.Unname s) (named_again segid h)
+body_again _ h = cc
+
+-- so do the kind and the numbers
+record Reads (kind : ℕ) (ns : List ℕ) : Type 0 where
+  kind_is : kind_of (body_of kind ns) ≡ kind
+  numbers_are : numbers_of (body_of kind ns) ≡ ns
+
+no_numbers : (ns : List ℕ) → are_allowed [] ns ≡ true → [] ≡ ns
+no_numbers [] h = refl
+no_numbers (n ∷ ns) h = cc
+
+one_number : (ns : List ℕ) → are_allowed (segid_field ∷ []) ns ≡ true → name_number (name_of (get_or ns 0 0)) ∷ [] ≡ ns
+one_number [] h = cc
+one_number (n ∷ []) h =
+    let allowed = and_parts (is_allowed segid_field n) true h in
+    rw (and_parts (leb 0 n) (leb n 9223372036854775807) allowed.0).1 refl
+one_number (n ∷ m ∷ ns) h = absurd (false≢true (and_parts (is_allowed segid_field n) false h).1)
+
+reads : (kind : ℕ) → is_kind_built kind ≡ true → (ns : List ℕ) → are_allowed (fields_of_kind kind) ns ≡ true → Reads kind ns
+reads kind built =
+    each_kind (λ k. (ns : List ℕ) → are_allowed (fields_of_kind k) ns ≡ true → Reads k ns)
+    (λ ns h. record { kind_is = refl; numbers_are = no_numbers ns h })
+    (λ ns h. record { kind_is = refl; numbers_are = no_numbers ns h })
+    (λ ns h. record { kind_is = refl; numbers_are = no_numbers ns h })
+    (λ ns h. record { kind_is = refl; numbers_are = no_numbers ns h })
+    (λ ns h. record { kind_is = refl; numbers_are = no_numbers ns h })
+    (λ ns h. record { kind_is = refl; numbers_are = one_number ns h })
+    (λ ns h. record { kind_is = refl; numbers_are = one_number ns h })
+    kind built
+
+-- ---- spellings
+
+length-spelling_of : (r : Record) → length (spelling_of r) ≡ 16 + length (body_spelling r.body)
 unfolding spelling_of header_of
-length-spelling_of r = refl
+length-spelling_of r = omega arith
 
 -- a spelling has a whole header
 pub spelling_long : (r : Record) → 16 ≤ length (spelling_of r)
 spelling_long r = omega (arith, length-spelling_of r)
 
+body_short : (body : Body) → length (body_spelling body) ≤ 16388
+body_short (bodies.Named segid) = lit≤ tt
+body_short (bodies.Unname segid) = lit≤ tt
+body_short _ = lit≤ tt
+
 pub spelling_short : (r : Record) → is_valid r ≡ true → length (spelling_of r) ≤ 16404
-spelling_short r h = omega (arith, length-spelling_of r)
+spelling_short r h = omega (arith, length-spelling_of r, body_short r.body)
 
 -- and begins with its length
 pub u32_at-spelling_of : (r : Record) (more : List ℕ) → u32_at (spelling_of r ++ more) 0 ≡ length (spelling_of r)
 unfolding spelling_of header_of
-u32_at-spelling_of r more = refl
+u32_at-spelling_of r more =
+    number_32 (16 + length (body_spelling r.body)) (omega (arith, body_short r.body)) ∙ sym (length-spelling_of r)
 
--- the numbers come back
-number_16 : (n : ℕ) → n < 65536 → n % 256 + n / 256 % 256 * 256 ≡ n
-number_16 n h = omega arith
-
-number_32 : (n : ℕ) → n < 2 ^ 32 → n % 256 + n / 256 % 256 * 256 + (n / 65536 % 256 + n / 16777216 % 256 * 256) * 65536 ≡ n
-number_32 n h = omega arith
-
--- so do the body and the destination
-body_of-kind_of : (body : Body) → is_kind_built (kind_of body) ≡ true → body_of (kind_of body) ≡ body
-body_of-kind_of bodies.Query h = refl
-body_of-kind_of bodies.Here h = refl
-body_of-kind_of bodies.Register h = refl
-body_of-kind_of bodies.Admit h = refl
-body_of-kind_of _ h = cc
-
+-- the destination and the call
 destination_small : (kind : ℕ) (dest : Option Enclave) → is_destination kind dest ≡ true → destination_number dest < 65536
 destination_small kind None h = omega arith
 destination_small kind (Some enclave) h =
@@ -67,7 +152,9 @@ call_small kind call h =
 
 -- the parts of validity
 record Valid (r : Record) : Type 0 where
+  body : is_body r.body ≡ true
   built : is_kind_built (kind_of r.body) ≡ true
+  allowed : are_allowed (fields_of_kind (kind_of r.body)) (numbers_of r.body) ≡ true
   origin : is_enclave r.origin.0 ≡ true
   dest : is_destination (kind_of r.body) r.dest ≡ true
   call : is_call (kind_of r.body) r.call ≡ true
@@ -78,15 +165,48 @@ valid_parts r h =
     let three = and_parts _ _ h in
     let two = and_parts _ _ three.0 in
     let one = and_parts _ _ two.0 in
-    record { built = one.0; origin = one.1; dest = two.1; call = three.1 }
+    let body = and_parts (is_kind_built (kind_of r.body)) (are_allowed (fields_of_kind (kind_of r.body)) (numbers_of r.body)) one.0 in
+    record { body = one.0; built = body.0; allowed = body.1; origin = one.1; dest = two.1; call = three.1 }
+
+-- its body has a spelling
+name_range : (z : ℤ) → is_allowed segid_field (name_number z) ≡ true → IsName z
+name_range (pos n) h =
+    let most : n ≤ 9223372036854775807 = leb-true n 9223372036854775807 (and_parts (leb 0 n) (leb n 9223372036854775807) h).1 in
+    (omega (arith, ints), omega (arith, ints, most))
+name_range (negsuc n) h = absurd (false≢true h)
+
+spelled_body : (body : Body) → is_body body ≡ true → IsSpelledBody body
+spelled_body bodies.Query h = tt
+spelled_body bodies.Here h = tt
+spelled_body bodies.Register h = tt
+spelled_body bodies.Admit h = tt
+spelled_body bodies.NameReq h = tt
+spelled_body (bodies.Named segid) h =
+    name_range segid.0 (and_parts (is_allowed segid_field (name_number segid.0)) true h).0
+spelled_body (bodies.Unname segid) h =
+    name_range segid.0 (and_parts (is_allowed segid_field (name_number segid.0)) true h).0
+spelled_body _ h = absurd (false≢true h)
+
+pub body_is_spelled : (r : Record) → is_valid r ≡ true → IsSpelledBody r.body
+body_is_spelled r h = spelled_body r.body (valid_parts r h).body
+
+-- its length is that of its kind
+pub spelled_by : (r : Record) → is_valid r ≡ true → spelling_of r ≡ header_of (length_of_kind (kind_of r.body)) r ++ body_spelling r.body
+unfolding spelling_of
+spelled_by r h =
+    ap (λ n. header_of (16 + n) r ++ body_spelling r.body) (length-fields_spelling (fields_of_kind (kind_of r.body)) (numbers_of r.body) (valid_parts r h).allowed)
+
+pub length_by_kind : (r : Record) → is_valid r ≡ true → length (spelling_of r) ≡ length_of_kind (kind_of r.body)
+length_by_kind r h =
+    length-spelling_of r ∙ ap (λ n. 16 + n) (length-fields_spelling (fields_of_kind (kind_of r.body)) (numbers_of r.body) (valid_parts r h).allowed)
 
 -- it consists of bytes
 pub spelling_bytes : (r : Record) → is_valid r ≡ true → AllByRecursion (λ byte. byte < 256) (spelling_of r)
 unfolding spelling_of header_of
 spelling_bytes r h =
     let v : Valid r = valid_parts r h in
-    let kind : kind_of r.body ≤ 4 = leb-true (kind_of r.body) 4 (and_parts (leb 1 (kind_of r.body)) (leb (kind_of r.body) 4) v.built).1 in
-    (omega arith, (omega arith, (omega arith, (omega arith, (omega arith, (omega arith, (omega arith, (omega arith, (omega arith, (omega arith, (omega arith, (omega arith, (omega arith, (omega arith, (omega arith, (omega arith, tt))))))))))))))))
+    let kind : kind_of r.body ≤ 7 = leb-true (kind_of r.body) 7 (and_parts (leb 1 (kind_of r.body)) (leb (kind_of r.body) 7) v.built).1 in
+    (omega arith, (omega arith, (omega arith, (omega arith, (omega arith, (omega arith, (omega arith, (omega arith, (omega arith, (omega arith, (omega arith, (omega arith, (omega arith, (omega arith, (omega arith, (omega arith, fields_bytes (fields_of_kind (kind_of r.body)) (numbers_of r.body)))))))))))))))))
 
 pub record_at-spelling_of : (r : Record) (more : List ℕ) → is_valid r ≡ true → record_at (spelling_of r ++ more) ≡ r
 unfolding spelling_of header_of record_at
@@ -98,49 +218,46 @@ record_at-spelling_of r more h =
     rw (
       number_16 r.origin.0 (omega arith),
       number_16 (destination_number r.dest) dest,
-      number_32 r.call call,
-      body_of-kind_of r.body v.built,
+      number_32 r.call (omega (arith, call)),
+      fields_numbers-spelling (fields_of_kind (kind_of r.body)) (numbers_of r.body) more (all_fit (kind_of r.body)) v.allowed,
+      body_again r.body v.body,
       destination_of-number (kind_of r.body) r.dest v.dest,
     )
     refl
 
 pub fault_of-spelling_of : (r : Record) (more : List ℕ) → is_valid r ≡ true → fault_of (spelling_of r ++ more) ≡ None
-unfolding spelling_of header_of fault_of
+unfolding spelling_of header_of
 fault_of-spelling_of r more h =
     let v : Valid r = valid_parts r h in
     let origin : r.origin.0 ≤ 255 = leb-true r.origin.0 255 v.origin in
     let dest : destination_number r.dest < 65536 = destination_small (kind_of r.body) r.dest v.dest in
     let call : r.call < 2 ^ 32 = call_small (kind_of r.body) r.call v.call in
-    first_failed-met checks (spelling_of r ++ more) (
-      λ _. refl,
+    let n : ℕ = 16 + length (body_spelling r.body) in
+    let small : n ≤ 16404 = omega (arith, body_short r.body) in
+    let told = number_32 n (omega (arith, small)) in
+    let long : n ≡ length_of_kind (kind_of r.body)
+    = ap (λ k. 16 + k) (length-fields_spelling (fields_of_kind (kind_of r.body)) (numbers_of r.body) v.allowed) in
+    fault_of-none (spelling_of r ++ more)
+    (first_failed-met header_checks (spelling_of r ++ more) (
+      λ _. rw told (and_from _ _ (le-leb 16 n (omega arith)) (le-leb n 16404 small)),
       (
         λ _. refl,
         (
           λ _. v.built,
           (
-            λ _. refl,
+            λ _. rw told (eq-eqb _ _ long),
             (
               λ _. rw (number_16 r.origin.0 (omega arith)) v.origin,
               (
                 λ _. rw (number_16 (destination_number r.dest) dest, destination_of-number (kind_of r.body) r.dest v.dest) v.dest,
-                (λ _. refl, (λ _. rw (number_32 r.call call) v.call, tt)),
+                (λ _. refl, (λ _. rw (number_32 r.call (omega (arith, call))) v.call, tt)),
               ),
             ),
           ),
         ),
       ),
-    )
-
--- each number of the list is a byte
-abbrev pub IsBytes : List ℕ → Type 0
-IsBytes bytes = (i : ℕ) → get_or bytes i 0 < 256
-
-kind_of-body_of : (kind : ℕ) → is_kind_built kind ≡ true → kind_of (body_of kind) ≡ kind
-kind_of-body_of kind h =
-    let parts = and_parts _ _ h in
-    let low : 1 ≤ kind = leb-true 1 kind parts.0 in
-    let high : kind ≤ 4 = leb-true kind 4 parts.1 in
-    grind (arith, nat_tests)
+    ))
+    (fields_fault-spelling 16 (fields_of_kind (kind_of r.body)) (numbers_of r.body) more (all_fit (kind_of r.body)) v.allowed)
 
 destination_number-of : (number : ℕ) → destination_number (destination_of number) ≡ number
 destination_number-of number =
@@ -149,39 +266,46 @@ destination_number-of number =
       | inr f ↦ rw f refl
     ]
 
--- the bytes come back
-bytes_16 : (a b : ℕ) → a < 256 → b < 256 → (a ≡ (a + b * 256) % 256) × (b ≡ (a + b * 256) / 256 % 256)
-bytes_16 a b p q = (omega arith, omega arith)
+-- the length that the front of a record without a bad field tells
+pub told_kind : (bytes : List ℕ) → 6 ≤ length bytes → fault_of bytes ≡ None → u32_at bytes 0 ≡ length_of_kind (kind_at bytes)
+told_kind (x0 ∷ x1 ∷ x2 ∷ x3 ∷ x4 ∷ x5 ∷ more) n e =
+    let m = met-first_failed header_checks (x0 ∷ x1 ∷ x2 ∷ x3 ∷ x4 ∷ x5 ∷ more) (none-fault_of (x0 ∷ x1 ∷ x2 ∷ x3 ∷ x4 ∷ x5 ∷ more) e).0 in
+    eqb-true _ _ (m.1.1.1.0 (omega arith))
+told_kind _ n e = absurd (omega arith)
 
-bytes_32 : (a b c d : ℕ) → a < 256 → b < 256 → c < 256 → d < 256 → let n = a + b * 256 + (c + d * 256) * 65536 in (a ≡ n % 256) × (b ≡ n / 256 % 256) × (c ≡ n / 65536 % 256) × (d ≡ n / 16777216 % 256)
-bytes_32 a b c d p q r s = (omega arith, omega arith, omega arith, omega arith)
-
--- a whole header without a bad field is the spelling of the record that it names
-whole_header : (bytes : List ℕ) → IsBytes bytes → 16 ≤ length bytes → fault_of bytes ≡ None → (is_valid (record_at bytes) ≡ true) × (bytes ≡ spelling_of (record_at bytes) ++ drop 16 bytes)
-unfolding spelling_of header_of fault_of record_at is_valid
-whole_header (x0 ∷ x1 ∷ x2 ∷ x3 ∷ x4 ∷ x5 ∷ x6 ∷ x7 ∷ x8 ∷ x9 ∷ x10 ∷ x11 ∷ x12 ∷ x13 ∷ x14 ∷ x15 ∷ more) h n e =
-    let m = met-first_failed checks (x0 ∷ x1 ∷ x2 ∷ x3 ∷ x4 ∷ x5 ∷ x6 ∷ x7 ∷ x8 ∷ x9 ∷ x10 ∷ x11 ∷ x12 ∷ x13 ∷ x14 ∷ x15 ∷ more) e in
+-- whole bytes without a bad field are the spelling of the record that they name
+whole_bytes : (bytes : List ℕ) → IsBytes bytes → length_of_kind (kind_at bytes) ≤ length bytes → fault_of bytes ≡ None
+    → (is_valid (record_at bytes) ≡ true) × (bytes ≡ spelling_of (record_at bytes) ++ drop (fields_length (fields_of_kind (kind_at bytes))) (drop 16 bytes))
+unfolding spelling_of header_of record_at is_valid
+whole_bytes (x0 ∷ x1 ∷ x2 ∷ x3 ∷ x4 ∷ x5 ∷ x6 ∷ x7 ∷ x8 ∷ x9 ∷ x10 ∷ x11 ∷ x12 ∷ x13 ∷ x14 ∷ x15 ∷ more) h n e =
+    let bytes : List ℕ = x0 ∷ x1 ∷ x2 ∷ x3 ∷ x4 ∷ x5 ∷ x6 ∷ x7 ∷ x8 ∷ x9 ∷ x10 ∷ x11 ∷ x12 ∷ x13 ∷ x14 ∷ x15 ∷ more in
+    let none = none-fault_of bytes e in
+    let m = met-first_failed header_checks bytes none.0 in
+    let fields = fields_of_kind x5 in
+    let w : AreWhole fields more = are_whole 16 fields more (is_bytes-drop 16 bytes h) (omega arith) none.1 in
+    let ns : List ℕ = fields_numbers fields more in
     let built : is_kind_built x5 ≡ true = m.1.1.0 (omega arith) in
-    let kind : kind_of (body_of x5) ≡ x5 = kind_of-body_of x5 built in
+    let kind : kind_of (body_of x5 ns) ≡ x5 = (reads x5 built ns w.allowed).kind_is in
+    let numbers : numbers_of (body_of x5 ns) ≡ ns = (reads x5 built ns w.allowed).numbers_are in
     let origin : is_enclave (x6 + x7 * 256) ≡ true = m.1.1.1.1.0 (omega arith) in
     let dest : is_destination x5 (destination_of (x8 + x9 * 256)) ≡ true = m.1.1.1.1.1.0 (omega arith) in
     let call : is_call x5 (x12 + x13 * 256 + (x14 + x15 * 256) * 65536) ≡ true = m.1.1.1.1.1.1.1.0 (omega arith) in
-    let length : x0 + x1 * 256 + (x2 + x3 * 256) * 65536 ≡ 16 = eqb-true _ _ (m.1.1.1.0 (omega arith)) in
-    let e0 : x0 ≡ 16 = omega arith in
-    let e1 : x1 ≡ 0 = omega arith in
-    let e2 : x2 ≡ 0 = omega arith in
-    let e3 : x3 ≡ 0 = omega arith in
+    let told : x0 + x1 * 256 + (x2 + x3 * 256) * 65536 ≡ length_of_kind x5 = eqb-true _ _ (m.1.1.1.0 (omega arith)) in
+    let long : x0 + x1 * 256 + (x2 + x3 * 256) * 65536 ≡ 16 + length (fields_spelling fields ns)
+    = told ∙ sym (ap (λ k. 16 + k) (length-fields_spelling fields ns w.allowed)) in
     let e4 : x4 ≡ 1 = eqb-true _ _ (m.1.0 (omega arith)) in
     let zero : x10 + x11 * 256 ≡ 0 = eqb-true _ _ (m.1.1.1.1.1.1.0 (omega arith)) in
     let e10 : x10 ≡ 0 = omega arith in
     let e11 : x11 ≡ 0 = omega arith in
+    let length_bytes = bytes_32 x0 x1 x2 x3 (h 0) (h 1) (h 2) (h 3) in
     let origin_bytes = bytes_16 x6 x7 (h 6) (h 7) in
     let dest_bytes = bytes_16 x8 x9 (h 8) (h 9) in
-    let call_bytes = bytes_32 x12 x13 x14 x15 (h 12) (h 13) (h 14) (h 15) in (
-      rw kind (and_from _ _ (and_from _ _ (and_from _ _ built origin) dest) call),
-      rw (kind, destination_number-of (x8 + x9 * 256)) (cc),
+    let call_bytes = bytes_32 x12 x13 x14 x15 (h 12) (h 13) (h 14) (h 15) in
+    let spelled = w.spelled in (
+      rw (kind, numbers) (and_from _ _ (and_from _ _ (and_from _ _ (and_from _ _ built w.allowed) origin) dest) call),
+      rw (kind, numbers, destination_number-of (x8 + x9 * 256)) (cc),
     )
-whole_header _ h n e = absurd (omega arith)
+whole_bytes _ h n e = absurd (omega arith)
 
 -- bytes without a bad field that are as long as they tell are the spelling of the record that they name
 pub record IsWhole (bytes : List ℕ) : Type 0 where
@@ -190,16 +314,17 @@ pub record IsWhole (bytes : List ℕ) : Type 0 where
 
 pub is_whole : (bytes : List ℕ) → IsBytes bytes → 16 ≤ length bytes → u32_at bytes 0 ≤ length bytes → fault_of bytes ≡ None → IsWhole bytes
 is_whole bytes h n long e =
-    let w = whole_header bytes h n e in
-    let r : Record = record_at bytes in
-    let told : 16 ≡ u32_at bytes 0
-    = sym (length-spelling_of r) ∙ sym (u32_at-spelling_of r (drop 16 bytes)) ∙ ap (λ xs. u32_at xs 0) (sym w.1) in
-    record { valid = w.0; spelled = w.1 ∙ ap (λ k. spelling_of r ++ drop k bytes) told }
+    let told : u32_at bytes 0 ≡ length_of_kind (kind_at bytes) = told_kind bytes (omega (arith, n)) e in
+    let w = whole_bytes bytes h (omega (arith, told, long)) e in
+    record {
+      valid = w.0;
+      spelled = w.1 ∙ ap (λ xs. spelling_of (record_at bytes) ++ xs)
+          (drop-drop (fields_length (fields_of_kind (kind_at bytes))) 16 bytes ∙ ap (λ k. drop k bytes) (sym told));
+    }
 
 -- the length that they tell is at most that of a longest record
 pub told_length : (bytes : List ℕ) → 4 ≤ length bytes → fault_of bytes ≡ None → u32_at bytes 0 ≤ 16404
-unfolding fault_of
 told_length bytes n e =
-    let in_range = (met-first_failed checks bytes e).0 n in
+    let in_range = (met-first_failed header_checks bytes (none-fault_of bytes e).0).0 n in
     let told : u32_at (take 4 bytes) 0 ≤ 16404 = leb-true (u32_at (take 4 bytes) 0) 16404 (and_parts (leb 16 (u32_at (take 4 bytes) 0)) (leb (u32_at (take 4 bytes) 0) 16404) in_range).1 in
     omega (arith, told, get_or-take 4 bytes 0 0 (lit< tt), get_or-take 4 bytes 1 0 (lit< tt), get_or-take 4 bytes 2 0 (lit< tt), get_or-take 4 bytes 3 0 (lit< tt))

@@ -14,7 +14,8 @@ use Rattle.xemem_wire.specs.Spelling.{spelling_of, is_valid, AreValid, spellings
 use Rattle.xemem_wire.specs.Faults.{fault_of}
 use Rattle.xemem_wire.specs.Stream.{record_at, front_record, Reading, record_onto, records_onto, nothing_read, reading_within, reading_of, records_of, rest_of, moved, first_bad}
 use Rattle.xemem_wire.proofs.FaultLemmas.{fault_of-append}
-use Rattle.xemem_wire.proofs.SpellingLemmas.{spelling_long, record_at-spelling_of, fault_of-spelling_of, u32_at-spelling_of, IsBytes, IsWhole, is_whole}
+use Rattle.xemem_wire.proofs.SpellingLemmas.{spelling_long, record_at-spelling_of, fault_of-spelling_of, u32_at-spelling_of, IsWhole, is_whole}
+use Rattle.xemem_wire.proofs.FieldLemmas.{IsBytes}
 use Rattle.xemem_wire.specs.Table.{u32_at}
 use Rattle.std.specs.Prelude.{is_some}
 

@@ -1,12 +1,14 @@
 -- The fields of a record in the order in which their last bytes come, and the first of them that isn't allowed.
-use Rattle.std.specs.Prelude.{ℕ, ◌==◌, ◌&&◌, not, nat_le, Bool, Option, Some, None, List, [], ◌∷◌, length, take, if◌then◌else◌}
+use Rattle.std.specs.Prelude.{ℕ, ◌==◌, ◌&&◌, not, nat_le, Bool, Option, Some, None, List, [], ◌∷◌, length, take, drop, if◌then◌else◌}
+use Rattle.std.specs.Option.{option_or}
 use Rattle.xemem_wire.specs.declared.format.WireFault.{WireFault}
 use Rattle.xemem_wire.specs.declared.format.WireFault.TheVariants as faults
 use Rattle.xemem_wire.specs.declared.format.BadField.{BadField}
-use Rattle.xemem_wire.specs.Table.{is_kind_built, is_length, is_enclave, is_destination, is_call, u8_at, u16_at, u32_at}
+use Rattle.xemem_wire.specs.Table.{is_kind_built, is_enclave, is_destination, is_call, u8_at, u16_at, u32_at}
+use Rattle.xemem_wire.specs.Fields.{fields_of_kind, length_of_kind, fields_fault}
 use Rattle.xemem_language.specs.Destinations.{destination_of}
 
--- a field is judged as soon as that many bytes of the record are there, by these bytes
+-- a field of the header is judged as soon as that many bytes of the record are there, by these bytes
 pub record Check : Type 0 where
   pub needs : ℕ
   pub place : ℕ
@@ -36,7 +38,7 @@ kind_length_check = record {
   needs = 6;
   place = 0;
   fault = faults.Length;
-  is_met = λ front. is_length (kind_at front) (u32_at front 0);
+  is_met = λ front. u32_at front 0 == length_of_kind (kind_at front);
 }
 
 abbrev pub origin_check : Check
@@ -56,9 +58,9 @@ zero_check = record { needs = 12; place = 10; fault = faults.Zero; is_met = λ f
 abbrev pub call_check : Check
 call_check = record { needs = 16; place = 12; fault = faults.Field; is_met = λ front. is_call (kind_at front) (u32_at front 12) }
 
--- in the order in which they are judged; the kinds that are built have no fields after the header
-abbrev pub checks : List Check
-checks =
+-- in the order in which they are judged
+abbrev pub header_checks : List Check
+header_checks =
     range_check ∷ version_check ∷ kind_check ∷ kind_length_check ∷ origin_check ∷ destination_check ∷ zero_check
     ∷ call_check ∷ []
 
@@ -71,6 +73,7 @@ first_failed [] bytes = None
 first_failed (c ∷ cs) bytes =
     if is_failed bytes c then Some (record { fault = c.fault; place = c.place }) else first_failed cs bytes
 
--- the first bad field of the record that these bytes begin
+-- the first bad field of the record that these bytes begin: one of the header, or one of the kind's own
 unfoldable pub fault_of : List ℕ → Option BadField
-fault_of bytes = first_failed checks bytes
+fault_of bytes =
+    option_or (first_failed header_checks bytes) (fields_fault 16 (fields_of_kind (kind_at bytes)) (drop 16 bytes))

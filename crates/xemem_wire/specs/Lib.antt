@@ -1,4 +1,5 @@
 pub mod Table
+pub mod Fields
 pub mod Spelling
 pub mod Faults
 pub mod Stream

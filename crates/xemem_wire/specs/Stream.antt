@@ -4,7 +4,8 @@ use Rattle.std.specs.Option.{option_map, option_map_or}
 use Rattle.std.specs.List.{starts_with}
 use Rattle.xemem_language.specs.declared.record.Record.{Record}
 use Rattle.xemem_wire.specs.declared.format.BadField.{BadField}
-use Rattle.xemem_wire.specs.Table.{body_of, u16_at, u32_at}
+use Rattle.xemem_wire.specs.Table.{u16_at, u32_at}
+use Rattle.xemem_wire.specs.Fields.{fields_of_kind, fields_numbers, body_of}
 use Rattle.xemem_language.specs.Destinations.{destination_of}
 use Rattle.xemem_wire.specs.Spelling.{spelling_of, is_valid, AreValid, spellings_of}
 use Rattle.xemem_wire.specs.Faults.{kind_at, fault_of}
@@ -15,7 +16,7 @@ record_at bytes = record {
   origin = record { 0 = u16_at bytes 6 };
   dest = destination_of (u16_at bytes 8);
   call = u32_at bytes 12;
-  body = body_of (kind_at bytes);
+  body = body_of (kind_at bytes) (fields_numbers (fields_of_kind (kind_at bytes)) (drop 16 bytes));
 }
 
 -- the valid record with whose spelling these bytes begin, where there is one

@@ -30,19 +30,7 @@ kind_of (bodies.Confirm enclave) = 20
 
 -- the kinds that are built
 abbrev pub is_kind_built : ℕ → Bool
-is_kind_built kind = nat_le 1 kind && nat_le kind 4
-
--- the body of a built kind
-abbrev pub body_of : ℕ → Body
-body_of kind =
-    if kind == 1 then bodies.Query
-    else if kind == 2 then bodies.Here
-    else if kind == 3 then bodies.Register
-    else bodies.Admit
-
--- the length that a record of that kind has
-abbrev pub is_length : ℕ → ℕ → Bool
-is_length kind length = length == 16
+is_kind_built kind = nat_le 1 kind && nat_le kind 7
 
 -- the kinds that name no destination: they go to the neighbour, to the name server or to the host
 abbrev pub is_undirected : ℕ → Bool

@@ -12,7 +12,7 @@ use std::marker::Model;
 ///
 /// The bytes of records that weren't given yet stay as they came. Those of given records go when they are half of all,
 /// so a byte is moved a constant number of times. What has come of a record is judged anew with each piece until the
-/// record is whole; it has 16 bytes, so each is read a constant number of times, also where they come one at a time.
+/// record is whole, over the few fields that its kind has.
 #[derive(Drop)]
 pub struct Decoder {
     bytes: Vec<u8>,
@@ -53,7 +53,7 @@ fn take_piece(
 ) -> Result<(usize, Option<BadField>), AllocError>
     requires { whole ≤ vec_len bytes.old }
     ensures ok { IfOk result (λ found. Takes bytes.old.items piece.now bytes.new.items whole found.0 found.1) }
-    ensures place { IfOk result (λ found. IfSome found.1 (λ bad. bad.place < 16)) }
+    ensures place { IfOk result (λ found. IfSome found.1 (λ bad. bad.place < 16404)) }
     ensures err { OnErr result (bytes.new.items ≡ bytes.old.items) }
 {
     bytes.extend_from_slice(piece)?;

@@ -1,9 +1,11 @@
 // Which field of a record's front is the first that isn't allowed.
-ghost use Rattle.std.specs.Prelude.{◌≡◌, ℕ, ◌+◌, ◌<◌, ◌≤◌, length, IfSome};
+ghost use Rattle.std.specs.Prelude.{◌≡◌, ℕ, ◌+◌, ◌<◌, ◌≤◌, length, drop, IfSome};
 ghost use Rattle.xemem_wire.specs.Table.{u16_at, u32_at, is_undirected, has_call, is_kind_built, is_enclave, is_destination, is_call};
 ghost use Rattle.xemem_language.specs.Destinations.{destination_of};
-ghost use Rattle.xemem_wire.specs.Faults.{is_failed, range_check, version_check, kind_check, kind_length_check, origin_check, destination_check, zero_check, call_check, fault_of};
+ghost use Rattle.xemem_wire.specs.Faults.{is_failed, range_check, version_check, kind_check, kind_length_check, origin_check, destination_check, zero_check, call_check, kind_at, header_checks, first_failed, fault_of};
+ghost use Rattle.xemem_wire.specs.Fields.{fields_of_kind, fields_fault};
 
+use crate::fields::{fields_fault, fields_of_kind, length_of_kind};
 use crate::{BadField, WireFault};
 use xm_num::Enclave;
 
@@ -49,7 +51,7 @@ pub(crate) fn has_call(kind: u8) -> bool
 pub(crate) fn is_built(kind: u8) -> bool
     ensures { result ≡ is_kind_built kind }
 {
-    matches!(kind, 1..=4)
+    matches!(kind, 1..=7)
 }
 
 /// Whether that is the number of an enclave.
@@ -112,7 +114,7 @@ fn fails_kind(front: &[u8]) -> bool
 fn fails_kind_length(front: &[u8]) -> bool
     ensures { result ≡ is_failed front.now kind_length_check }
 {
-    front.len() >= 6 && u32_at(front, 0) != 16
+    front.len() >= 6 && u32_at(front, 0) != length_of_kind(front[5])
 }
 
 /// Whether the origin is there and is no enclave.
@@ -143,10 +145,10 @@ fn fails_call(front: &[u8]) -> bool
     front.len() >= 16 && !is_call(front[5], u32_at(front, 12))
 }
 
-/// The first bad field of the record that these bytes begin.
-#[tactic(auto, unfolding(crate::specs::Faults::fault_of, crate::specs::Faults::first_failed))]
-pub(crate) fn fault_in(front: &[u8]) -> Option<BadField>
-    ensures fault { result ≡ fault_of front.now }
+/// The first bad field of the header.
+#[tactic(auto, unfolding(crate::specs::Faults::first_failed))]
+fn header_fault(front: &[u8]) -> Option<BadField>
+    ensures fault { result ≡ first_failed header_checks front.now }
     ensures place { IfSome result (λ bad. bad.place < 16) }
 {
     let (fault, place) = if fails_range(front) {
@@ -169,4 +171,27 @@ pub(crate) fn fault_in(front: &[u8]) -> Option<BadField>
         return None;
     };
     Some(BadField { fault, place })
+}
+
+/// The first bad field after the header.
+fn body_fault(front: &[u8]) -> Option<BadField>
+    ensures fault { result ≡ fields_fault 16 (fields_of_kind (kind_at front.now)) (drop 16 front.now) }
+    ensures place { IfSome result (λ bad. bad.place < 16404) }
+{
+    if front.len() < HEADER {
+        return None;
+    }
+    fields_fault(fields_of_kind(front[5]), &front[HEADER..], 16)
+}
+
+/// The first bad field of the record that these bytes begin.
+#[tactic(auto, unfolding(crate::specs::Faults::fault_of))]
+pub(crate) fn fault_in(front: &[u8]) -> Option<BadField>
+    ensures fault { result ≡ fault_of front.now }
+    ensures place { IfSome result (λ bad. bad.place < 16404) }
+{
+    match header_fault(front) {
+        None => body_fault(front),
+        bad => bad,
+    }
 }

@@ -2,10 +2,12 @@
 ghost use Rattle.std.specs.Prelude.{◌≡◌, ℕ, ◌<◌, ◌≤◌, true, None, Some, List, ◌++◌, length, take, fold};
 ghost use Rattle.std.specs.List.{flat_map, AllByRecursion};
 ghost use Rattle.std.specs.Option.{option_map};
-ghost use Rattle.xemem_wire.specs.Table.{u32_at};
+ghost use Rattle.xemem_wire.specs.Table.{kind_of, u32_at};
+ghost use Rattle.xemem_wire.specs.Fields.{length_of_kind};
 ghost use Rattle.xemem_wire.specs.Spelling.{spelling_of, spellings_of, is_valid, AreValid};
 ghost use Rattle.xemem_wire.specs.Stream.{reading_of, records_of, rest_of, record_onto, records_onto, nothing_read, first_bad, moved, IsSplit};
 ghost use Rattle.xemem_wire.specs.Decoding.{Decoding, nothing_taken, after_piece, from_the_start};
+ghost use Rattle.xemem_language.specs.Ranges.{IsSpelledBody};
 ghost use Rattle.xemem_language.specs.declared.record.Record.{Record};
 ghost use Rattle.xemem_wire.specs.declared.format.BadField.{BadField};
 
@@ -32,12 +34,19 @@ pub fn spellings_are_read()
         first_bad (spellings_of rs ++ more) ≡ option_map (moved (length (spellings_of rs))) (first_bad more) }
 {}
 
-/// The spelling of a valid record has the length that it tells, from a header to a longest record, and consists of bytes.
+/// The spelling of a valid record has the length that it tells, which is that of its kind, from a header to a longest
+/// record, and consists of bytes.
 pub fn spelling_length()
     ensures told { (r : Record) (more : List ℕ) → u32_at (spelling_of r ++ more) 0 ≡ length (spelling_of r) }
+    ensures kind { (r : Record) → is_valid r ≡ true → length (spelling_of r) ≡ length_of_kind (kind_of r.body) }
     ensures least { (r : Record) → 16 ≤ length (spelling_of r) }
     ensures most { (r : Record) → is_valid r ≡ true → length (spelling_of r) ≤ 16404 }
     ensures bytes { (r : Record) → is_valid r ≡ true → AllByRecursion (λ byte. byte < 256) (spelling_of r) }
+{}
+
+/// What a valid record says has a spelling as a line has it: its segid isn't negative.
+pub fn body_is_spelled()
+    ensures { (r : Record) → is_valid r ≡ true → IsSpelledBody r.body }
 {}
 
 /// Where the last of several valid records is cut, the others are read, its front is the rest, and no field is bad.

@@ -1,10 +1,11 @@
 //! The records that enclaves send each other: their bytes, and a decoder for a stream of them that comes in any pieces.
 //!
 //! All numbers are little-endian. A record is a header of 16 bytes: length, version, kind, origin, destination, zero
-//! and call. The kinds that are built have no fields after it.
+//! and call. The fields that its kind has in the table of `fields` come after it.
 #![tactic(auto)]
 
 mod decoder;
+mod fields;
 mod format;
 mod judge;
 pub mod laws;

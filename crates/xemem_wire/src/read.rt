@@ -1,38 +1,27 @@
 // The whole records at the front of a stream's bytes.
 ghost use Rattle.std.specs.Prelude.{◌≡◌, ◌<◌, ◌≤◌, length, drop, None};
 ghost use Rattle.std.specs.Option.{option_map};
-ghost use Rattle.xemem_wire.specs.Table.{body_of};
+ghost use Rattle.xemem_wire.specs.Fields.{length_of_kind};
 ghost use Rattle.xemem_wire.specs.Spelling.{spelling_of};
-ghost use Rattle.xemem_wire.specs.Faults.{fault_of};
+ghost use Rattle.xemem_wire.specs.Faults.{kind_at, fault_of};
 ghost use Rattle.xemem_wire.specs.Stream.{record_at, front_record, rest_of};
 
+use crate::Record;
+use crate::fields::body_in;
 use crate::judge::{HEADER, destination_of, fault_in, u16_at, u32_at};
-use crate::{Body, Record};
 use xm_num::Enclave;
-
-/// The body of a built kind.
-fn body_of(kind: u8) -> Body
-    ensures { result ≡ body_of kind }
-{
-    match kind {
-        1 => Body::Query,
-        2 => Body::Here,
-        3 => Body::Register,
-        _ => Body::Admit,
-    }
-}
 
 /// The record whose fields these bytes have.
 #[tactic(auto, unfolding(crate::specs::Stream::record_at))]
 pub(crate) fn record_in(front: &[u8]) -> Record
-    requires { 16 ≤ length front.now }
+    requires { length_of_kind (kind_at front.now) ≤ length front.now }
     ensures { result ≡ record_at front.now }
 {
     Record {
         origin: Enclave(u16_at(front, 6)),
         dest: destination_of(u16_at(front, 8)),
         call: u32_at(front, 12),
-        body: body_of(front[5]),
+        body: body_in(front[5], &front[HEADER..]),
     }
 }
 

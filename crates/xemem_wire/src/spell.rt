@@ -2,8 +2,9 @@
 ghost use Rattle.std.specs.Prelude.{◌≡◌, ◌++◌, IsTrue, OnOk, OnErr};
 ghost use Rattle.xemem_wire.specs.Table.{kind_of};
 ghost use Rattle.xemem_language.specs.Destinations.{destination_number};
-ghost use Rattle.xemem_wire.specs.Spelling.{header_of, spelling_of, is_valid};
+ghost use Rattle.xemem_wire.specs.Spelling.{header_of, spelling_of, is_body, is_valid};
 
+use crate::fields::{append_fields, are_allowed, fields_of_kind, length_of_kind, numbers_of};
 use crate::judge::{is_built, is_call, is_destination, is_enclave};
 use crate::{Body, Record};
 use std::alloc::AllocError;
@@ -46,13 +47,22 @@ fn kind_number(body: &Body) -> u8
     }
 }
 
+/// Whether the kind is built, and each of its fields has a number that it may have.
+fn is_body(body: &Body) -> bool
+    ensures { result ≡ is_body body.now }
+{
+    let kind = kind_number(body);
+    let fields = fields_of_kind(kind);
+    is_built(kind) && are_allowed(fields, &numbers_of(body)[..fields.len()])
+}
+
 /// Whether every number of the record is one that its field may have. A kind that isn't built has no valid record.
 #[tactic(auto, unfolding(crate::specs::Spelling::is_valid))]
 pub fn valid(rec: &Record) -> bool
     ensures { result ≡ is_valid rec.now }
 {
     let kind = kind_number(&rec.body);
-    is_built(kind)
+    is_body(&rec.body)
         && is_enclave(rec.origin.0)
         && is_destination(kind, rec.dest)
         && is_call(kind, rec.call)
@@ -85,12 +95,20 @@ fn header(rec: &Record, length: u32) -> [u8; 16]
 }
 
 /// Appends the one spelling of a valid record.
-#[tactic(auto, unfolding(crate::specs::Spelling::spelling_of))]
 pub fn encode(rec: &Record, out: &mut Vec<u8>) -> Result<(), AllocError>
     requires { IsTrue (is_valid rec.now) }
     ensures ok { OnOk result (out.new.items ≡ out.old.items ++ spelling_of rec.now) }
     ensures err { OnErr result (out.new.items ≡ out.old.items) }
 {
-    out.extend_from_slice(&header(rec, 16))?;
-    Ok(())
+    let before = out.len();
+    let kind = kind_number(&rec.body);
+    let fields = fields_of_kind(kind);
+    out.extend_from_slice(&header(rec, length_of_kind(kind)))?;
+    match append_fields(fields, &numbers_of(&rec.body)[..fields.len()], out) {
+        Ok(()) => Ok(()),
+        Err(AllocError) => {
+            out.truncate(before);
+            Err(AllocError)
+        }
+    }
 }

@@ -13,8 +13,8 @@ use crate::feeds::Feed;
 use page_table::AddressSpace;
 use std::alloc::AllocError;
 use xemem_language::{Body, Line, Lines, Record};
-use xm_num::Enclave;
 use xm_num::laws::rows;
+use xm_num::{CallNo, Enclave, Segid};
 
 impl<A: AddressSpace> State<A> {
     /// Gets a record that came whole from a neighbour, and handles it.
@@ -55,6 +55,9 @@ impl<A: AddressSpace> State<A> {
             Body::Here => self.on_here(from, out),
             Body::Register => self.on_register(from, rec, out),
             Body::Admit => self.on_admit(from, rec, out),
+            Body::NameReq => self.on_name_request(from, rec, out),
+            Body::Named { segid } => self.on_named(from, rec, segid, out),
+            Body::Unname { segid } => self.on_unname(from, rec, segid, out),
             _ => self.drop_record(out),
         }
     }
@@ -78,7 +81,7 @@ impl<A: AddressSpace> State<A> {
         }
     }
 
-    fn drop_record(&self, out: &mut Lines) -> Result<(), AllocError>
+    pub fn drop_record(&self, out: &mut Lines) -> Result<(), AllocError>
         ensures { OnOk result (out.new ≡ out.old ++ sending.drop_lines self.now) }
     {
         out.push(Line::Dropped { enclave: self.me })
@@ -211,5 +214,61 @@ impl<A: AddressSpace> State<A> {
         }
         self.admitted = true;
         out.push(Line::Admitted { enclave: self.me })
+    }
+
+    // The holder of the name server names the segment, and another enclave passes the request on toward it.
+    fn on_name_request(
+        &mut self,
+        from: Enclave,
+        rec: Record,
+        out: &mut Lines,
+    ) -> Result<(), AllocError>
+        ensures lines { OnOk result (out.new ≡ out.old ++ steps.name_request_lines self.old from rec) }
+        ensures after { OnOk result ((hand : Hand) → self.new ≡ own_lines hand self.old (steps.name_request_lines self.old from rec)) }
+    {
+        if self.is_holder() {
+            return self.name(rec.origin, CallNo(rec.call), out);
+        }
+        let over = self.toward_server();
+        self.send(Some(from), over, rec, out)
+    }
+
+    // Takes the name of a segment of its own, and passes that of another on.
+    fn on_named(
+        &mut self,
+        from: Enclave,
+        rec: Record,
+        segid: Segid,
+        out: &mut Lines,
+    ) -> Result<(), AllocError>
+        ensures lines { OnOk result (out.new ≡ out.old ++ steps.named_to self.old from rec segid rec.dest) }
+        ensures after { OnOk result ((hand : Hand) → self.new ≡ own_lines hand self.old (steps.named_to self.old from rec segid rec.dest)) }
+    {
+        let Some(dest) = rec.dest else {
+            return self.drop_record(out);
+        };
+        if dest.0 == self.me.0 {
+            return self.take_segid(CallNo(rec.call), segid, out);
+        }
+        let over = self.way_to(dest);
+        self.send(Some(from), over, rec, out)
+    }
+
+    // The holder of the name server forgets the name, and another enclave passes the record on toward it.
+    fn on_unname(
+        &mut self,
+        from: Enclave,
+        rec: Record,
+        segid: Segid,
+        out: &mut Lines,
+    ) -> Result<(), AllocError>
+        ensures lines { OnOk result (out.new ≡ out.old ++ steps.unname_to self.old from rec segid) }
+        ensures after { OnOk result ((hand : Hand) → self.new ≡ own_lines hand self.old (steps.unname_to self.old from rec segid)) }
+    {
+        if self.is_holder() {
+            return self.unname(segid, rec.origin, out);
+        }
+        let over = self.toward_server();
+        self.send(Some(from), over, rec, out)
     }
 }

@@ -5,6 +5,7 @@ ghost use Rattle.route_learn.specs.Routes.{AreNumbers};
 ghost use Rattle.xemem_language.specs.declared.line.Line.TheVariants as lines;
 ghost use Rattle.enclave_rules.specs.Hand.{Nothing};
 ghost use Rattle.enclave_rules.specs.View.{own_line};
+ghost use Rattle.enclave_rules.specs.Sending as sending;
 ghost use Rattle.enclave_rules.specs.Sending.{knows_way};
 ghost use Rattle.enclave_rules.specs.Steps as steps;
 ghost use Rattle.enclave_node.specs.Sides as spec;
@@ -70,6 +71,26 @@ impl<A: AddressSpace> State<A> {
         ensures { self.now.core.holder ≡ false → result ≡ self.now.ways.way }
     {
         match self.routes.server() {
+            Way::Over(over) => Some(enclave_of(self.parent, over)),
+            _ => None,
+        }
+    }
+
+    // The neighbour over which the way toward the name server goes, where the enclave doesn't hold it.
+    pub fn toward_server(&self) -> Option<Enclave>
+        ensures { result ≡ sending.toward_server self.now }
+    {
+        if self.is_holder() {
+            return None;
+        }
+        self.way()
+    }
+
+    // The neighbour over which an enclave lies. Without a route to it the way toward the name server serves.
+    pub fn way_to(&self, of: Enclave) -> Option<Enclave>
+        ensures { result ≡ sending.way_to self.now (sending.To of) }
+    {
+        match self.routes.way(of) {
             Way::Over(over) => Some(enclave_of(self.parent, over)),
             _ => None,
         }

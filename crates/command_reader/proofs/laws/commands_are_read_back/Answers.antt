@@ -1,13 +1,9 @@
 use Rattle.command_reader.proofs.CommandLemmas.{command_of-words}
 use Rattle.command_reader.proofs.FormLemmas.{command_of-spells}
-use Rattle.command_reader.proofs.LineLemmas.{line_command-words}
 use Rattle.command_reader.proofs.laws.commands_are_read_back.Goals as goal
 
 pub returns-clause-back : goal.returns-clause-back
 returns-clause-back c = command_of-words c.numbers_are_read_back.ensures
-
-pub returns-clause-line : goal.returns-clause-line
-returns-clause-line c = line_command-words c.numbers_are_read_back.ensures c.words_are_split_again.ensures
 
 pub returns-clause-words : goal.returns-clause-words
 returns-clause-words c words command h = (command_of-spells c.numbers_are_read_back.ensures words command h).is

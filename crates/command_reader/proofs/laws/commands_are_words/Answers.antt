@@ -1,5 +1,5 @@
-use Rattle.command_reader.proofs.LineLemmas.{command_in_words}
+use Rattle.command_reader.proofs.WordsOf.{command_in_words}
 use Rattle.command_reader.proofs.laws.commands_are_words.Goals as goal
 
 pub returns : goal.returns
-returns c = command_in_words c.words_are_split_again.ensures
+returns c = command_in_words c.spellings_are_words.ensures

@@ -8,4 +8,5 @@ returns c = λ commands placed. record {
   told = c.one_journal.ensures.told commands;
   rested = c.journals_are_rested.ensures commands placed;
   found = found_journal c.laws.ensures c.rest_is_admitted.ensures commands placed (c.one_journal.ensures.told commands);
+  calls = c.calls_are_legal.ensures commands placed;
 }

@@ -12,6 +12,6 @@ returns c = record {
   spelled = c.journals_are_spelled.ensures;
   fits = c.journals_fit.ensures.whole;
   fits_more = c.journals_fit.ensures.more;
-  read = c.journals_are_read_back.ensures.back;
+  read = c.journals_are_read_back.ensures;
   more = c.journals_grow.ensures.journal;
 }

@@ -2,11 +2,12 @@ use Rattle.std.proofs.Common.{◌≡◌, ◌++◌, ◌∷◌, [], ◌||◌, ◌�
 use Rattle.std.specs.Prelude.{List, is_ok, slice_index_or, slice_set}
 use Rattle.std.proofs.lemmas.Grind.{common_steps}
 use Rattle.std.proofs.lemmas.Result.{on_ok_weaker}
+use Rattle.xm_num.specs.declared.Enclave.{Enclave}
 use Rattle.enclave_rules.specs.Steps.{birth_lines}
 use Rattle.enclave_node.specs.Nodes.{NodeView, new_node}
 use Rattle.node_machine.specs.declared.pair.Pair.{Pair}
-use Rattle.node_machine.specs.Machine.{MachineView}
-use Rattle.node_machine.proofs.BearLemmas.{node_read, node_before, pair_is, borne_are, birth_is}
+use Rattle.node_machine.specs.Machine.{MachineView, holder_after}
+use Rattle.node_machine.proofs.BearLemmas.{node_read, node_before, pair_is, borne_with, borne_are, birth_is}
 use Rattle.node_machine.proofs.machine.Machine.bear.Goals as goal
 
 pub returns : goal.returns
@@ -31,11 +32,12 @@ returns c =
     let pair = c.in_ok-pair.pair in
     let paired = pair_is pair args.parent c.in_ok-pair.ensures.0 c.in_ok-pair.ensures.1 c.in_ok-pair.ensures.2 in
     let pairs : c.add.new.self ≡ m.pairs ++ pair ∷ [] = c.in_ok-add.ensures ∙ ap (λ (m : MachineView). m.pairs ++ pair ∷ []) c.self.view_is in
-    let kept : record { pool = c.self.inside.pool; server = c.self.inside.server || args.ns; starts = c.self.inside.starts; nodes = slice_set c.push.new.self.items at c.adopt.new.self; pairs = c.add.new.self }
-    ≡ record m { server = m.server || args.ns; nodes = slice_set (m.nodes ++ born ∷ []) at c.adopt.new.self; pairs = m.pairs ++ pair ∷ [] } =
-    ap (λ (m : MachineView). record m { server = m.server || args.ns; nodes = slice_set c.push.new.self.items at c.adopt.new.self; pairs = c.add.new.self }) c.self.view_is
-    ∙ ap (λ (nodes : List NodeView). record m { server = m.server || args.ns; nodes = slice_set nodes at c.adopt.new.self; pairs = c.add.new.self }) pushed
-    ∙ ap (λ (pairs : List Pair). record m { server = m.server || args.ns; nodes = slice_set (m.nodes ++ born ∷ []) at c.adopt.new.self; pairs = pairs }) pairs in
+    let kept : record { pool = c.self.inside.pool; server = c.self.inside.server || args.ns; holder = c.holder_after-self-inside.result; starts = c.self.inside.starts; nodes = slice_set c.push.new.self.items at c.adopt.new.self; pairs = c.add.new.self }
+    ≡ borne_with m args.child args.kind args.parent args.blocks.now args.ns node parent (slice_set (m.nodes ++ born ∷ []) at c.adopt.new.self) (m.pairs ++ pair ∷ []) =
+    ap (λ (e : Enclave). record { pool = c.self.inside.pool; server = c.self.inside.server || args.ns; holder = e; starts = c.self.inside.starts; nodes = slice_set c.push.new.self.items at c.adopt.new.self; pairs = c.add.new.self }) c.holder_after-self-inside.ensures
+    ∙ ap (λ (m : MachineView). record m { server = m.server || args.ns; holder = holder_after m args.child args.ns; nodes = slice_set c.push.new.self.items at c.adopt.new.self; pairs = c.add.new.self }) c.self.view_is
+    ∙ ap (λ (nodes : List NodeView). record m { server = m.server || args.ns; holder = holder_after m args.child args.ns; nodes = slice_set nodes at c.adopt.new.self; pairs = c.add.new.self }) pushed
+    ∙ ap (λ (pairs : List Pair). record m { server = m.server || args.ns; holder = holder_after m args.child args.ns; nodes = slice_set (m.nodes ++ born ∷ []) at c.adopt.new.self; pairs = pairs }) pairs in
     record {
       lines = on_ok_weaker c.adopt.result (borne_are m args.child args.kind args.parent args.blocks.now args.ns node parent args.out.now c.boot.new.out c.adopt.new.out told) c.adopt.ensures.lines;
       after = on_ok_weaker c.adopt.result (λ is. kept ∙ birth_is m args.child args.kind args.parent args.blocks.now args.ns node parent born c.adopt.new.self pair c.requires.born made is paired) c.adopt.ensures.after;

@@ -1,7 +1,9 @@
-use Rattle.std.proofs.Common.{◌≡◌, ◌<◌, [], length, drop, slice_get, refl, sym, ap, ◌∙◌, arith, length-drop}
+use Rattle.std.proofs.Common.{◌≡◌, ◌<◌, ◌≤◌, ℕ, List, [], length, drop, subst, slice_get, refl, sym, ap, ◌∙◌, arith, length-drop}
 use Rattle.std.specs.Prelude.{Some}
 use Rattle.std.proofs.lemmas.List.{take_rest}
 use Rattle.xemem_wire.specs.Table.{u32_at}
+use Rattle.xemem_wire.specs.Faults.{kind_at}
+use Rattle.xemem_wire.specs.Fields.{length_of_kind}
 use Rattle.xemem_wire.specs.Stream.{record_at, records_of}
 use Rattle.xemem_wire.proofs.KeptLemmas.{kept_done, without_none, GivesNext, gives_next, given_next}
 use Rattle.xemem_wire.proofs.decoder.Decoder.next.Goals as goal
@@ -21,7 +23,8 @@ pub record_in-rec-requires : goal.record_in-rec-requires
 record_in-rec-requires c =
     let less : c.self.inside.given < c.self.inside.whole = omega arith in
     let g = gives_next c.self.inside.bytes.items c.self.inside.given c.self.inside.whole _ c.self.inside.bad c.self.invariant less refl in
-    rw take_rest (omega (arith, length-drop c.self.inside.given c.deref.result.now, g.long, ap length c.deref.ensures.value))
+    subst (λ (xs : List ℕ). length_of_kind (kind_at xs) ≤ length xs)
+    (sym (take_rest c.deref.result.now c.self.inside.given ∙ ap (drop c.self.inside.given) c.deref.ensures.value)) g.whole_long
 
 pub u32_at-requires : goal.u32_at-requires
 u32_at-requires c =

@@ -1,0 +1,5 @@
+pub mod TableLemmas
+pub mod SeenLemmas
+pub mod WaitingLemmas
+pub mod KeptLemmas
+pub mod SearchLemmas

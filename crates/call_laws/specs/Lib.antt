@@ -1,0 +1,7 @@
+pub mod Cells
+pub mod Legal
+pub mod One
+pub mod Flights
+pub mod Roads
+pub mod Onward
+pub mod Laws

@@ -1,0 +1,11 @@
+//! What makes and removes do: each of their lines is lawful by the lines before it, of each call at most one record is under way,
+//! and segids are drawn upwards, each once.
+//!
+//! Each law is the contract of a function that does nothing, which a crate above calls to have it.
+#![tactic(auto)]
+
+mod laws;
+
+pub use laws::{
+    calls_are_legal, cells_are_true, records_are_single, roads_are_known, segids_are_one,
+};

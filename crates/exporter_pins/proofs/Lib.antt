@@ -1,0 +1,6 @@
+pub mod QueueLemmas
+pub mod PairLemmas
+pub mod FrameLemmas
+pub mod KeptLemmas
+pub mod LowestLemmas
+pub mod TableLemmas

@@ -1,0 +1,126 @@
+-- What is kept beside the frames and the exports, and how it goes with them.
+use Rattle.std.specs.Prelude.{◌≡◌, ◌<◌, ◌≤◌, ℕ, nat_lt, nat_le, ◌==◌, Bool, true, false, not, ◌&&◌, List, length, Option, None, Some, IsSome, is_some, if◌then◌else◌}
+use Rattle.std.specs.List.{list_any, count_by, sum_by, filter}
+use Rattle.std.specs.Map.{lookup, values_of}
+use Rattle.std.specs.Option.{unwrap_or}
+use Rattle.std.specs.declared.ops.Bound.{Bound}
+use Rattle.std.specs.declared.ops.Bound.TheVariants.{Included, Excluded}
+use Rattle.xm_num.specs.Rows.{at, IsAscending}
+use Rattle.xm_num.specs.declared.Frame.{Frame}
+use Rattle.exporter_pins.specs.Holdings.{Export, AreAscendingFrames, has_frame, is_free_frame, free_among}
+
+-- a queue of numbers, and for how many it has room
+pub record Queue : Type 0 where
+  pub items : List ℕ
+  pub room : ℕ
+
+-- names of calls, and for how many more there is room
+pub record Names : Type 0 where
+  pub entries : List (ℕ × ℕ)
+  pub spare : ℕ
+
+-- how often the number stands in the list
+abbrev pub times : List ℕ → ℕ → ℕ
+times xs k = count_by (λ x. x == k) xs
+
+-- the pair is one of these
+abbrev pub has_pair : List (ℕ × ℕ) → ℕ → ℕ → Bool
+has_pair pairs a b = list_any (λ pair. (pair.0 == a) && (pair.1 == b)) pairs
+
+-- it is above the last one, where there is a last one
+abbrev pub is_after_last : Option ℕ → ℕ → Bool
+is_after_last None b = true
+is_after_last (Some a) b = nat_lt a b
+
+-- where the pairs begin with this first number and a second one above the last one
+abbrev pub start_of : ℕ → Option ℕ → Bound (ℕ × ℕ)
+start_of first None = Included (first, 0)
+start_of first (Some a) = Excluded (first, a)
+
+-- what has that name
+abbrev pub name_at : List (ℕ × ℕ) → ℕ → Option ℕ
+name_at entries n = lookup (λ k. n == k) entries
+
+-- the frames, the process that has each, and how many exports have each
+pub record FrameUse : Type 0 where
+  pub frames : List Frame
+  pub owners : List (ℕ × ℕ)
+  pub covers : List (ℕ × ℕ)
+
+-- how often the frame stands in the list
+abbrev pub frame_times : List Frame → ℕ → ℕ
+frame_times frames k = count_by (λ frame. frame.0 == k) frames
+
+-- how many exports have the frame
+abbrev pub cover_at : List (ℕ × ℕ) → ℕ → ℕ
+cover_at covers k = unwrap_or (at covers k) 0
+
+abbrev pub has_cover : List (ℕ × ℕ) → ℕ → Bool
+has_cover covers k = not (cover_at covers k == 0)
+
+abbrev pub is_owner : ℕ → Option ℕ → Bool
+is_owner pid None = false
+is_owner pid (Some owner) = owner == pid
+
+-- the free ones of these frames
+abbrev pub free_in : FrameUse → List Frame
+free_in u = free_among u.frames u.owners (has_cover u.covers)
+
+-- the queue has those of the frames that are free, each once, and room for all frames
+pub record IsQueued (frames : List Frame) (free : ℕ → Bool) (queue : Queue) : Type 0 where
+  pub room : length frames ≤ queue.room
+  pub counted : length queue.items ≡ length (filter (λ frame. free frame.0) frames)
+  pub queued : (k : ℕ) → times queue.items k ≡ (if has_frame frames k && free k then 1 else 0)
+
+-- what is kept with the frames: the free ones in a queue, and those of each process as pairs
+pub record IsIndexed (u : FrameUse) (queue : Queue) (pairs : List (ℕ × ℕ)) : Type 0 where
+  pub ascending : AreAscendingFrames u.frames
+  pub rows : IsAscending u.owners
+  pub free : IsQueued u.frames (is_free_frame u.owners (has_cover u.covers)) queue
+  pub owned : (k : ℕ) → IsSome (at u.owners k) → has_frame u.frames k ≡ true
+  pub covered : (k : ℕ) → 0 < cover_at u.covers k → has_frame u.frames k ≡ true
+  pub indexed : (pid k : ℕ) → has_pair pairs pid k ≡ is_owner pid (at u.owners k)
+
+-- how often exports have the frame
+abbrev pub cover_sum : List (ℕ × Export) → ℕ → ℕ
+cover_sum exports k = sum_by (λ e. frame_times e.frames k) (values_of exports)
+
+-- how many exports aren't live
+abbrev pub asked_count : List (ℕ × Export) → ℕ
+asked_count exports = sum_by (λ e. if is_some e.segid then 0 else 1) (values_of exports)
+
+abbrev pub segid_in : Option Export → Option ℕ
+segid_in None = None
+segid_in (Some e) = e.segid
+
+-- the process asked for the export
+abbrev pub is_made_by : ℕ → Option Export → Bool
+is_made_by pid None = false
+is_made_by pid (Some e) = e.pid == pid
+
+-- the calls of each process
+abbrev pub AreMade : List (ℕ × Export) → List (ℕ × ℕ) → Type 0
+AreMade exports made = (pid call : ℕ) → has_pair made pid call ≡ is_made_by pid (at exports call)
+
+-- the lower of two numbers, where there are some
+abbrev pub lower_of : Option ℕ → Option ℕ → Option ℕ
+lower_of None b = b
+lower_of (Some a) None = Some a
+lower_of (Some a) (Some b) = if nat_lt b a then Some b else Some a
+
+-- there is a number, and it is at most that one
+abbrev pub is_at_most : Option ℕ → ℕ → Bool
+is_at_most None n = false
+is_at_most (Some m) n = nat_le m n
+
+-- the names are those of the live exports, so no two have one, and there is room for those of the others
+pub record IsTable (exports : List (ℕ × Export)) (names : Names) (asked : ℕ) : Type 0 where
+  pub ascending : IsAscending exports
+  pub named : (n call : ℕ) → name_at names.entries n ≡ Some call → segid_in (at exports call) ≡ Some n
+  pub live : (n call : ℕ) → segid_in (at exports call) ≡ Some n → name_at names.entries n ≡ Some call
+  pub counted : asked ≡ asked_count exports
+  pub room : asked ≤ names.spare
+
+-- the covers of the frames are those of the exports
+abbrev pub AreCounted : List (ℕ × ℕ) → List (ℕ × Export) → Type 0
+AreCounted covers exports = (k : ℕ) → cover_at covers k ≡ cover_sum exports k
