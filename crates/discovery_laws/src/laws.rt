@@ -11,9 +11,7 @@ ghost use Rattle.discovery_laws.specs.Laws.{DiscoveryLaws};
 ghost use Rattle.discovery_laws.specs.Ways.{IsLeading, ways_in};
 ghost use Rattle.discovery_laws.specs.Once.{IsOnce};
 
-use global_model::{
-    journals_are_carried, journals_are_in_steps, pasts_grow, trees_have_paths,
-};
+use global_model::{journals_are_carried, journals_are_in_steps, pasts_grow, trees_have_paths};
 use xm_num::Enclave;
 use xm_num::laws::{row_laws, rows};
 

@@ -30,7 +30,7 @@ use Rattle.frame_pool.specs.declared.BlockState.{BlockState}
 use Rattle.frame_pool.specs.declared.BlockState.TheVariants as states
 use Rattle.attach_map.specs.Attaching.{ProcessState}
 use Rattle.enclave_rules.specs.View.{View, own_lines}
-use Rattle.enclave_rules.specs.Steps.{refusal, process_at, unused_in, own_lines_of, alloc_lines, state_line, state_lines}
+use Rattle.enclave_rules.specs.Steps.{process_at, unused_in, own_lines_of, alloc_lines, state_line, state_lines}
 use Rattle.enclave_rules.specs.Calls.{at_hand, call_lines, refused_or, show_lines, IsOwnCause, IsShowLine, AreCallLines, AreShowLines}
 
 cond_case : (P : List Line → Type 0) (b : Bool) (ls ms : List Line) → P ls → P ms → P (cond b ls ms)
@@ -119,7 +119,7 @@ unready_found v p =
 
 region_found : (addr size : ℕ) → MayRefuse (region_refusal addr size)
 region_found addr size = by (not (addr % page_bytes == 0) || not (size % page_bytes == 0)) (size == 0) (nat_lt most_pages (size / page_bytes))
-        ((addr / page_bytes == 0) || nat_lt last_page (addr / page_bytes + (size / page_bytes - 1)))
+    ((addr / page_bytes == 0) || nat_lt last_page (addr / page_bytes + (size / page_bytes - 1)))
   where
     by : (a b c d : Bool) → MayRefuse (if a then Some causes.BadAlign else (if b then Some causes.BadRange else (if c then Some causes.TooLarge
         else (if d then Some causes.BadRange else None))))

@@ -5,7 +5,6 @@ use Rattle.std.specs.Option.{option_map_or}
 use Rattle.xm_num.specs.declared.CallNo.{CallNo}
 use Rattle.xm_num.specs.declared.Frame.{Frame}
 use Rattle.xm_num.specs.declared.Page.{Page}
-use Rattle.xm_num.specs.declared.Pid.{Pid}
 use Rattle.xm_num.specs.declared.Segid.{Segid}
 use Rattle.xm_num.specs.Rows.{at, less, put}
 use Rattle.xm_num.specs.Sizes.{page_bytes}

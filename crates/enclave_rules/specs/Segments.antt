@@ -1,8 +1,7 @@
 -- What an enclave writes for makes and removes, and for the records that serve them.
-use Rattle.std.specs.Prelude.{◌+◌, ◌-◌, ◌/◌, ◌%◌, ℕ, List, [], ◌∷◌, ◌++◌, Bool, ◌&&◌, ◌||◌, not, ◌==◌, nat_lt, if◌then◌else◌, Option, None, Some, is_none, true, false, map}
+use Rattle.std.specs.Prelude.{◌+◌, ◌-◌, ◌/◌, ◌%◌, ℕ, List, [], ◌∷◌, Bool, ◌&&◌, ◌||◌, not, ◌==◌, nat_lt, if◌then◌else◌, Option, None, Some, is_none, true, false, map}
 use Rattle.std.specs.List.{list_all, range_with_len}
-use Rattle.std.specs.Option.{option_map, option_map_or}
-use Rattle.xm_num.specs.declared.CallNo.{CallNo}
+use Rattle.std.specs.Option.{option_map_or}
 use Rattle.xm_num.specs.declared.Cause.{Cause}
 use Rattle.xm_num.specs.declared.Cause.TheVariants as causes
 use Rattle.xm_num.specs.declared.Enclave.{Enclave}
@@ -11,8 +10,6 @@ use Rattle.xm_num.specs.declared.Pid.{Pid}
 use Rattle.xm_num.specs.declared.Segid.{Segid}
 use Rattle.xm_num.specs.Rows.{at}
 use Rattle.xm_num.specs.Sizes.{page_bytes, most_pages, last_page}
-use Rattle.xemem_language.specs.declared.call.Call.{Call}
-use Rattle.xemem_language.specs.declared.call.ProcessCall.{ProcessCall}
 use Rattle.xemem_language.specs.declared.record.Record.{Record}
 use Rattle.xemem_language.specs.declared.record.Body.TheVariants as bodies
 use Rattle.xemem_language.specs.declared.line.Line.{Line}
@@ -23,7 +20,7 @@ use Rattle.attach_map.specs.declared.Waiting.{Waiting}
 use Rattle.attach_map.specs.Attaching.{ProcessState}
 use Rattle.exporter_pins.specs.Holdings.{Export, is_asked, live_export}
 use Rattle.name_server.specs.Names.{has_name}
-use Rattle.enclave_rules.specs.Hand.{Hand, Calls}
+use Rattle.enclave_rules.specs.Hand.{Hand}
 use Rattle.enclave_rules.specs.Memory.{is_busy}
 use Rattle.enclave_rules.specs.Exports.{segid_number, is_segid}
 use Rattle.enclave_rules.specs.Names.{can_draw, segid_of, next_segid}
@@ -60,8 +57,8 @@ takes_name v call segid waiting =
 abbrev pub named_lines : View → ℕ → Segid → List Line
 named_lines v call segid =
     option_map_or (λ waiting. if takes_name v call segid waiting
-        then lines.Named v.me (record { 0 = call }) segid ∷ lines.AnswerSegid v.me waiting.pid (record { 0 = call }) segid ∷ []
-        else drop_lines v)
+    then lines.Named v.me (record { 0 = call }) segid ∷ lines.AnswerSegid v.me waiting.pid (record { 0 = call }) segid ∷ []
+    else drop_lines v)
     (at v.memory.waiting call) (drop_lines v)
 
 -- ---- at the name server's enclave

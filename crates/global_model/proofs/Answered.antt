@@ -156,10 +156,10 @@ admitted_is (Some fact) = refl
 -- the conditions of a make in their order, and the refusals by a view
 make_chain : (ready busy align empty large outside owned : Bool) (acts : List Line)
     → option_map_or (λ c. lines.Refused c ∷ []) (cond (not ready) (Some causes.NotReady) (cond busy (Some causes.Busy) (cond align (Some causes.BadAlign)
-        (cond empty (Some causes.BadRange) (cond large (Some causes.TooLarge) (cond outside (Some causes.BadRange) (cond (not owned) (Some causes.NotMapped) None))))))) acts
+    (cond empty (Some causes.BadRange) (cond large (Some causes.TooLarge) (cond outside (Some causes.BadRange) (cond (not owned) (Some causes.NotMapped) None))))))) acts
     ≡ refused_or (cond (not ready) (Some causes.NotReady) (cond busy (Some causes.Busy) None))
-        (refused_or (option_map_or (λ cause. Some cause) (cond align (Some causes.BadAlign) (cond empty (Some causes.BadRange) (cond large (Some causes.TooLarge)
-            (cond outside (Some causes.BadRange) None)))) (cond owned None (Some causes.NotMapped))) acts)
+    (refused_or (option_map_or (λ cause. Some cause) (cond align (Some causes.BadAlign) (cond empty (Some causes.BadRange) (cond large (Some causes.TooLarge)
+    (cond outside (Some causes.BadRange) None)))) (cond owned None (Some causes.NotMapped))) acts)
 make_chain false busy align empty large outside owned acts = refl
 make_chain true true align empty large outside owned acts = refl
 make_chain true false true empty large outside owned acts = refl
@@ -175,13 +175,13 @@ make_answered G e p addr size mode =
     where_lives G e _ _ _ (λ living. where_runs G e p _ _ _ (λ process is.
     rw (admitted_is (G.enclave e.0), pages_are G e.0 p.0 process is)
     (make_chain (fact_of (G.enclave e.0)).admitted (is_busy (G.memory e.0) p.0) (is_misaligned addr size) (eqb size 0) (ltb most_pages (size / page_bytes)) (is_outside addr size)
-        (are_own_pages process.pages (addr / page_bytes) (size / page_bytes)) _)))
+    (are_own_pages process.pages (addr / page_bytes) (size / page_bytes)) _)))
 
 remove_chain : (ready busy : Bool) (p : ℕ) (found : Option (ℕ × Export)) (acts : List Line)
     → option_map_or (λ c. lines.Refused c ∷ []) (cond (not ready) (Some causes.NotReady) (cond busy (Some causes.Busy) (cond (not (is_some found)) (Some causes.NoSegment)
-        (cond (not (option_map_or (λ row. eqb row.1.pid p) found false)) (Some causes.NotOwner) None)))) acts
+    (cond (not (option_map_or (λ row. eqb row.1.pid p) found false)) (Some causes.NotOwner) None)))) acts
     ≡ refused_or (cond (not ready) (Some causes.NotReady) (cond busy (Some causes.Busy) None))
-        (refused_or (option_map_or (λ row. cond (eqb row.1.pid p) None (Some causes.NotOwner)) found (Some causes.NoSegment)) acts)
+    (refused_or (option_map_or (λ row. cond (eqb row.1.pid p) None (Some causes.NotOwner)) found (Some causes.NoSegment)) acts)
 remove_chain false busy p found acts = refl
 remove_chain true true p found acts = refl
 remove_chain true false p None acts = refl

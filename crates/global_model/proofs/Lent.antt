@@ -150,5 +150,5 @@ unused_seen G e living plain lent =
     let used : ℕ → Bool = λ f. is_used (G.memory e) f || is_covered (G.exports e) f in
     let same : filter (is_unused G e) (range_with_len 0 (64 * G.pool)) ≡ filter (λ f. lent_to (f / 64) && not (used f)) (range_with_len 0 (64 * G.pool))
     = filter_run-same (is_unused G e) (λ f. lent_to (f / 64) && not (used f)) 0 (64 * G.pool)
-        (λ f low high. rw (living, own_is_used G e f plain, exported_seen G e f plain) refl) in
+    (λ f low high. rw (living, own_is_used G e f plain, exported_seen G e f plain) refl) in
     ap frame_list same ∙ frames_passing lent_to (λ f. not (used f)) G.pool ∙ ap (λ bs. unused bs (G.memory e) (G.exports e)) (sym lent)

@@ -48,8 +48,7 @@ pub tells_names : (P : Line → Type 0) → ((segid : Segid) (owner : Enclave) �
     → All (λ n. n ≤ 9223372036854775807) (keys_of pairs) → EachIs P (name_rows pairs)
 tells_names P name [] ranges = tt
 tells_names P name (row ∷ pairs) ranges =
-    let range = All-head (λ n. n ≤ 9223372036854775807) row.0 (keys_of pairs) ranges in
-    (
+    let range = All-head (λ n. n ≤ 9223372036854775807) row.0 (keys_of pairs) ranges in (
       name (segid_of row.0) row.1 (omega (arith, ints), omega (arith, ints, range)),
       tells_names P name pairs (All-tail (λ n. n ≤ 9223372036854775807) row.0 (keys_of pairs) ranges),
     )
