@@ -29,3 +29,4 @@ mod Numbers
 mod Journals
 mod Idles
 mod Placed
+mod Resting

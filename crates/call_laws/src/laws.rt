@@ -6,11 +6,12 @@ ghost use Rattle.global_model.specs.Facts.{after_lines, facts_after, no_facts};
 ghost use Rattle.global_model.specs.Journals.{onto};
 ghost use Rattle.global_model.specs.Pauses.{AreSteps, Step, written_in};
 ghost use Rattle.global_model.specs.Place.{IsPlaced};
+ghost use Rattle.global_model.specs.Rest.{IsAtRest};
 ghost use Rattle.call_laws.specs.Flights.{AreSingle};
 ghost use Rattle.call_laws.specs.Laws.{CallLaws};
 ghost use Rattle.call_laws.specs.Legal.{AreCalls};
 ghost use Rattle.call_laws.specs.One.{AreCellsTrue, AreSegidsOne};
-ghost use Rattle.call_laws.specs.Places.{HaveSegids, ArePlacedCalls, HasRoom};
+ghost use Rattle.call_laws.specs.Places.{ArePlacedCalls, HasRoom, HaveSegids, IsEven};
 ghost use Rattle.call_laws.specs.Roads.{AreReady};
 
 use attach_map::Waiting;
@@ -91,6 +92,15 @@ pub fn makes_have_places()
         → ArePlacedCalls (onto (journal_of commands) []) }
     ensures pauses { (steps : List Step) → AreSteps no_facts steps → HasRoom (onto (written_in no_facts steps) [])
         → HaveSegids (onto (written_in no_facts steps) []) → ArePlacedCalls (onto (written_in no_facts steps) []) }
+{
+    laws();
+}
+
+/// Where nothing waits in any channel no call waits either, and the name server's names are those of the live segments, each with the
+/// enclave that has it: so every make has been answered, and every removed segid forgotten. There is room for segids and calls.
+pub fn rest_is_even()
+    ensures { (commands : List Commands) → IsPlaced commands → HasRoom (onto (journal_of commands) [])
+        → IsAtRest (facts_after (journal_of commands)) → IsEven (onto (journal_of commands) []) }
 {
     laws();
 }
