@@ -45,7 +45,7 @@ use Rattle.call_laws.proofs.Handled.{IsNameable, may_forget, goes_forgotten, goe
 
 -- ---- a command that isn't refused
 
-none_holds : (conditions : List Condition) → first_cause conditions ≡ None → AllByRecursion (λ condition. condition.holds ≡ false) conditions
+pub none_holds : (conditions : List Condition) → first_cause conditions ≡ None → AllByRecursion (λ condition. condition.holds ≡ false) conditions
 none_holds [] is = tt
 none_holds (condition ∷ conditions) is = by (λ more. none_holds conditions more) condition.holds refl is
   where
@@ -55,11 +55,11 @@ none_holds (condition ∷ conditions) is = by (λ more. none_holds conditions mo
     by later true holds is = cc
     by later false holds is = (holds, later is)
 
-is_not : (t : Bool) → not t ≡ false → t ≡ true
+pub is_not : (t : Bool) → not t ≡ false → t ≡ true
 is_not true is = refl
 is_not false is = cc
 
-some_same : {A : Type 0} {a b : A} → Some a ≡ Some b → a ≡ b
+pub some_same : {A : Type 0} {a b : A} → Some a ≡ Some b → a ≡ b
 some_same is = cc
 
 pub asked_runs : (G : Facts) (command : Command) (e : Enclave) (p : Pid) (call : Call) → call_of command ≡ Some (record { enclave = e; pid = p; call = call })
@@ -126,7 +126,7 @@ module _ (rows : CallRows) (past : List Line) (e : Enclave) (p : Pid) (hand : Ha
   abbrev pub issued : List Line
   issued = issue_line (view_of (facts_at past) e) p ∷ past
 
-  new : (cells past e.0 k).issued ≡ false
+  pub new : (cells past e.0 k).issued ≡ false
   new = (tied.memory e.0).fresh k (omega arith)
 
   -- no record of it is under way
@@ -160,14 +160,14 @@ module _ (rows : CallRows) (past : List Line) (e : Enclave) (p : Pid) (hand : Ha
       by r (bodies.Unname segid) tells = unissued r.origin.0 r.call tells.issued (eqb r.origin.0 e.0 && eqb r.call k) refl
       by r _ tells = refl
 
-  cell_issued : cells issued e.0 k ≡ as_issued p.0 (cells past e.0 k)
+  pub cell_issued : cells issued e.0 k ≡ as_issued p.0 (cells past e.0 k)
   cell_issued = ap (λ t. cond t (as_issued p.0 (cells past e.0 k)) (cells past e.0 k)) (is_cell_itself e.0 k)
 
   -- the segid is drawn at once where the enclave holds the name server
   abbrev pub drawn : List Line
   drawn = drew_line (view_of (facts_at past) e) e k ∷ issued
 
-  cell_drawn : cells drawn e.0 k ≡ as_drawn (segid_number (next_segid v.names)) (as_issued p.0 (cells past e.0 k))
+  pub cell_drawn : cells drawn e.0 k ≡ as_drawn (segid_number (next_segid v.names)) (as_issued p.0 (cells past e.0 k))
   cell_drawn = ap (λ t. cond t (as_drawn (segid_number (next_segid v.names)) (cells issued e.0 k)) (cells issued e.0 k)) (is_cell_itself e.0 k)
       ∙ ap (as_drawn (segid_number (next_segid v.names))) cell_issued
 
@@ -268,7 +268,7 @@ module _ (rows : CallRows) (past : List Line) (e : Enclave) (segid : Segid) (tie
   abbrev pub made : ℕ
   made = first.first.0
 
-  live : IsLive (cells past e.0 made) s
+  pub live : IsLive (cells past e.0 made) s
   live = by found.has first.first.1.segid refl found.passes
     where
       found : IsFound (IsLiveRow (cells past e.0)) (λ row. has_segid (segid_number segid) row.1.segid) first.first
@@ -279,7 +279,7 @@ module _ (rows : CallRows) (past : List Line) (e : Enclave) (segid : Segid) (tie
       by has None is passes = cc
       by has (Some own) is passes = has s (is ∙ ap (λ n. Some n) (eqb-true own s passes))
 
-  issued_once : (cells past e.0 made).issued ≡ true
+  pub issued_once : (cells past e.0 made).issued ≡ true
   issued_once = elim (cases_Bool (cells past e.0 made).issued) [
     | inl is ↦ is
     | inr none ↦ absurd (let clash : false ≡ true = sym (ap (λ c. c.near) (tied.blank e.0 made none)) ∙ live.near in cc)
@@ -302,7 +302,7 @@ module _ (rows : CallRows) (past : List Line) (e : Enclave) (segid : Segid) (tie
   abbrev pub removed : List Line
   removed = lines.Remove e segid ∷ past
 
-  cell_removed : cells removed e.0 made ≡ as_near false (cells past e.0 made)
+  pub cell_removed : cells removed e.0 made ≡ as_near false (cells past e.0 made)
   cell_removed = rw (eq-eqb e.0 e.0 refl, drawn_has s (cells past e.0 made) live.drawn) refl
 
   ended : IsEnded (cells removed e.0 made) s

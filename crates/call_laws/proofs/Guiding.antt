@@ -422,9 +422,9 @@ guides_step rows tree G (Bears child kind parent ns blocks) pause may roads lead
 
 -- ---- along all steps
 
-record IsWalked (done : List Step) (G : Facts) : Type 0 where
-  are : AreSteps no_facts done
-  is : after_lines no_facts (written_in no_facts done) ≡ G
+pub record IsWalked (done : List Step) (G : Facts) : Type 0 where
+  pub are : AreSteps no_facts done
+  pub is : after_lines no_facts (written_in no_facts done) ≡ G
 
 steps_append : (laws : CallLaws) (F : Facts) (done : List Step) (step : Step) → AreSteps F done
     → IsPause (after_lines F (written_in F done)) → MayCome (after_lines F (written_in F done)) step → AreSteps F (done ++ step ∷ [])
@@ -443,14 +443,14 @@ written_append laws F (first ∷ done) step =
     laws.after F (written_by F first) (written_in G (done ++ step ∷ [])) ∙ written_append laws G done step
     ∙ ap (λ H. after_lines H (written_by H step)) (sym same)
 
-walked_more : (laws : CallLaws) (done : List Step) (G : Facts) (step : Step) → IsWalked done G → IsPause G → MayCome G step
+pub walked_more : (laws : CallLaws) (done : List Step) (G : Facts) (step : Step) → IsWalked done G → IsPause G → MayCome G step
     → IsWalked (done ++ step ∷ []) (after_lines G (written_by G step))
 walked_more laws done G step walked pause may = record {
   are = steps_append laws no_facts done step walked.are (subst IsPause (sym walked.is) pause) (subst (λ H. MayCome H step) (sym walked.is) may);
   is = written_append laws no_facts done step ∙ ap (λ H. after_lines H (written_by H step)) walked.is;
 }
 
-leading_at : (laws : CallLaws) (done : List Step) (G : Facts) → IsWalked done G → IsLeading G
+pub leading_at : (laws : CallLaws) (done : List Step) (G : Facts) → IsWalked done G → IsLeading G
 leading_at laws done G walked = subst IsLeading walked.is (laws.leads done walked.are)
 
 all_roads : (laws : CallLaws) (steps done : List Step) (G : Facts) → IsWalked done G → AreSteps G steps → AreRoads G → AreRoads (after_lines G (written_in G steps))
@@ -462,7 +462,7 @@ all_roads laws (step ∷ steps) done G walked are roads =
     subst AreRoads (sym (laws.after G (written_by G step) (written_in H steps)))
     (all_roads laws steps (done ++ step ∷ []) H next are.2 (roads_lines laws.rows.names laws.tree G (written_by G step) guides roads))
 
-no_roads : (laws : CallLaws) → AreRoads no_facts
+pub no_roads : (laws : CallLaws) → AreRoads no_facts
 no_roads laws = record {
   tells = λ a b. tt;
   backs = λ a d x is. absurd (let none = laws.rows.names.none d in cc);

@@ -37,11 +37,11 @@ use Rattle.call_laws.proofs.Tied.{AreAside, GoesOn, IsPlainBody, IsTied, calm_na
 
 -- ---- records that say nothing of calls
 
-aside_either : (t : Bool) (ls ms : List Line) → AreAside ls → AreAside ms → AreAside (cond t ls ms)
+pub aside_either : (t : Bool) (ls ms : List Line) → AreAside ls → AreAside ms → AreAside (cond t ls ms)
 aside_either true ls ms left right = left
 aside_either false ls ms left right = right
 
-aside_over : (v : View) (came over : Option Enclave) (r : Record) → IsPlainBody r.body → AreAside (over_lines v came over r)
+pub aside_over : (v : View) (came over : Option Enclave) (r : Record) → IsPlainBody r.body → AreAside (over_lines v came over r)
 aside_over v came None r plain = (tt, tt)
 aside_over v came (Some over) r plain =
     aside_either (option_map_or (λ from. eqb over.0 from.0) came false) (drop_lines v) (lines.Sent v.me over r ∷ []) (tt, tt) (plain, tt)
@@ -60,7 +60,7 @@ aside_admit v from r (Some d) plain =
     aside_either (eqb d.0 v.me.0) (cond v.core.admitted (drop_lines v) (lines.Admitted v.me ∷ [])) (admit_over v from d r (at v.ways.backs d.0))
     (aside_either v.core.admitted (drop_lines v) (lines.Admitted v.me ∷ []) (tt, tt) (tt, tt)) (aside_admit_over v from d r (at v.ways.backs d.0) plain)
 
-aside_body : (v : View) (from : Enclave) (r : Record) (body : Body) → IsPlainBody r.body → IsPlainBody body → AreAside (body_lines v from r body)
+pub aside_body : (v : View) (from : Enclave) (r : Record) (body : Body) → IsPlainBody r.body → IsPlainBody body → AreAside (body_lines v from r body)
 aside_body v from r bodies.Query plain is =
     aside_either (knows_way v) (lines.Sent v.me from (here_of v.me) ∷ []) (lines.Asked v.me from ∷ []) (tt, tt) (tt, tt)
 aside_body v from r bodies.Here plain is =

@@ -16,4 +16,17 @@ mod Roads
 mod Guides
 mod Guiding
 mod Onward
+mod Bounds
+mod BoundSteps
+mod Room
+mod Idle
+mod IdleRecords
+mod IdleHandled
+mod IdleSteps
+mod IdleAsks
+mod IdleRemoves
+mod Numbers
 mod Journals
+mod Idles
+mod Placed
+mod Resting

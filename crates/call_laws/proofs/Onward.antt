@@ -1,5 +1,5 @@
 -- A record of a call goes straight to its goal.
-use Rattle.std.proofs.Common.{◌≡◌, ◌≢◌, ◌⊎◌, ◌+◌, ℕ, List, [], ◌∷◌, length, Bool, true, false, cond, ◌&&◌, eqb, Option, None, Some, is_some, inl, inr, refl, sym, ap, ◌∙◌, subst, arith}
+use Rattle.std.proofs.Common.{◌≡◌, ◌≢◌, ◌⊎◌, ◌+◌, ℕ, List, [], ◌∷◌, length, Bool, true, false, cond, ◌&&◌, eqb, Option, None, Some, is_some, inl, inr, refl, sym, ap, subst, arith}
 use Rattle.std.specs.List.{AllByRecursion}
 use Rattle.std.proofs.lemmas.Bool.{eqb-true, and_parts, or_cases}
 use Rattle.xm_num.specs.declared.Enclave.{Enclave}
@@ -9,14 +9,14 @@ use Rattle.xemem_language.specs.declared.line.Line.TheVariants as lines
 use Rattle.xemem_language.specs.declared.record.Record.{Record}
 use Rattle.xemem_language.specs.declared.record.Body.{Body}
 use Rattle.xemem_language.specs.declared.record.Body.TheVariants as bodies
-use Rattle.global_model.specs.Facts.{ChannelFact, Facts, after_line, after_lines, with_got, with_sent, with_taken}
+use Rattle.global_model.specs.Facts.{Facts, after_line, after_lines, with_got, with_sent, with_taken}
 use Rattle.global_model.specs.Tree.{IsRooted, distance, parent_of}
-use Rattle.discovery_laws.specs.Known.{holds, in_flight, knows, route_at, way_at}
+use Rattle.discovery_laws.specs.Known.{holds, knows, route_at, way_at}
 use Rattle.discovery_laws.specs.Ways.{IsLeading}
 use Rattle.call_laws.specs.Laws.{TreePaths}
 use Rattle.call_laws.specs.Onward.{IsForCaller, IsForServer, IsOnward, OnwardBy}
-use Rattle.call_laws.specs.Roads.{IsReachable, Reaches}
-use Rattle.call_laws.proofs.Rows.{all_append, all_more}
+use Rattle.call_laws.specs.Roads.{IsReachable}
+use Rattle.call_laws.proofs.Rows.{all_append}
 use Rattle.call_laws.proofs.Roads.{IsMore, Toward, road_more}
 use Rattle.call_laws.proofs.Guides.{pair_sents}
 

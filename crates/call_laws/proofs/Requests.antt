@@ -44,7 +44,7 @@ drop-more zero x (w ∷ ws) xs is = cc
 drop-more (suc n) x [] xs is = cc
 drop-more (suc n) x (w ∷ ws) xs is = let e : suc n + 1 ≡ suc (n + 1) = omega arith in rw e (drop-more n x ws xs is)
 
-same_pair : (G : Facts) (x y a b : ℕ) (rs : List Record) → (eqb a x && eqb b y) ≡ true → in_flight G x y ≡ rs → in_flight G a b ≡ rs
+pub same_pair : (G : Facts) (x y a b : ℕ) (rs : List Record) → (eqb a x && eqb b y) ≡ true → in_flight G x y ≡ rs → in_flight G a b ≡ rs
 same_pair G x y a b rs here is =
     let both = and_parts (eqb a x) (eqb b y) here in
     (λ i. in_flight G (eqb-true a x both.0 i) (eqb-true b y both.1 i)) ∙ is

@@ -28,7 +28,7 @@ use Rattle.call_laws.proofs.Flights.{next_flight}
 
 -- ---- lines by themselves
 
-aside_alone : (G : Facts) (line : Line) → MayStandAlone G line → IsAside line
+pub aside_alone : (G : Facts) (line : Line) → MayStandAlone G line → IsAside line
 aside_alone G (lines.Born e kind parent ns blocks) may = may
 aside_alone G (lines.Got x y) may = may
 aside_alone G (lines.Issue e p call) may = may
@@ -42,19 +42,19 @@ aside_alone G _ may = tt
 
 -- ---- births
 
-aside_append : (ls ms : List Line) → AreAside ls → AreAside ms → AreAside (ls ++ ms)
+pub aside_append : (ls ms : List Line) → AreAside ls → AreAside ms → AreAside (ls ++ ms)
 aside_append [] ms first more = more
 aside_append (l ∷ ls) ms first more = (first.0, aside_append ls ms first.1 more)
 
-aside_deaths : (child : Enclave) (heard : List Enclave) → AreAside (told_lines child heard)
+pub aside_deaths : (child : Enclave) (heard : List Enclave) → AreAside (told_lines child heard)
 aside_deaths child [] = tt
 aside_deaths child (d ∷ heard) = (tt, aside_deaths child heard)
 
-aside_child : (child parent : Enclave) (ns : Bool) → AreAside (child_lines child parent ns)
+pub aside_child : (child parent : Enclave) (ns : Bool) → AreAside (child_lines child parent ns)
 aside_child child parent true = (tt, tt)
 aside_child child parent false = (tt, tt)
 
-aside_adopt : (v : View) (child : Enclave) → AreAside (adopt_lines v child)
+pub aside_adopt : (v : View) (child : Enclave) → AreAside (adopt_lines v child)
 aside_adopt v child = by (knows_way v)
   where
     by : (t : Bool) → AreAside (cond t [] (lines.Sent v.me child (query_of v.me) ∷ []))

@@ -1,5 +1,5 @@
 -- The laws on which those of calls rest, as the functions of the crates below ensure them.
-use Rattle.std.specs.Prelude.{◌≡◌, ◌≤◌, ◌<◌, ◌+◌, ◌++◌, List, ℕ}
+use Rattle.std.specs.Prelude.{◌≡◌, ◌≤◌, ◌<◌, ◌+◌, ◌++◌, List, [], ℕ}
 use Rattle.xm_num.specs.declared.Enclave.{Enclave}
 use Rattle.xm_num.specs.RowLaws.{RowLaws}
 use Rattle.xemem_language.specs.declared.command.Command.{Command}
@@ -8,8 +8,10 @@ use Rattle.attach_map.specs.declared.Waiting.{Waiting}
 use Rattle.global_model.specs.Due.{journal_of}
 use Rattle.global_model.specs.Flow.{IsTree}
 use Rattle.global_model.specs.Tree.{IsRooted, IsToward, distance, parent_of}
-use Rattle.global_model.specs.Facts.{Facts, after_lines, facts_at, no_facts}
-use Rattle.global_model.specs.Journals.{onto}
+use Rattle.global_model.specs.Facts.{Facts, after_lines, facts_after, facts_at, no_facts}
+use Rattle.global_model.specs.Apt.{AptAt}
+use Rattle.global_model.specs.Flow.{IsFlowing}
+use Rattle.global_model.specs.Journals.{Follows, onto}
 use Rattle.global_model.specs.Pauses.{AreSteps, IsInSteps, Step, written_in}
 use Rattle.discovery_laws.specs.Ways.{IsLeading}
 use Rattle.global_model.specs.Place.{IsPlaced}
@@ -32,5 +34,7 @@ pub record CallLaws : Type 0 where
   pub after : (G : Facts) (journal lines : List Line) → after_lines G (journal ++ lines) ≡ after_lines (after_lines G journal) lines
   pub facts : (journal past : List Line) → facts_at (onto journal past) ≡ after_lines (facts_at past) journal
   pub steps : (commands : List Command) → IsPlaced commands → IsInSteps no_facts (journal_of commands)
+  pub flowing : (commands : List Command) → IsPlaced commands → IsFlowing (facts_after (journal_of commands))
+  pub apt : (commands : List Command) → IsPlaced commands → Follows AptAt [] (journal_of commands)
   pub leads : (steps : List Step) → AreSteps no_facts steps → IsLeading (after_lines no_facts (written_in no_facts steps))
   pub tree : TreePaths

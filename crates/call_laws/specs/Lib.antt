@@ -4,4 +4,5 @@ pub mod One
 pub mod Flights
 pub mod Roads
 pub mod Onward
+pub mod Places
 pub mod Laws

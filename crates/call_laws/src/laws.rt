@@ -6,15 +6,19 @@ ghost use Rattle.global_model.specs.Facts.{after_lines, facts_after, no_facts};
 ghost use Rattle.global_model.specs.Journals.{onto};
 ghost use Rattle.global_model.specs.Pauses.{AreSteps, Step, written_in};
 ghost use Rattle.global_model.specs.Place.{IsPlaced};
+ghost use Rattle.global_model.specs.Rest.{IsAtRest};
 ghost use Rattle.call_laws.specs.Flights.{AreSingle};
 ghost use Rattle.call_laws.specs.Laws.{CallLaws};
 ghost use Rattle.call_laws.specs.Legal.{AreCalls};
 ghost use Rattle.call_laws.specs.One.{AreCellsTrue, AreSegidsOne};
+ghost use Rattle.call_laws.specs.Places.{ArePlacedCalls, HasRoom, HaveSegids, IsEven};
 ghost use Rattle.call_laws.specs.Roads.{AreReady};
 
 use attach_map::Waiting;
 use discovery_laws::ways_lead;
-use global_model::{journals_are_in_steps, pasts_grow, trees_have_paths};
+use global_model::{
+    journals_are_apt, journals_are_carried, journals_are_in_steps, pasts_grow, trees_have_paths,
+};
 use xm_num::Enclave;
 use xm_num::laws::row_laws;
 
@@ -23,6 +27,8 @@ fn laws()
     ensures { CallLaws }
 {
     pasts_grow();
+    journals_are_apt();
+    journals_are_carried();
     journals_are_in_steps();
     trees_have_paths();
     ways_lead();
@@ -73,6 +79,28 @@ pub fn roads_are_known()
 pub fn records_are_single()
     ensures ended { (commands : List Commands) → IsPlaced commands → AreSingle (onto (journal_of commands) []) }
     ensures pauses { (steps : List Step) → AreSteps no_facts steps → AreSingle (onto (written_in no_facts steps) []) }
+{
+    laws();
+}
+
+/// No record of a call is lost: each call has one place, and it is there with what the place says (`StandsAt`). While it waits its request
+/// or its name is under way, and while its segid is to be forgotten so is the record that tells it; else none is. So it is wherever a
+/// command has ended, and at every pause between the steps of a journal, as long as there is room for segids and calls. A command
+/// has the segids that it removes in their range, and steps that come of no commands must.
+pub fn makes_have_places()
+    ensures ended { (commands : List Commands) → IsPlaced commands → HasRoom (onto (journal_of commands) [])
+        → ArePlacedCalls (onto (journal_of commands) []) }
+    ensures pauses { (steps : List Step) → AreSteps no_facts steps → HasRoom (onto (written_in no_facts steps) [])
+        → HaveSegids (onto (written_in no_facts steps) []) → ArePlacedCalls (onto (written_in no_facts steps) []) }
+{
+    laws();
+}
+
+/// Where nothing waits in any channel no call waits either, and the name server's names are those of the live segments, each with the
+/// enclave that has it: so every make has been answered, and every removed segid forgotten. There is room for segids and calls.
+pub fn rest_is_even()
+    ensures { (commands : List Commands) → IsPlaced commands → HasRoom (onto (journal_of commands) [])
+        → IsAtRest (facts_after (journal_of commands)) → IsEven (onto (journal_of commands) []) }
 {
     laws();
 }

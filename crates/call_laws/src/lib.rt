@@ -7,5 +7,6 @@
 mod laws;
 
 pub use laws::{
-    calls_are_legal, cells_are_true, records_are_single, roads_are_known, segids_are_one,
+    calls_are_legal, cells_are_true, makes_have_places, records_are_single, rest_is_even,
+    roads_are_known, segids_are_one,
 };
