@@ -1,5 +1,4 @@
 pub mod Follow
-pub mod Fronts
 pub mod Heard
 pub mod Counted
 pub mod Lending
@@ -11,5 +10,6 @@ pub mod Fit
 pub mod Steady
 pub mod Fitted
 pub mod Fitting
+pub mod Fronts
 pub mod Exported
 pub mod Unexported

@@ -1,4 +1,4 @@
--- Journals as histories: legal, carried, told, rested, found, lawful in their calls, and whole.
+-- Journals as histories: legal, carried, told, rested, found, lawful in their calls, answered, and whole.
 use Rattle.std.specs.Prelude.{◌≡◌, ◌++◌, List, [], None, Some, true}
 use Rattle.xemem_language.specs.declared.line.Line.{Line}
 use Rattle.xemem_language.specs.declared.line.Line.TheVariants as lines
@@ -9,6 +9,8 @@ use Rattle.global_model.specs.Facts.{facts_after}
 use Rattle.global_model.specs.Rest.{IsAtRest, IsRested}
 use Rattle.discovery_laws.specs.Known.{AreAdmitted}
 use Rattle.call_laws.specs.Legal.{AreCalls}
+use Rattle.call_laws.specs.Places.{IsEven}
+use Rattle.history_laws.specs.Fitting.{IsCountable}
 use Rattle.history_laws.specs.Lawful.{IsLegalAt}
 
 -- told: a `do` line stands where nothing is due, and every other line is the one that is due
@@ -32,6 +34,12 @@ abbrev pub IsFound : List Line → Type 0
 IsFound journal = (front rest : List Line) → journal ≡ front ++ rest → IsWhole front → IsAtRest (facts_after front)
     → (facts_after front).server ≡ true → AreAdmitted (facts_after front)
 
+-- answered: wherever nothing is due and nothing waits, each call has its answer, and the names are those of the live segments; as long
+-- as the journal isn't so long that numbers run out
+abbrev pub IsAnswered : List Line → Type 0
+IsAnswered journal = (front rest : List Line) → journal ≡ front ++ rest → IsWhole front → IsAtRest (facts_after front) → IsCountable front
+    → IsEven (onto front [])
+
 -- a lawful history
 pub record IsHistory (journal : List Line) : Type 0 where
   pub legal : IsLegal journal
@@ -40,3 +48,4 @@ pub record IsHistory (journal : List Line) : Type 0 where
   pub rested : IsRested journal
   pub found : IsFound journal
   pub calls : AreCalls journal
+  pub answered : IsAnswered journal

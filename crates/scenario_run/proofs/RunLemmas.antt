@@ -12,7 +12,8 @@ use Rattle.global_model.specs.Due.{journal_of}
 use Rattle.xemem_language.specs.Spelling.{text_of}
 use Rattle.global_model.specs.Journals.{do_commands}
 use Rattle.history_laws.specs.Fitting.{IsCountable}
-use Rattle.history_laws.specs.History.{IsFound, IsHistory}
+use Rattle.xm_num.specs.Rows.{at}
+use Rattle.history_laws.specs.History.{IsAnswered, IsFound, IsHistory}
 use Rattle.scenario_text.specs.Reading.{IsReadAs}
 use Rattle.scenario_text.specs.Typed.{IsTyped}
 use Rattle.scenario_text.specs.Words.{lines_of}
@@ -276,12 +277,18 @@ none_found : IsFound []
 none_found [] behind is whole still server = cc
 none_found (l ∷ ls) behind is whole still server = cc
 
+-- and no call
+none_answered : IsAnswered []
+unfolding at
+none_answered [] behind is whole still few = record { waits = λ e k. refl; named = λ e k s live. absurd (let none = live.stands in cc); lives = λ s of some. absurd (cc) }
+none_answered (l ∷ ls) behind is whole still few = cc
+
 pub no_run : (bytes : List ℕ) → IsRunSoFar bytes []
 no_run bytes = record {
   journal = [];
   text = refl;
   read = refl;
   commands = record { rest = (scenario_of bytes).commands; is = refl };
-  history = record { legal = tt; carried = tt; told = tt; rested = tt; found = none_found; calls = tt };
+  history = record { legal = tt; carried = tt; told = tt; rested = tt; found = none_found; calls = tt; answered = none_answered };
   whole = refl;
 }
