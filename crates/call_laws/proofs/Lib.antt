@@ -30,3 +30,5 @@ mod Journals
 mod Idles
 mod Placed
 mod Resting
+mod Counts
+mod Going

@@ -1,16 +1,18 @@
 // Laws of makes and removes: each is the contract of a function that does nothing, which a crate above calls to have it.
-ghost use Rattle.std.specs.Prelude.{List, []};
+ghost use Rattle.std.specs.Prelude.{◌<◌, ◌^◌, List, [], length};
 ghost use Rattle.xemem_language.specs.declared.command.Command.{Command as Commands};
+ghost use Rattle.xemem_language.specs.declared.line.Line.{Line as JournalLine};
 ghost use Rattle.global_model.specs.Due.{journal_of};
 ghost use Rattle.global_model.specs.Facts.{after_lines, facts_after, no_facts};
 ghost use Rattle.global_model.specs.Journals.{onto};
-ghost use Rattle.global_model.specs.Pauses.{AreSteps, Step, written_in};
+ghost use Rattle.global_model.specs.Pauses.{AreSteps, IsPause, Step, written_in};
 ghost use Rattle.global_model.specs.Place.{IsPlaced};
 ghost use Rattle.global_model.specs.Rest.{IsAtRest};
 ghost use Rattle.call_laws.specs.Flights.{AreSingle};
 ghost use Rattle.call_laws.specs.Laws.{CallLaws};
 ghost use Rattle.call_laws.specs.Legal.{AreCalls};
 ghost use Rattle.call_laws.specs.One.{AreCellsTrue, AreSegidsOne};
+ghost use Rattle.call_laws.specs.Onward.{AreOnward};
 ghost use Rattle.call_laws.specs.Places.{ArePlacedCalls, HasRoom, HaveSegids, IsEven};
 ghost use Rattle.call_laws.specs.Roads.{AreReady};
 
@@ -83,10 +85,21 @@ pub fn records_are_single()
     laws();
 }
 
-/// No record of a call is lost: each call has one place, and it is there with what the place says (`StandsAt`). While it waits its request
-/// or its name is under way, and while its segid is to be forgotten so is the record that tells it; else none is. So it is wherever a
-/// command has ended, and at every pause between the steps of a journal, as long as there is room for segids and calls. A command
-/// has the segids that it removes in their range, and steps that come of no commands must.
+/// Each record of a call that is under way goes on at whoever gets it. It isn't of that enclave itself. That one is its goal, or knows
+/// the neighbour over which it goes on, which isn't the one from which it came. So it is wherever a command has ended, and at every pause
+/// between the steps of a journal.
+pub fn records_go_on()
+    ensures ended { (commands : List Commands) → IsPlaced commands → AreOnward (facts_after (journal_of commands)) }
+    ensures pauses { (steps : List Step) → AreSteps no_facts steps → IsPause (after_lines no_facts (written_in no_facts steps))
+        → AreOnward (after_lines no_facts (written_in no_facts steps)) }
+{
+    laws();
+}
+
+/// No record of a call is lost. Each call has one place, which its cell tells, and stands there as `StandsAt` says: while it waits its
+/// request or its name is under way, while its segid is to be forgotten so is the record that tells it, and else none is. So it is
+/// wherever a command has ended, and at every pause between the steps of a journal, where there was room for segids and calls. Commands
+/// have segids in their range; of steps alone that is asked.
 pub fn makes_have_places()
     ensures ended { (commands : List Commands) → IsPlaced commands → HasRoom (onto (journal_of commands) [])
         → ArePlacedCalls (onto (journal_of commands) []) }
@@ -95,6 +108,11 @@ pub fn makes_have_places()
 {
     laws();
 }
+
+/// A journal of fewer than 2^32 lines has room for segids and calls: a line draws one segid at most, and issues one call.
+pub fn short_journals_have_room()
+    ensures { (journal : List JournalLine) → length journal < 2 ^ 32 → HasRoom (onto journal []) }
+{}
 
 /// Where nothing waits in any channel no call waits either, and the name server's names are those of the live segments, each with the
 /// enclave that has it: so every make has been answered, and every removed segid forgotten. There is room for segids and calls.
