@@ -394,7 +394,7 @@ pages_issue p page frames m = by (at m.processes p)
     by None = refl
     by (Some process) = refl
 
-pub issued_few : (past : List Line) (e : ℕ) → ((facts_at past).memory e).issued ≤ words_in past
+issued_few : (past : List Line) (e : ℕ) → ((facts_at past).memory e).issued ≤ words_in past
 issued_few [] e = omega arith
 issued_few (lines.Issue of p call ∷ past) e =
     let old = issued_few past of.0 in

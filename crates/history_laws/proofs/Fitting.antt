@@ -95,7 +95,7 @@ words_in-append : (ls ms : List Line) → words_in (ls ++ ms) ≡ words_in ls + 
 words_in-append [] ms = omega arith
 words_in-append (l ∷ ls) ms = let more = words_in-append ls ms in omega (arith, more)
 
-pub words_in-onto : (ls past : List Line) → words_in (onto ls past) ≡ words_in ls + words_in past
+words_in-onto : (ls past : List Line) → words_in (onto ls past) ≡ words_in ls + words_in past
 words_in-onto [] past = omega arith
 words_in-onto (l ∷ ls) past = let more = words_in-onto ls (l ∷ past) in omega (arith, more)
 

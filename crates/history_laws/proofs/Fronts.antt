@@ -1,9 +1,7 @@
 -- A front of a lawful history is one; and what is so at the whole fronts of the journal of commands.
-use Rattle.std.proofs.Common.{◌≡◌, ◌+◌, ◌<◌, ◌≤◌, ◌^◌, ℕ, List, [], ◌∷◌, ◌++◌, true, sym, ap, ◌∙◌, subst, arith, append_assoc}
+use Rattle.std.proofs.Common.{◌≡◌, ◌+◌, ◌<◌, ◌^◌, ℕ, List, [], ◌∷◌, ◌++◌, length, true, sym, ap, ◌∙◌, subst, append_assoc}
 use Rattle.xemem_language.specs.declared.command.Command.{Command}
 use Rattle.xemem_language.specs.declared.line.Line.{Line}
-use Rattle.xemem_language.specs.declared.line.Line.TheVariants as lines
-use Rattle.xemem_language.specs.Spelling.{words_in}
 use Rattle.global_model.specs.Carriage.{CarriedAt}
 use Rattle.global_model.specs.Rest.{IsAtRest, RestAt}
 use Rattle.global_model.specs.Facts.{facts_after}
@@ -11,15 +9,11 @@ use Rattle.global_model.specs.Due.{journal_of}
 use Rattle.global_model.specs.Journals.{do_commands, onto}
 use Rattle.global_model.specs.Place.{IsPlaced, IsPlacedAfter}
 use Rattle.discovery_laws.specs.Known.{AreAdmitted}
-use Rattle.call_laws.specs.Cells.{drawn_in}
 use Rattle.call_laws.specs.Legal.{CallAt}
 use Rattle.call_laws.specs.Places.{HasRoom, IsEven}
-use Rattle.history_laws.specs.Fitting.{IsCountable}
 use Rattle.history_laws.specs.History.{IsAnswered, IsDueAt, IsFound, IsHistory, IsTold, IsWhole}
 use Rattle.history_laws.specs.Laws.{HistoryLaws}
 use Rattle.history_laws.specs.Lawful.{IsLegalAt}
-use Rattle.history_laws.proofs.Fitted.{issued_few}
-use Rattle.history_laws.proofs.Fitting.{words_in-onto}
 use Rattle.history_laws.proofs.Follow.{Follows-front}
 use Rattle.history_laws.proofs.Told.{only_journal}
 
@@ -54,20 +48,6 @@ whole_front laws commands front rest placed told is whole =
       same = only_journal laws front (Follows-front IsDueAt front rest [] (subst IsTold is told)) whole;
     }
 
--- where a journal isn't too long there is room for segids and calls: each has a line
-drawn_few : (past : List Line) → drawn_in past ≤ words_in past
-drawn_few [] = omega arith
-drawn_few (lines.Drew e call segid ∷ past) = let old = drawn_few past in omega (arith, old)
-drawn_few (_ ∷ past) = let old = drawn_few past in omega (arith, old)
-
-room_left : (journal : List Line) → IsCountable journal → HasRoom (onto journal [])
-room_left journal few =
-    let turned = words_in-onto journal [] in
-    record {
-      segids = let drawn = drawn_few (onto journal []) in omega (arith, drawn, turned, few);
-      calls = λ e. let issued = issued_few (onto journal []) e in omega (arith, issued, turned, few);
-    }
-
 -- what holds at rest after commands holds at each whole front of their journal
 pub found_journal : HistoryLaws → ((commands : List Command) → IsPlaced commands → IsAtRest (facts_after (journal_of commands))
     → (facts_after (journal_of commands)).server ≡ true → AreAdmitted (facts_after (journal_of commands)))
@@ -78,11 +58,11 @@ found_journal laws rests commands placed told front rest is whole still server =
     let held = subst (λ j. (facts_after j).server ≡ true) first.same server in
     subst (λ j. AreAdmitted (facts_after j)) (sym first.same) (rests (do_commands front) first.placed at_rest held)
 
-pub answered_journal : HistoryLaws → ((commands : List Command) → IsPlaced commands → HasRoom (onto (journal_of commands) [])
+pub answered_journal : HistoryLaws → ((journal : List Line) → length journal < 2 ^ 32 → HasRoom (onto journal [])) → ((commands : List Command) → IsPlaced commands → HasRoom (onto (journal_of commands) [])
     → IsAtRest (facts_after (journal_of commands)) → IsEven (onto (journal_of commands) []))
     → (commands : List Command) → IsPlaced commands → IsTold (journal_of commands) → IsAnswered (journal_of commands)
-answered_journal laws rests commands placed told front rest is whole still few =
+answered_journal laws room rests commands placed told front rest is whole still few =
     let first = whole_front laws commands front rest placed told is whole in
     let at_rest = subst (λ j. IsAtRest (facts_after j)) first.same still in
-    let room = subst (λ j. HasRoom (onto j [])) first.same (room_left front few) in
-    subst (λ j. IsEven (onto j [])) (sym first.same) (rests (do_commands front) first.placed room at_rest)
+    let own_room = subst (λ j. HasRoom (onto j [])) first.same (room front few) in
+    subst (λ j. IsEven (onto j [])) (sym first.same) (rests (do_commands front) first.placed own_room at_rest)

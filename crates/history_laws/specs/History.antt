@@ -1,5 +1,5 @@
 -- Journals as histories: legal, carried, told, rested, found, lawful in their calls, answered, and whole.
-use Rattle.std.specs.Prelude.{◌≡◌, ◌++◌, List, [], None, Some, true}
+use Rattle.std.specs.Prelude.{◌≡◌, ◌<◌, ◌^◌, ◌++◌, List, [], length, None, Some, true}
 use Rattle.xemem_language.specs.declared.line.Line.{Line}
 use Rattle.xemem_language.specs.declared.line.Line.TheVariants as lines
 use Rattle.global_model.specs.Carriage.{IsCarried}
@@ -10,7 +10,6 @@ use Rattle.global_model.specs.Rest.{IsAtRest, IsRested}
 use Rattle.discovery_laws.specs.Known.{AreAdmitted}
 use Rattle.call_laws.specs.Legal.{AreCalls}
 use Rattle.call_laws.specs.Places.{IsEven}
-use Rattle.history_laws.specs.Fitting.{IsCountable}
 use Rattle.history_laws.specs.Lawful.{IsLegalAt}
 
 -- told: a `do` line stands where nothing is due, and every other line is the one that is due
@@ -34,10 +33,10 @@ abbrev pub IsFound : List Line → Type 0
 IsFound journal = (front rest : List Line) → journal ≡ front ++ rest → IsWhole front → IsAtRest (facts_after front)
     → (facts_after front).server ≡ true → AreAdmitted (facts_after front)
 
--- answered: wherever nothing is due and nothing waits, each call has its answer, and the names are those of the live segments; as long
--- as the journal isn't so long that numbers run out
+-- answered: wherever nothing is due and nothing waits, each call has its answer, and the names are those of the live segments; behind
+-- 2^32 lines numbers may have run out
 abbrev pub IsAnswered : List Line → Type 0
-IsAnswered journal = (front rest : List Line) → journal ≡ front ++ rest → IsWhole front → IsAtRest (facts_after front) → IsCountable front
+IsAnswered journal = (front rest : List Line) → journal ≡ front ++ rest → IsWhole front → IsAtRest (facts_after front) → length front < 2 ^ 32
     → IsEven (onto front [])
 
 -- a lawful history

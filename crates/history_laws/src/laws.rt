@@ -15,7 +15,7 @@ ghost use Rattle.history_laws.specs.Ways.{way_heard, back_heard, route_heard, as
 ghost use Rattle.history_laws.specs.Counts.{IsLimited, births_in, starts_in, starts_by, has_server};
 ghost use Rattle.history_laws.specs.Laws.{HistoryLaws};
 
-use call_laws::{calls_are_legal, rest_is_even};
+use call_laws::{calls_are_legal, rest_is_even, short_journals_have_room};
 use discovery_laws::rest_is_admitted;
 use global_model::{
     acts_are_plain, journals_are_apt, journals_are_carried, journals_are_in_steps,
@@ -71,6 +71,7 @@ pub fn journals_are_histories()
     journals_are_rested();
     rest_is_admitted();
     calls_are_legal();
+    short_journals_have_room();
     rest_is_even();
     laws();
 }

@@ -9,5 +9,5 @@ returns c = λ commands placed. record {
   rested = c.journals_are_rested.ensures commands placed;
   found = found_journal c.laws.ensures c.rest_is_admitted.ensures commands placed (c.one_journal.ensures.told commands);
   calls = c.calls_are_legal.ensures commands placed;
-  answered = answered_journal c.laws.ensures c.rest_is_even.ensures commands placed (c.one_journal.ensures.told commands);
+  answered = answered_journal c.laws.ensures c.short_journals_have_room.ensures c.rest_is_even.ensures commands placed (c.one_journal.ensures.told commands);
 }
