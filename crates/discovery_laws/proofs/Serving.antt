@@ -23,7 +23,7 @@ use Rattle.enclave_rules.specs.Exports.{is_segid, segid_number}
 use Rattle.enclave_rules.specs.Names.{can_draw, next_segid}
 use Rattle.enclave_rules.specs.View.{View, own_lines}
 use Rattle.enclave_rules.specs.Sending.{Goal, Server, To, drop_lines, made_lines, over_lines, send_lines, way_to}
-use Rattle.enclave_rules.specs.Segments.{asking_lines, drew_line, issue_line, make_acts, make_of, name_lines, name_request, named_lines, named_record, naming_lines, remove_acts, takes_name, unname_lines, unname_record}
+use Rattle.enclave_rules.specs.Segments.{asking_lines, drew_line, issue_line, make_of, name_lines, name_request, named_lines, named_record, naming_lines, takes_name, unname_lines, unname_record}
 use Rattle.enclave_rules.specs.Steps.{body_lines, named_to}
 use Rattle.enclave_rules.specs.Calls.{at_hand}
 use Rattle.global_model.specs.Pauses.{asked_lines}

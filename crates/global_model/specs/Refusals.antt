@@ -9,7 +9,6 @@ use Rattle.xemem_language.specs.declared.command.Command.TheVariants as commands
 use Rattle.xm_num.specs.declared.Enclave.{Enclave}
 use Rattle.xm_num.specs.declared.Pid.{Pid}
 use Rattle.xm_num.specs.declared.Want.{Want}
-use Rattle.xm_num.specs.declared.Segid.{Segid}
 use Rattle.xm_num.specs.Sizes.{page_bytes, most_pages, last_page}
 use Rattle.enclave_rules.specs.Pages.{allows}
 use Rattle.enclave_rules.specs.Memory.{is_busy}

@@ -1,9 +1,8 @@
 -- The blocks and deaths with which the tests bear enclaves ascend.
-use Rattle.std.proofs.Common.{◌≤◌, List, [], ◌∷◌, refl, arith}
+use Rattle.std.proofs.Common.{◌≤◌, [], ◌∷◌, refl, arith}
 use Rattle.std.specs.List.Sorted.{IsStrictlySortedBy}
 use Rattle.std.proofs.lemmas.List.Elements.{All-nil, All-cons}
 use Rattle.xm_num.specs.declared.Block.{Block}
-use Rattle.xm_num.specs.declared.Enclave.{Enclave}
 use Rattle.enclave_rules.specs.Core.{AreDeaths}
 use Rattle.enclave_rules.specs.Pages.{AreBlocks}
 
