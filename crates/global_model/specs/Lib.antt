@@ -23,6 +23,7 @@ pub mod Carriage
 pub mod Parts
 pub mod Plain
 pub mod Channels
+pub mod Feeds
 pub mod Space
 pub mod Refusals
 pub mod Flow

@@ -4,10 +4,10 @@ use Rattle.xm_num.specs.declared.Enclave.{Enclave}
 use Rattle.xm_num.specs.Rows.{at}
 use Rattle.xemem_language.specs.declared.line.Line.{Line}
 use Rattle.global_model.specs.Facts.{Facts, ChannelFact, after_lines, lives_at}
+use Rattle.global_model.specs.Feeds.{feed_of}
 use Rattle.global_model.specs.Flow.{IsFlowing}
 use Rattle.enclave_node.specs.Nodes.{NodeView}
 use Rattle.node_machine.specs.declared.pair.Pair.{Pair}
-use Rattle.node_world.specs.Links.{feed_of}
 use Rattle.node_machine.specs.Machine.{MachineView, has_node, node_at, pair_at, with_carried, carried}
 use Rattle.node_world.specs.Shown.{IsNodeOf, IsPairOf, IsShown}
 use Rattle.node_world.proofs.Flows.{feed_is}

@@ -11,9 +11,10 @@ use Rattle.xemem_wire.specs.Stream.{Reading, reading_of, first_bad}
 use Rattle.xemem_wire.specs.Decoding.{Decoding, after_piece}
 use Rattle.global_model.specs.Facts.{ChannelFact, no_channel, with_sent, with_taken}
 use Rattle.global_model.specs.Channels.{whole_records, arriving, waiting_of}
+use Rattle.global_model.specs.Feeds.{got_bytes, feed_of}
 use Rattle.global_model.specs.Flow.{IsFlow}
 use Rattle.node_machine.specs.Links.{IsLinkFlowing}
-use Rattle.node_world.specs.Links.{IsLinkOf, got_bytes, feed_of, rows_sent}
+use Rattle.node_world.specs.Links.{IsLinkOf, rows_sent}
 use Rattle.node_world.specs.Laws.{LinkLaws, WireLaws}
 use Rattle.node_world.proofs.Fronts.{IsReadFront, front_of, spellings-append, spellings-length, whole-after, whole-take, whole-bytes, whole-more}
 

@@ -1,19 +1,10 @@
--- What went over a channel, as its link and the decoder at its end show it.
-use Rattle.std.specs.Prelude.{◌≡◌, ◌+◌, ◌-◌, ◌≤◌, ℕ, List, [], Bool, None, length, map, take, drop}
+-- What went over a channel, as its link shows it.
+use Rattle.std.specs.Prelude.{◌≡◌, ◌+◌, ◌-◌, ◌≤◌, ℕ, List, Bool, length, map}
 use Rattle.byte_link.specs.Channel.{Channel, first_bytes, waiting_bytes}
 use Rattle.byte_link.specs.Passage.{left_of}
 use Rattle.xemem_wire.specs.Spelling.{spelling_of, spellings_of}
-use Rattle.xemem_wire.specs.Decoding.{Decoding}
 use Rattle.global_model.specs.Facts.{ChannelFact}
 use Rattle.global_model.specs.Channels.{waiting_of}
-
--- how many bytes the records that were got have
-abbrev pub got_bytes : ChannelFact → ℕ
-got_bytes fact = length (spellings_of (take fact.got fact.sent))
-
--- what the decoder at the end of a channel has: the bytes that were taken behind those of the records that were got
-abbrev pub feed_of : ChannelFact → Decoding
-feed_of fact = record { records = []; rest = drop (got_bytes fact) (take fact.taken (spellings_of fact.sent)); before = got_bytes fact; bad = None }
 
 -- the spellings of the records that were sent, less what was cut off at the end
 abbrev pub rows_sent : ChannelFact → List (List ℕ)

@@ -3,11 +3,12 @@ use Rattle.std.specs.Prelude.{◌≡◌, ◌+◌, ◌-◌, ◌<◌, ◌≤◌, �
 use Rattle.xm_num.specs.Rows.{at}
 use Rattle.global_model.specs.Facts.{Facts, fact_of, lives_at}
 use Rattle.global_model.specs.Channels.{is_neighbour}
+use Rattle.global_model.specs.Feeds.{feed_of}
 use Rattle.global_model.specs.Views.{view_of}
 use Rattle.enclave_node.specs.Nodes.{NodeView}
 use Rattle.byte_link.specs.Channel.{Channel}
 use Rattle.node_machine.specs.declared.pair.Pair.{Pair}
-use Rattle.node_world.specs.Links.{IsLinkOf, feed_of}
+use Rattle.node_world.specs.Links.{IsLinkOf}
 use Rattle.node_machine.specs.Machine.{MachineView, enclave_numbered, has_node, node_at, pair_at}
 
 -- the node is seen as the view of its enclave, and hasn't failed
