@@ -97,7 +97,7 @@ valid-whole : (n : ℕ) (rs : List Record) → AreValid rs → AreValid (whole_r
 valid-whole n [] all = tt
 valid-whole n (r ∷ rs) all = first_whole AreValid n r rs (λ fits. (all.0, valid-whole (n - size_of r) rs all.1)) tt
 
-valid-drop : (k : ℕ) (rs : List Record) → AreValid rs → AreValid (drop k rs)
+pub valid-drop : (k : ℕ) (rs : List Record) → AreValid rs → AreValid (drop k rs)
 valid-drop zero rs all = all
 valid-drop (suc k) [] all = tt
 valid-drop (suc k) (r ∷ rs) all = valid-drop k rs all.1

@@ -21,6 +21,7 @@ pub mod Waiting
 pub mod Deliveries
 pub mod Commands
 pub mod Carried
+pub mod Feeds
 pub mod Pauses
 pub mod Views
 pub mod Seen

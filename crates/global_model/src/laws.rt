@@ -27,10 +27,11 @@ ghost use Rattle.global_model.specs.Flow.{IsFlowing, IsTree};
 ghost use Rattle.global_model.specs.Tree.{IsRooted, AreNear, IsPath, IsToward, is_above, path, hop, distance, parent_of};
 ghost use Rattle.global_model.specs.Journals.{do_commands, onto, Follows};
 ghost use Rattle.global_model.specs.Carriage.{IsCarried};
+ghost use Rattle.global_model.specs.Feeds.{FeedsFollowAt};
 ghost use Rattle.global_model.specs.Rest.{EndsSettle, IsRested};
 ghost use Rattle.global_model.specs.Pauses.{IsInSteps};
 
-use xemem_wire::laws::spelling_length;
+use xemem_wire::laws::{spelling_length, spellings_are_read};
 use xm_num::Page;
 use xm_num::laws::rows;
 
@@ -165,6 +166,14 @@ pub fn views_follow()
     ensures handled { (commands : List Commands) → IsPlaced commands → (x y : Enclaves) (n : ℕ)
         → IsTaking (facts_after (journal_of commands)) x y n → AreHandled (after_line (facts_after (journal_of commands)) (line.Took x y n)) x y }
 {}
+
+/// After each line of a journal the decoder at the end of each channel has what it had before, but for what the line changes of it:
+/// bytes that are taken stand behind its rest, and the record that is got was at the front of it.
+pub fn decoders_follow()
+    ensures { (commands : List Commands) → IsPlaced commands → Follows FeedsFollowAt [] (journal_of commands) }
+{
+    spellings_are_read();
+}
 
 /// A delivery of a settle is that of a `deliver` of the same bytes, which isn't refused. A settle ends with `settled`
 /// exactly where nothing waits any more, and with `waiting` exactly where something does after all its deliveries.

@@ -8,7 +8,7 @@ mod laws;
 
 pub use enclave_rules::calls_write_own_lines;
 pub use laws::{
-    acts_are_plain, journals_are_apt, journals_are_carried, journals_are_in_steps,
+    acts_are_plain, decoders_follow, journals_are_apt, journals_are_carried, journals_are_in_steps,
     journals_are_rested, journals_grow, lines_are_seen, pasts_grow, refusals_come_first,
     settles_deliver, trees_have_paths, views_answer, views_follow, whole_records_stay,
 };
