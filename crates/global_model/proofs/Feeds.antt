@@ -14,7 +14,7 @@ use Rattle.xemem_wire.specs.Stream.{Reading, reading_of, reading_within, front_r
 use Rattle.xemem_wire.specs.Decoding.{Decoding}
 use Rattle.global_model.specs.Facts.{ChannelFact, at_pair, facts_at, lives_at, with_got, with_sent, with_taken}
 use Rattle.global_model.specs.Channels.{arriving, size_of, waiting_in, waiting_of}
-use Rattle.global_model.specs.Feeds.{got_bytes, feed_of, front_size, fed, without_front, FeedsFollowAt}
+use Rattle.global_model.specs.Feeds.{got_bytes, feed_of, front_size, with_piece, without_front, FeedsFollowAt}
 use Rattle.global_model.specs.Flow.{IsFlow}
 use Rattle.global_model.specs.Apt.{IsApt, AreApt}
 use Rattle.global_model.specs.Journals.{Follows}
@@ -67,7 +67,7 @@ feed_sent r c flow =
     λ i. record { records = []; rest = drop (length (spellings_of (got i))) (taken i); before = length (spellings_of (got i)); bad = None }
 
 -- what is taken stands behind what was
-feed_taken : (n : ℕ) (c : ChannelFact) → n ≤ length (waiting_of c) → IsFlow c → feed_of (with_taken n c) ≡ fed (take n (waiting_of c)) (feed_of c)
+feed_taken : (n : ℕ) (c : ChannelFact) → n ≤ length (waiting_of c) → IsFlow c → feed_of (with_taken n c) ≡ with_piece (take n (waiting_of c)) (feed_of c)
 feed_taken n c fits flow =
     let S = spellings_of c.sent in
     let m = length S - c.cut in
@@ -135,8 +135,8 @@ feeds_line first past (lines.Took a b n) sound apt x y =
     let living : lives_at G b.0 ≡ true = apt.between.living in
     let waits : waiting_in G a.0 b.0 ≡ waiting_of (G.channel a.0 b.0) = rw living refl in
     let fits : n ≤ length (waiting_of (G.channel a.0 b.0)) = subst (λ (ws : List ℕ). n ≤ length ws) waits apt.wait in
-    one_feed a.0 b.0 (with_taken n) (λ x y. fed (take n (waiting_in G x y))) G.channel
-    (feed_taken n (G.channel a.0 b.0) fits (sound.flows a.0 b.0) ∙ ap (λ (ws : List ℕ). fed (take n ws) (feed_of (G.channel a.0 b.0))) (sym waits)) x y
+    one_feed a.0 b.0 (with_taken n) (λ x y. with_piece (take n (waiting_in G x y))) G.channel
+    (feed_taken n (G.channel a.0 b.0) fits (sound.flows a.0 b.0) ∙ ap (λ (ws : List ℕ). with_piece (take n ws) (feed_of (G.channel a.0 b.0))) (sym waits)) x y
 feeds_line first past (lines.Got a b) sound apt x y =
     let channel = (facts_at past).channel in
     one_feed a.0 b.0 with_got (λ x y. without_front) channel

@@ -22,8 +22,8 @@ abbrev pub front_size : List ℕ → ℕ
 front_size bytes = option_map_or size_of (front_record bytes) 0
 
 -- a decoder with these bytes behind its rest
-abbrev pub fed : List ℕ → Decoding → Decoding
-fed bytes d = record d { rest = d.rest ++ bytes }
+abbrev pub with_piece : List ℕ → Decoding → Decoding
+with_piece bytes d = record d { rest = d.rest ++ bytes }
 
 -- a decoder without the record at the front of its rest, whose bytes are counted with those before
 abbrev pub without_front : Decoding → Decoding
@@ -32,7 +32,7 @@ without_front d = record d { rest = drop (front_size d.rest) d.rest; before = d.
 -- What a line changes of the decoder for the channel from x to y, where these bytes wait: `took x y` puts the first of them behind
 -- its rest, and `got x y` takes the record at the front of its rest. Any other line leaves it, and any line of another channel.
 abbrev pub feed_line : Line → ℕ → ℕ → List ℕ → Decoding → Decoding
-feed_line (lines.Took a b count) x y waiting d = if (x == a.0) && (y == b.0) then fed (take count waiting) d else d
+feed_line (lines.Took a b count) x y waiting d = if (x == a.0) && (y == b.0) then with_piece (take count waiting) d else d
 feed_line (lines.Got a b) x y waiting d = if (x == a.0) && (y == b.0) then without_front d else d
 feed_line line x y waiting d = d
 
