@@ -1,15 +1,19 @@
 -- Worked scenarios, by which the definitions are compared with what was wanted of them.
-use Rattle.std.specs.Prelude.{◌≡◌, ◌++◌, ℕ, Bool, true, false, List, [], ◌∷◌, map, Option, Some, codes}
+use Rattle.std.specs.Prelude.{◌≡◌, ◌++◌, ℕ, Bool, true, false, List, [], ◌∷◌, map, take, Option, Some, codes}
 use Rattle.std.specs.List.{flat_map, range_with_len}
 use Rattle.xm_num.specs.declared.Kind.TheVariants as kinds
 use Rattle.xemem_language.specs.declared.command.Command.{Command}
 use Rattle.xemem_language.specs.declared.command.Command.TheVariants as commands
+use Rattle.xemem_language.specs.declared.line.Line.{Line}
 use Rattle.enclave_rules.specs.Built.{is_built}
 use Rattle.enclave_rules.specs.Core.{host}
 use Rattle.scenario_text.specs.Scenario.{Ending, Stop, scenario_by}
 use Rattle.xemem_language.specs.Spelling.{text_of}
 use Rattle.global_model.specs.Due.{journal_of}
 use Rattle.global_model.specs.Facts.{Facts, facts_after}
+use Rattle.global_model.specs.Journals.{onto}
+use Rattle.call_laws.specs.Cells.{cells}
+use Rattle.call_laws.specs.Places.{Place, place_of}
 
 -- the pieces, each ended by a line feed
 abbrev pub text : List (List ℕ) → List ℕ
@@ -237,6 +241,18 @@ script_front_journal =
     ∷ codes "admitted 1" ∷ codes "settled 4" ∷ codes "do proc 0 10 20" ∷ codes "proc 0 1 10 20" ∷ codes "do proc 1 11 20"
     ∷ codes "proc 1 1 11 20" ∷ codes "do alloc 0 1 16 3" ∷ codes "alloc 0 1 16 0 1 2" ∷ codes "do make 0 1 65536 12288 0640"
     ∷ codes "issue 0 1 1" ∷ codes "drew 0 1 1" ∷ codes "named 0 1 1" ∷ codes "answer 0 1 1 segid 1" ∷ []
+
+-- the lines of its first commands, so many of them, and of some more
+abbrev pub segments_then : ℕ → List Command → List Line
+segments_then n more = onto (journal_of (take n (scenario_by is_built (text segments_end)).commands ++ more)) []
+
+-- the place of the child's make behind them
+abbrev pub make_then : ℕ → List Command → Place
+make_then n more = place_of (cells (segments_then n more) 1 1)
+
+-- the host gets the request
+abbrev pub request_comes : List Command
+request_comes = commands.Deliver (record { 0 = 1 }) host 16 ∷ []
 
 -- conditions of makes and removes, alone and several at once, while the enclave isn't ready, while a make waits, and afterwards
 abbrev pub refused_segments : List (List ℕ)

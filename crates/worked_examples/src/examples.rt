@@ -7,7 +7,8 @@ ghost use Rattle.enclave_rules.specs.Names.{segid_of};
 ghost use Rattle.enclave_rules.specs.Segments.{name_request, named_record, unname_record};
 ghost use Rattle.enclave_rules.specs.Steps.{record_lines, here_of, register_of, admit_of};
 ghost use Rattle.global_model.specs.Refusals.{refusal_of};
-ghost use Rattle.worked_examples.specs.Examples.{Gives, at_line, text, smallest, smallest_journal, refused, refused_journal, one_byte_short, one_byte_short_journal, discovered, discovered_journal, child_memory, child_memory_journal, no_host_born, no_host_born_journal, settled, settled_journal, late_name_server, late_name_server_journal, server_first, server_first_journal, blocks_first, blocks_first_journal, refused_calls, refused_calls_journal, segments_end, segments_end_journal, script_front, script_front_journal, refused_segments, refused_segments_journal, crowd, boot_under, start_at, two_lines, two_lines_journal};
+ghost use Rattle.worked_examples.specs.Examples.{Gives, at_line, text, smallest, smallest_journal, refused, refused_journal, one_byte_short, one_byte_short_journal, discovered, discovered_journal, child_memory, child_memory_journal, no_host_born, no_host_born_journal, settled, settled_journal, late_name_server, late_name_server_journal, server_first, server_first_journal, blocks_first, blocks_first_journal, refused_calls, refused_calls_journal, segments_end, segments_end_journal, script_front, script_front_journal, refused_segments, refused_segments_journal, crowd, boot_under, start_at, two_lines, two_lines_journal, make_then, request_comes};
+ghost use Rattle.call_laws.specs.Places.{Unborn, Asking, Answering, Held, Undoing, Done};
 ghost use Rattle.worked_examples.specs.Records.{learned, numbered, dropped, noted, asking, answered, naming, dropped_there};
 ghost use Rattle.scenario_text.specs.Scenario.{Faulty, Unbuilt};
 ghost use Rattle.scenario_text.specs.declared.SyntaxFault.TheVariants as faults;
@@ -79,4 +80,15 @@ pub fn needless_names_are_dropped()
     ensures own_end { record_lines naming (numbered 1) (unname_record (numbered 1) 1 (segid_of 1)) ≡ lines.Unnamed (segid_of 1) ∷ [] }
     ensures end_of_anothers { record_lines naming (numbered 2) (unname_record (numbered 2) 1 (segid_of 1)) ≡ dropped_there }
     ensures end_of_none { record_lines naming (numbered 1) (unname_record (numbered 1) 1 (segid_of 2)) ≡ dropped_there }
+{}
+
+/// The make of a child goes over the places that a make has, one after the other: before it is issued, while its request and its name are
+/// under way, while its segment is live, while the end of its name is under way, and afterwards.
+pub fn makes_have_their_places()
+    ensures unborn { make_then 6 [] ≡ Unborn }
+    ensures asking { make_then 7 [] ≡ Asking }
+    ensures answering { make_then 7 request_comes ≡ Answering }
+    ensures held { make_then 8 [] ≡ Held }
+    ensures undoing { make_then 10 [] ≡ Undoing }
+    ensures done { make_then 11 [] ≡ Done }
 {}

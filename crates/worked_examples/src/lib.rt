@@ -4,5 +4,6 @@
 mod examples;
 
 pub use examples::{
-    crowds_are_refused, needless_names_are_dropped, needless_records_are_dropped, worked_examples,
+    crowds_are_refused, makes_have_their_places, needless_names_are_dropped,
+    needless_records_are_dropped, worked_examples,
 };
