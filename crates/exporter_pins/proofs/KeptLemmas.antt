@@ -13,7 +13,8 @@ use Rattle.xm_num.specs.declared.Frame.{Frame}
 use Rattle.xm_num.specs.RowLaws.{RowLaws}
 use Rattle.xm_num.specs.Rows.{at, put, less, IsAscending}
 use Rattle.exporter_pins.specs.Holdings.{AreAscendingFrames, has_frame, is_free_frame, own_all, owned_by_others}
-use Rattle.exporter_pins.specs.Layout.{Queue, FrameUse, IsQueued, IsIndexed, times, frame_times, cover_at, has_cover, has_pair, is_owner, free_in}
+use Rattle.number_pairs.specs.Pairs.{has_pair}
+use Rattle.exporter_pins.specs.Layout.{Queue, FrameUse, IsQueued, IsIndexed, times, frame_times, cover_at, has_cover, is_owner, free_in}
 use Rattle.exporter_pins.proofs.FrameLemmas.{Differ, queued_new, queued_same, queued_is, queued_less, queued_more, queued_room, taken_is, length_filter_le, less_from}
 
 -- no process has a free frame, and no export

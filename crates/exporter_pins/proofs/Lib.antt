@@ -1,5 +1,4 @@
 pub mod QueueLemmas
-pub mod PairLemmas
 pub mod FrameLemmas
 pub mod KeptLemmas
 pub mod LowestLemmas

@@ -7,7 +7,8 @@ use Rattle.xm_num.specs.declared.Segid.{Segid}
 use Rattle.xm_num.specs.RowLaws.{RowLaws}
 use Rattle.xm_num.specs.Rows.{at, IsAscending}
 use Rattle.exporter_pins.specs.Holdings.{Export, has_segid, is_live_of, has_live, IsLeastLive}
-use Rattle.exporter_pins.specs.Layout.{has_pair, is_after_last, lower_of, is_at_most, segid_in, AreMade, is_made_by}
+use Rattle.number_pairs.specs.Pairs.{has_pair, is_after_last}
+use Rattle.exporter_pins.specs.Layout.{lower_of, is_at_most, segid_in, AreMade, is_made_by}
 use Rattle.exporter_pins.proofs.TableLemmas.{some_row, no_row, has_is}
 
 -- how many numbers are above the last one

@@ -18,7 +18,8 @@ use Rattle.xm_num.specs.declared.Frame.{Frame}
 use Rattle.xm_num.specs.RowLaws.{RowLaws}
 use Rattle.xm_num.specs.Rows.{at, put, less, IsAscending}
 use Rattle.exporter_pins.specs.Holdings.{Export, has_frame, is_covered, free_among, is_asked, has_segid, live_export, live_with, with_live, Holdings, own_all, with_owned}
-use Rattle.exporter_pins.specs.Layout.{Names, FrameUse, IsTable, AreMade, is_made_by, has_pair, cover_sum, cover_at, frame_times, AreCounted, segid_in, name_at, free_in}
+use Rattle.number_pairs.specs.Pairs.{has_pair}
+use Rattle.exporter_pins.specs.Layout.{Names, FrameUse, IsTable, AreMade, is_made_by, cover_sum, cover_at, frame_times, AreCounted, segid_in, name_at, free_in}
 use Rattle.exporter_pins.proofs.FrameLemmas.{less_from}
 
 abbrev weight : Export → ℕ

@@ -1,12 +1,11 @@
 -- What is kept beside the frames and the exports, and how it goes with them.
 use Rattle.std.specs.Prelude.{◌≡◌, ◌<◌, ◌≤◌, ℕ, nat_lt, nat_le, ◌==◌, Bool, true, false, not, ◌&&◌, List, length, Option, None, Some, IsSome, is_some, if◌then◌else◌}
-use Rattle.std.specs.List.{list_any, count_by, sum_by, filter}
+use Rattle.std.specs.List.{count_by, sum_by, filter}
 use Rattle.std.specs.Map.{lookup, values_of}
 use Rattle.std.specs.Option.{unwrap_or}
-use Rattle.std.specs.declared.ops.Bound.{Bound}
-use Rattle.std.specs.declared.ops.Bound.TheVariants.{Included, Excluded}
 use Rattle.xm_num.specs.Rows.{at, IsAscending}
 use Rattle.xm_num.specs.declared.Frame.{Frame}
+use Rattle.number_pairs.specs.Pairs.{has_pair}
 use Rattle.exporter_pins.specs.Holdings.{Export, AreAscendingFrames, has_frame, is_free_frame, free_among}
 
 -- a queue of numbers, and for how many it has room
@@ -22,20 +21,6 @@ pub record Names : Type 0 where
 -- how often the number stands in the list
 abbrev pub times : List ℕ → ℕ → ℕ
 times xs k = count_by (λ x. x == k) xs
-
--- the pair is one of these
-abbrev pub has_pair : List (ℕ × ℕ) → ℕ → ℕ → Bool
-has_pair pairs a b = list_any (λ pair. (pair.0 == a) && (pair.1 == b)) pairs
-
--- it is above the last one, where there is a last one
-abbrev pub is_after_last : Option ℕ → ℕ → Bool
-is_after_last None b = true
-is_after_last (Some a) b = nat_lt a b
-
--- where the pairs begin with this first number and a second one above the last one
-abbrev pub start_of : ℕ → Option ℕ → Bound (ℕ × ℕ)
-start_of first None = Included (first, 0)
-start_of first (Some a) = Excluded (first, a)
 
 -- what has that name
 abbrev pub name_at : List (ℕ × ℕ) → ℕ → Option ℕ

@@ -6,8 +6,8 @@ ghost use Rattle.exporter_pins.specs.Layout.{segid_in, lower_of};
 
 use crate::Segment;
 use crate::names::NameTable;
-use crate::pairs::Pairs;
 use crate::row::{ExportRow, number};
+use number_pairs::Pairs;
 use std::alloc::{AllocError, Global};
 use std::collections::BTreeMap;
 use std::marker::Model;

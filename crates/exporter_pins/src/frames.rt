@@ -2,12 +2,13 @@
 ghost use Rattle.std.specs.Prelude.{◌≡◌, ℕ, ◌+◌, ◌<◌, ◌≤◌, ◌^◌, ◌==◌, ◌&&◌, ◌↔◌, [], ◌∷◌, ◌++◌, ◌||◌, true, false, length, take, drop, slice_get, min, All, IsSome, IfOk, OnOk, OnErr, IsErrOf, None, Some, if◌then◌else◌};
 ghost use Rattle.xm_num.specs.Rows as rows;
 ghost use Rattle.exporter_pins.specs.Holdings.{AreAscendingFrames, has_frame, own_all, owned_by_others};
-ghost use Rattle.exporter_pins.specs.Layout.{free_in, cover_at, has_cover, times, frame_times, has_pair, is_owner};
+ghost use Rattle.exporter_pins.specs.Layout.{free_in, cover_at, has_cover, times, frame_times, is_owner};
+ghost use Rattle.number_pairs.specs.Pairs.{has_pair};
 
 use crate::ExportFault;
-use crate::pairs::Pairs;
 use crate::queue::LowestFirst;
 use crate::rows::Rows;
+use number_pairs::Pairs;
 use std::alloc::{AllocError, Global};
 use std::marker::Model;
 use xm_num::laws::row_laws;

@@ -13,7 +13,6 @@ ghost use Rattle.exporter_pins.specs.Holdings.{Export};
 mod exported;
 mod frames;
 mod names;
-mod pairs;
 mod queue;
 mod row;
 mod rows;

@@ -1,12 +1,15 @@
-// Pairs of numbers in order, as an index of what a process has.
+//! Pairs of numbers in order: an index of what stands beside a number.
+#![tactic(auto)]
+
 ghost use Rattle.std.specs.Prelude.{◌≡◌, ℕ, ◌<◌, ◌==◌, ◌&&◌, ◌||◌, not, true, false, [], IfSome, IfNone, OnOk, OnErr};
-ghost use Rattle.exporter_pins.specs.Layout.{has_pair, is_after_last, start_of};
+ghost use Rattle.number_pairs.specs.Pairs.{has_pair, is_after_last, start_of};
 
 use std::alloc::{AllocError, Global};
 use std::collections::BTreeSet;
 use std::marker::Model;
 use std::ops::Bound;
 
+/// A set of pairs. A call takes time logarithmic in them.
 #[derive(Drop)]
 pub struct Pairs {
     items: BTreeSet<(u32, u32)>,
@@ -31,7 +34,7 @@ fn start(first: u32, last: Option<u32>) -> Bound<(u32, u32)>
 }
 
 impl Pairs {
-    // No pairs.
+    /// No pairs.
     pub fn new(alloc: Global) -> Pairs
         ensures { result ≡ [] }
     {
@@ -40,7 +43,7 @@ impl Pairs {
         }
     }
 
-    // Adds a pair. For want of memory they stay as they were.
+    /// Adds a pair. For want of memory they stay as they were.
     pub fn insert(&mut self, first: u32, second: u32) -> Result<(), AllocError>
         ensures ok { OnOk result ((a b : ℕ) → has_pair self.new a b ≡ ((first == a) && (second == b) || has_pair self.old a b)) }
         ensures err { OnErr result (self.new ≡ self.old) }
@@ -49,14 +52,14 @@ impl Pairs {
         Ok(())
     }
 
-    // Takes a pair out.
+    /// Takes a pair out.
     pub fn remove(&mut self, first: u32, second: u32)
         ensures { (a b : ℕ) → has_pair self.new a b ≡ (not ((first == a) && (second == b)) && has_pair self.old a b) }
     {
         let _ = self.items.remove(&(first, second));
     }
 
-    // The least second number that stands beside the first one, of those above the last one, where that is given.
+    /// The least second number that stands beside the first one, of those above the last one, where that is given.
     pub fn next(&self, first: u32, last: Option<u32>) -> Option<u32>
         ensures here { IfSome result (λ second. has_pair self.now first second ≡ true) }
         ensures above { IfSome result (λ second. is_after_last last second ≡ true) }

@@ -12,7 +12,7 @@ use Rattle.std.specs.List.Sorted.{IsStrictlySortedBy}
 use Rattle.std.proofs.lemmas.Bool.{and_parts, and_from, or_from, or_left, or_right, eqb-true, ltb-true, ne_eqb, eq-eqb, lt-ltb, le-ltb, cases_order, false_from_ne_true}
 use Rattle.std.proofs.lemmas.Bool.Decides.{nat_tests}
 use Rattle.std.proofs.lemmas.Map.Keys.{sorted_head, sorted_tail}
-use Rattle.exporter_pins.specs.Layout.{has_pair, is_after_last, start_of}
+use Rattle.number_pairs.specs.Pairs.{has_pair, is_after_last, start_of}
 
 abbrev pub order : ℕ × ℕ → ℕ × ℕ → Ordering
 order x y = ordering_then (nat_cmp x.0 y.0) (nat_cmp x.1 y.1)

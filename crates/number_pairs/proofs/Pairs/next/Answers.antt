@@ -1,5 +1,5 @@
-use Rattle.exporter_pins.proofs.PairLemmas.{none_from, none_between, none_past, first_above, first_here}
-use Rattle.exporter_pins.proofs.pairs.Pairs.next.Goals as goal
+use Rattle.number_pairs.proofs.PairLemmas.{none_from, none_between, none_past, first_above, first_here}
+use Rattle.number_pairs.proofs.Pairs.next.Goals as goal
 
 pub returns-in_err-one-clause-none : goal.returns-in_err-one-clause-none
 returns-in_err-one-clause-none c =
