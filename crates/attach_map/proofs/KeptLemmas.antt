@@ -12,9 +12,9 @@ use Rattle.xm_num.specs.Rows.{at, put, less, IsAscending}
 use Rattle.xm_num.specs.RowLaws.{RowLaws}
 use Rattle.attach_map.specs.declared.Pending.{Pending}
 use Rattle.attach_map.specs.declared.Waiting.{Waiting}
-use Rattle.attach_map.specs.Attaching.{ProcessState, AttacherState, fresh_process, process_started, pages_in, with_pages_in, waiting_call_of, call_issued, with_owner, looks_up, owner_found, call_settled, orphaned, process_ended}
+use Rattle.attach_map.specs.Attaching.{ProcessState, PermitState, AttacherState, fresh_process, process_started, pages_in, with_pages_in, waiting_call_of, call_issued, with_owner, looks_up, owner_found, call_settled, orphaned, process_ended}
 use Rattle.attach_map.specs.Seats.{Seat, beside, seen, with_seat_call, with_seat_pages, seat_pages, IsLast, ChangesAt}
-use Rattle.attach_map.specs.Numbers.{AreDrawn, IsCall, HaveOwnNumbers, AreNumbered, IsSeated}
+use Rattle.attach_map.specs.Numbers.{AreDrawn, IsCall, HaveOwnNumbers, AreHeld, AreNumbered, IsSeated}
 use Rattle.attach_map.proofs.SeenLemmas.{each, each_at, each_ascends, each_put, each_less, call_unseen}
 use Rattle.attach_map.proofs.WaitingLemmas.{Besides, one_call, same_beside, same_calls, both_change, waiting_is_call, waiting_beside}
 
@@ -87,16 +87,22 @@ own_less laws rows now k is ascend own q u there = by (k == q) refl (sym (laws.l
 -- ---- what is seen
 
 -- what is seen of what is kept
-abbrev pub state_of : ℕ → List (ℕ × Seat) → ℕ → List (ℕ × Waiting) → AttacherState
-state_of started seats issued calls = record { started = started; processes = seen seats; issued = issued; waiting = calls }
+abbrev pub state_of : ℕ → List (ℕ × Seat) → ℕ → List (ℕ × Waiting) → List (ℕ × PermitState) → AttacherState
+state_of started seats issued calls permits = record { started = started; processes = seen seats; issued = issued; waiting = calls; permits = permits }
 
-pub numbered : RowLaws Waiting → (started : ℕ) (seats : List (ℕ × Seat)) (issued : ℕ) (calls : List (ℕ × Waiting)) → IsSeated started seats issued calls → AreNumbered (state_of started seats issued calls)
-numbered laws started seats issued calls kept = record {
+pub numbered : RowLaws Waiting → (started : ℕ) (seats : List (ℕ × Seat)) (issued : ℕ) (calls : List (ℕ × Waiting)) (permits : List (ℕ × PermitState)) → IsSeated started seats issued calls → AreHeld seats issued calls permits
+    → AreNumbered (state_of started seats issued calls permits)
+numbered laws started seats issued calls permits kept held = record {
   processes = drawn_fewer started seats (seen seats) (each_ascends (λ (s : Seat). s.process) seats kept.seats_drawn.ascend) (λ q some. back q (at seats q) (subst IsSome (each_at (λ (s : Seat). s.process) seats q) some)) kept.seats_drawn;
   waiting = kept.calls_drawn;
   own = kept.own;
   lives = λ p k call. rw (each_at (λ (s : Seat). s.process) seats p) (there (at seats p) k ((kept.beside_is p k).1 call));
   one = λ p k call. waiting_beside laws seats calls kept.calls_drawn.ascend kept.beside_is p ∙ (kept.beside_is p k).1 call;
+  permits = record {
+    drawn = held.drawn;
+    apart = held.apart;
+    held = λ k h is. rw (each_at (λ (s : Seat). s.process) seats h.pid) (on (at seats h.pid) (held.held k h is));
+  };
 }
   where
     back : (q : ℕ) (found : Option Seat) → IsSome (option_map (λ (s : Seat). s.process) found) → IsSome found
@@ -106,6 +112,10 @@ numbered laws started seats issued calls kept = record {
     there : (found : Option Seat) (k : ℕ) → beside found ≡ Some k → IsSome (option_map (λ (s : Seat). s.process) found)
     there None k is = cc
     there (Some seat) k is = refl
+
+    on : (found : Option Seat) → IsSome found → IsSome (option_map (λ (s : Seat). s.process) found)
+    on None some = some
+    on (Some seat) some = refl
 
 -- ---- a change of one row
 
@@ -271,16 +281,16 @@ module _ (laws : RowLaws Waiting) (started : ℕ) (seats : List (ℕ × Seat)) (
 
 -- ---- what is seen of each call
 
-module _ (started : ℕ) (seats : List (ℕ × Seat)) (issued : ℕ) (calls : List (ℕ × Waiting)) (now : List (ℕ × Seat)) where
+module _ (permits : List (ℕ × PermitState)) (started : ℕ) (seats : List (ℕ × Seat)) (issued : ℕ) (calls : List (ℕ × Waiting)) (now : List (ℕ × Seat)) where
   abbrev before : AttacherState
-  before = state_of started seats issued calls
+  before = state_of started seats issued calls permits
 
   abbrev its : Seat → ProcessState
   its seat = seat.process
 
-  pub started_seen : (uid gid : ℕ) → now ≡ put seats (started + 1) (record { process = fresh_process uid gid; call = None }) → state_of (started + 1) now issued calls ≡ process_started before uid gid
+  pub started_seen : (uid gid : ℕ) → now ≡ put seats (started + 1) (record { process = fresh_process uid gid; call = None }) → state_of (started + 1) now issued calls permits ≡ process_started before uid gid
   started_seen uid gid is =
-      ap (λ ps. record { started = started + 1; processes = ps; issued = issued; waiting = calls }) (ap seen is ∙ each_put its seats (started + 1) (record { process = fresh_process uid gid; call = None }))
+      ap (λ ps. record { started = started + 1; processes = ps; issued = issued; waiting = calls; permits = permits }) (ap seen is ∙ each_put its seats (started + 1) (record { process = fresh_process uid gid; call = None }))
 
   at_seen : (p : ℕ) (seat : Seat) → at seats p ≡ Some seat → at (seen seats) p ≡ Some seat.process
   at_seen p seat there = each_at its seats p ∙ ap (option_map its) there
@@ -293,15 +303,15 @@ module _ (started : ℕ) (seats : List (ℕ × Seat)) (issued : ℕ) (calls : Li
       by (Some seat) = refl
 
   pub paged_seen : (p : ℕ) (f : List (ℕ × Page) → List (ℕ × Page)) → Change (λ seat. with_seat_pages seat (f seat.process.pages)) seats p now
-      → state_of started now issued calls ≡ with_pages_in before p (f (pages_in before p))
+      → state_of started now issued calls permits ≡ with_pages_in before p (f (pages_in before p))
   paged_seen p f change =
       let v = change.v in
       let found = at_seen p v change.there in
-      rw found (ap (λ ps. record { started = started; processes = ps; issued = issued; waiting = calls }) (ap seen change.is ∙ each_put its seats p (with_seat_pages v (f v.process.pages))))
+      rw found (ap (λ ps. record { started = started; processes = ps; issued = issued; waiting = calls; permits = permits }) (ap seen change.is ∙ each_put its seats p (with_seat_pages v (f v.process.pages))))
 
-module _ (started : ℕ) (seats : List (ℕ × Seat)) (issued : ℕ) (calls now : List (ℕ × Waiting)) where
-  pub found_seen : (c : ℕ) (owner : Enclave) → Change (with_owner owner) calls c now → state_of started seats issued now ≡ owner_found (state_of started seats issued calls) c owner
-  found_seen c owner change = rw change.there (ap (state_of started seats issued) change.is)
+module _ (permits : List (ℕ × PermitState)) (started : ℕ) (seats : List (ℕ × Seat)) (issued : ℕ) (calls now : List (ℕ × Waiting)) where
+  pub found_seen : (c : ℕ) (owner : Enclave) → Change (with_owner owner) calls c now → state_of started seats issued now permits ≡ owner_found (state_of started seats issued calls permits) c owner
+  found_seen c owner change = rw change.there (ap (λ ws. state_of started seats issued ws permits) change.is)
 
 -- each call of a process that ended waits for no one
 abbrev left_alone : ℕ → Waiting → Waiting
@@ -400,27 +410,27 @@ waits_there laws calls p c ascends waits = by (at calls c) (waiting_is_call laws
     by None call = absurd call
     by (Some w) call = refl
 
-module _ (laws : RowLaws Waiting) (started : ℕ) (seats : List (ℕ × Seat)) (issued : ℕ) (calls : List (ℕ × Waiting)) (kept : IsSeated started seats issued calls) (now : List (ℕ × Seat)) where
-  ended_rows : (p : ℕ) → now ≡ less seats p → (rest : List (ℕ × Waiting)) → each (left_alone p) calls ≡ rest → state_of started now issued rest ≡ process_ended (state_of started seats issued calls) p
+module _ (permits : List (ℕ × PermitState)) (laws : RowLaws Waiting) (started : ℕ) (seats : List (ℕ × Seat)) (issued : ℕ) (calls : List (ℕ × Waiting)) (kept : IsSeated started seats issued calls) (now : List (ℕ × Seat)) where
+  ended_rows : (p : ℕ) → now ≡ less seats p → (rest : List (ℕ × Waiting)) → each (left_alone p) calls ≡ rest → state_of started now issued rest permits ≡ process_ended (state_of started seats issued calls permits) p
   ended_rows p is rest left =
-      ap (λ ps. record { started = started; processes = ps; issued = issued; waiting = rest }) (ap seen is ∙ each_less (λ (s : Seat). s.process) seats p)
-      ∙ ap (λ ws. record { started = started; processes = less (seen seats) p; issued = issued; waiting = ws }) (sym left)
+      ap (λ ps. record { started = started; processes = ps; issued = issued; waiting = rest; permits = permits }) (ap seen is ∙ each_less (λ (s : Seat). s.process) seats p)
+      ∙ ap (λ ws. record { started = started; processes = less (seen seats) p; issued = issued; waiting = ws; permits = permits }) (sym left)
 
-  pub ended_seen : (p : ℕ) → waiting_call_of calls p ≡ None → now ≡ less seats p → state_of started now issued calls ≡ process_ended (state_of started seats issued calls) p
+  pub ended_seen : (p : ℕ) → waiting_call_of calls p ≡ None → now ≡ less seats p → state_of started now issued calls permits ≡ process_ended (state_of started seats issued calls permits) p
   ended_seen p idle is = ended_rows p is calls (none_left laws seats calls kept.calls_drawn.ascend kept.beside_is p idle)
 
-  pub left_seen : (rest : List (ℕ × Waiting)) (p c : ℕ) → waiting_call_of calls p ≡ Some c → Change orphaned calls c rest → now ≡ less seats p → state_of started now issued rest ≡ process_ended (state_of started seats issued calls) p
+  pub left_seen : (rest : List (ℕ × Waiting)) (p c : ℕ) → waiting_call_of calls p ≡ Some c → Change orphaned calls c rest → now ≡ less seats p → state_of started now issued rest permits ≡ process_ended (state_of started seats issued calls permits) p
   left_seen rest p c waits change is = ended_rows p is rest (one_left laws seats calls kept.calls_drawn.ascend kept.beside_is p rest c waits change)
 
-module _ (laws : RowLaws Seat) (started : ℕ) (seats : List (ℕ × Seat)) (issued : ℕ) (calls : List (ℕ × Waiting)) (kept : IsSeated started seats issued calls) (now : List (ℕ × Seat)) (rest : List (ℕ × Waiting)) where
+module _ (permits : List (ℕ × PermitState)) (laws : RowLaws Seat) (started : ℕ) (seats : List (ℕ × Seat)) (issued : ℕ) (calls : List (ℕ × Waiting)) (kept : IsSeated started seats issued calls) (now : List (ℕ × Seat)) (rest : List (ℕ × Waiting)) where
   pub issued_seen : (p : Pid) (what : Pending) (call : Option CallNo) → IsSome (at seats p.0) → ChangesAt (with_seat_call call) seats p.0 now
       → rest ≡ put calls (issued + 1) (record { call = record { 0 = issued + 1 }; pid = p; living = true; what = what })
-      → state_of started now (issued + 1) rest ≡ call_issued (state_of started seats issued calls) p what
+      → state_of started now (issued + 1) rest permits ≡ call_issued (state_of started seats issued calls permits) p what
   issued_seen p what call lives changes is =
-      ap (λ ps. record { started = started; processes = ps; issued = issued + 1; waiting = rest }) (call_unseen laws seats now p.0 call kept.seats_drawn.ascend lives changes)
-      ∙ ap (λ ws. record { started = started; processes = seen seats; issued = issued + 1; waiting = ws }) is
+      ap (λ ps. record { started = started; processes = ps; issued = issued + 1; waiting = rest; permits = permits }) (call_unseen laws seats now p.0 call kept.seats_drawn.ascend lives changes)
+      ∙ ap (λ ws. record { started = started; processes = seen seats; issued = issued + 1; waiting = ws; permits = permits }) is
 
-  pub settled_seen : (p c : ℕ) → IsSome (at seats p) → ChangesAt (with_seat_call None) seats p now → rest ≡ less calls c → state_of started now issued rest ≡ call_settled (state_of started seats issued calls) c
+  pub settled_seen : (p c : ℕ) → IsSome (at seats p) → ChangesAt (with_seat_call None) seats p now → rest ≡ less calls c → state_of started now issued rest permits ≡ call_settled (state_of started seats issued calls permits) c
   settled_seen p c lives changes is =
-      ap (λ ps. record { started = started; processes = ps; issued = issued; waiting = rest }) (call_unseen laws seats now p None kept.seats_drawn.ascend lives changes)
-      ∙ ap (λ ws. record { started = started; processes = seen seats; issued = issued; waiting = ws }) is
+      ap (λ ps. record { started = started; processes = ps; issued = issued; waiting = rest; permits = permits }) (call_unseen laws seats now p None kept.seats_drawn.ascend lives changes)
+      ∙ ap (λ ws. record { started = started; processes = seen seats; issued = issued; waiting = ws; permits = permits }) is

@@ -17,7 +17,7 @@ use Rattle.attach_map.specs.Seats.{Seat, beside}
 use Rattle.attach_map.specs.Numbers.{IsCall}
 
 -- the number of the first row stands in no later one
-past_first : {V : Type 0} (row : ℕ × V) (rows : List (ℕ × V)) → IsAscending (row ∷ rows) → at rows row.0 ≡ None
+pub past_first : {V : Type 0} (row : ℕ × V) (rows : List (ℕ × V)) → IsAscending (row ∷ rows) → at rows row.0 ≡ None
 unfolding at
 past_first row rows ascends =
     lookup-none (is_at (nat_cmp row.0)) rows (none_past_head (eq_by_cmp_equiv nat_cmp_total) row.0 row rows (IsDistinct-from_sorted nat_cmp (keys_of (row ∷ rows)) ascends) (rw (tied_itself nat_cmp_total row.0) refl))

@@ -1,3 +1,4 @@
 pub mod Attaching
 pub mod Seats
 pub mod Numbers
+pub mod Permits

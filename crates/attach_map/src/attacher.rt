@@ -1,55 +1,61 @@
-// The processes and the waiting calls of an enclave.
-ghost use Rattle.std.specs.Prelude.{◌≡◌, ◌+◌, ◌-◌, ◌<◌, ◌≤◌, ◌^◌, ◌↔◌, ℕ, length, [], option_map, None, Some, IsTrue, IsSome, IfSome, IfOk, OnOk, OnErr, IsErrOf};
+// The processes, the waiting calls and the permits of an enclave.
+ghost use Rattle.std.specs.Prelude.{◌≡◌, ◌+◌, ◌-◌, ◌<◌, ◌≤◌, ◌^◌, ◌↔◌, ℕ, nat_abs, length, [], option_map, None, Some, IsTrue, IsSome, IfSome, IfOk, OnOk, OnErr, IsErrOf};
 ghost use Rattle.xm_num.specs.Rows as rows;
 ghost use Rattle.page_table.specs.Spaces.{owned, AreOwn};
 ghost use Rattle.attach_map.specs.Attaching as spec;
 ghost use Rattle.xm_num.specs.RowLaws.{RowLaws};
 ghost use Rattle.attach_map.specs.declared.Waiting.{Waiting};
+ghost use Rattle.attach_map.specs.declared.Holder.TheVariants as holders;
 ghost use Rattle.attach_map.specs.Seats.{Seat};
+ghost use Rattle.attach_map.specs.Attaching.{PermitState};
 ghost use Rattle.attach_map.specs.Numbers.{AreNumbered};
 
 use crate::calls::Calls;
+use crate::permits::{Held, Permits, permit_for};
 use crate::process::Process;
 use crate::processes::Processes;
-use crate::{Pending, Waiting};
+use crate::{Holder, Pending, Permit, Waiting};
 use page_table::{AddressSpace, MapFault};
 use std::alloc::{AllocError, Global};
 use std::marker::Model;
 use xm_num::laws::row_laws;
-use xm_num::{CallNo, Enclave, Frame, Pid, Vpn};
+use xm_num::{Apid, CallNo, Enclave, Frame, Pid, Vpn};
 
-/// The processes of an enclave, their spaces, and the calls that wait. It can't be let go: `close` ends it.
+/// The processes of an enclave, their spaces, the calls that wait and the permits that are held. It can't be let go: `close` ends it.
 pub struct Attacher<A: AddressSpace> {
     alloc: Global,
     started: u32,
     processes: Processes<A>,
     issued: u32,
     calls: Calls,
+    permits: Permits,
 }
 
 impl<A: AddressSpace> Model for Attacher<A> {
     ghost use Rattle.attach_map.specs.Attaching.{AttacherState};
     ghost use Rattle.attach_map.specs.Seats.{seen};
-    ghost use Rattle.attach_map.specs.Numbers.{IsSeated};
+    ghost use Rattle.attach_map.specs.Numbers.{IsSeated, AreHeld};
 
     ghost Value = { AttacherState };
 
-    ghost view = { λ a. record { started = a.started; processes = seen a.processes; issued = a.issued; waiting = a.calls } };
+    ghost view = { λ a. record { started = a.started; processes = seen a.processes; issued = a.issued; waiting = a.calls; permits = a.permits } };
 
-    ghost invariant = { λ a. IsSeated a.started a.processes a.issued a.calls };
+    ghost invariant = { λ a. IsSeated a.started a.processes a.issued a.calls × AreHeld a.processes a.issued a.calls a.permits };
 }
 
 // The laws of the rows that are kept.
 fn table_laws<A: AddressSpace>()
     ensures seats { RowLaws Seat }
     ensures calls { RowLaws Waiting }
+    ensures permits { RowLaws PermitState }
 {
     row_laws::<Process<A>>();
     row_laws::<Waiting>();
+    row_laws::<Held>();
 }
 
 impl<A: AddressSpace> Attacher<A> {
-    /// No process was started, and no call issued.
+    /// No process was started, no call issued, and no permit is held.
     pub fn new(alloc: Global) -> Result<Attacher<A>, AllocError>
         ensures { IfOk result (λ attacher. attacher ≡ spec.nothing_started) }
     {
@@ -59,6 +65,7 @@ impl<A: AddressSpace> Attacher<A> {
             processes: Processes::new(alloc),
             issued: 0,
             calls: Calls::new(alloc),
+            permits: Permits::new(alloc),
         })
     }
 
@@ -206,9 +213,55 @@ impl<A: AddressSpace> Attacher<A> {
         }
     }
 
-    /// Ends a living process, and its pages with it. Its call waits on, for no one.
+    /// Grants a permit of so many pages to the living process whose call waits for it, under the call's number. The call
+    /// waits no more. For want of memory nothing changes.
+    pub fn granted(&mut self, call: CallNo, pages: u32) -> Result<(), AllocError>
+        requires { IsTrue (spec.awaits_permit (rows.at self.old.waiting call.0)) }
+        ensures ok { OnOk result (self.new ≡ spec.permit_granted self.old call.0 pages) }
+        ensures err { OnErr result (self.new ≡ self.old) }
+    {
+        table_laws::<A>();
+        let Some(waiting) = self.calls.get(call.0) else {
+            unreachable!();
+        };
+        let Some(permit) = permit_for(waiting.what, pages) else {
+            unreachable!();
+        };
+        self.permits.insert(call.0, waiting.pid, permit)?;
+        self.calls.remove(call.0);
+        self.processes.wait(waiting.pid.0, None);
+        Ok(())
+    }
+
+    /// The permit of that name, where the process holds it.
+    pub fn permit_of(&self, pid: Pid, apid: Apid) -> Option<Permit>
+        ensures { result ≡ spec.held_by pid.0 (spec.permit_at self.now.permits apid.0) }
+    {
+        self.permits.held(pid, apid)
+    }
+
+    /// The least permit of a process, or from an owner, or the one of that name. There is none exactly where no such
+    /// permit is held.
+    pub fn lowest_permit(&self, of: Holder) -> Option<Apid>
+        ensures least { result ≡ option_map spec.apid_numbered (spec.lowest_permit self.now.permits of) }
+        ensures held { IfSome result (λ apid. IsSome (spec.permit_at self.now.permits apid.0)) }
+    {
+        self.permits.lowest(of)
+    }
+
+    /// Drops a permit that is held.
+    pub fn release(&mut self, apid: Apid)
+        requires { IsSome (spec.permit_at self.old.permits apid.0) }
+        ensures { self.new ≡ spec.permit_released self.old (nat_abs apid.0) }
+    {
+        table_laws::<A>();
+        self.permits.remove(apid);
+    }
+
+    /// Ends a living process that holds no permit, and its pages with it. Its call waits on, for no one.
     pub fn exit(&mut self, pid: Pid)
-        requires { IsSome (rows.at self.old.processes pid.0) }
+        requires lives { IsSome (rows.at self.old.processes pid.0) }
+        requires free { spec.lowest_permit self.old.permits (holders.Process pid) ≡ None }
         ensures { self.new ≡ spec.process_ended self.old pid.0 }
     {
         table_laws::<A>();
@@ -227,6 +280,7 @@ impl<A: AddressSpace> Attacher<A> {
             processes,
             issued: _,
             calls: _,
+            permits: _,
         } = self;
         processes.close();
     }

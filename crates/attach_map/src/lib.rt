@@ -1,15 +1,17 @@
-//! The processes of an enclave, their spaces, and the calls that wait for an answer.
+//! The processes of an enclave, their spaces, the calls that wait for an answer, and the permits that calls got.
 //!
 //! Processes and calls are numbered from 1 in the order in which they were started and issued, and stand in that order.
+//! A permit has the number of the call that got it.
 #![tactic(auto)]
 
 mod attacher;
 mod calls;
+mod permits;
 mod process;
 mod processes;
 
 pub use attacher::Attacher;
-use xm_num::{Access, CallNo, Enclave, Pid, Segid};
+use xm_num::{Access, Apid, CallNo, Enclave, Pid, Segid};
 
 /// What a waiting call is for.
 #[derive(Clone, Copy, Debug, PartialEq, Eq)]
@@ -37,4 +39,25 @@ pub struct Waiting {
     /// Whether its process lives. Processes may end before their calls do.
     pub living: bool,
     pub what: Pending,
+}
+
+/// A permit to attach pages of a segment.
+#[derive(Clone, Copy, Debug, PartialEq, Eq)]
+pub struct Permit {
+    pub owner: Enclave,
+    pub segid: Segid,
+    pub access: Access,
+    /// How many pages the segment has.
+    pub pages: u32,
+}
+
+/// By what permits are asked for.
+#[derive(Clone, Copy, Debug, PartialEq, Eq)]
+pub enum Holder {
+    /// Those of a process.
+    Process(Pid),
+    /// The one of that name.
+    Permit(Apid),
+    /// Those from an owner.
+    Owner(Enclave),
 }

@@ -16,7 +16,7 @@ use Rattle.exporter_pins.specs.Holdings.{Export, is_covered}
 use Rattle.enclave_rules.specs.Pages.{frames_of, own_page}
 
 abbrev pub no_memory : AttacherState
-no_memory = record { started = 0; processes = []; issued = 0; waiting = [] }
+no_memory = record { started = 0; processes = []; issued = 0; waiting = []; permits = [] }
 
 abbrev pub new_process : ℕ → ℕ → ProcessState
 new_process uid gid = record { uid = uid; gid = gid; pages = [] }

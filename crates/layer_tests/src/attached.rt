@@ -1,8 +1,8 @@
-// `attach_map`: processes, their pages and their waiting calls.
-use attach_map::{Attacher, Pending, Waiting};
+// `attach_map`: processes, their pages, their waiting calls and their permits.
+use attach_map::{Attacher, Holder, Pending, Permit, Waiting};
 use page_table::{AddressSpace, MapFault, PageTable};
 use std::alloc::AllocError;
-use xm_num::{Access, CallNo, Enclave, Frame, Pid, Segid, Vpn};
+use xm_num::{Access, Apid, CallNo, Enclave, Frame, Pid, Segid, Vpn};
 
 #[derive(Drop)]
 enum Step {
@@ -17,6 +17,11 @@ enum Step {
     Next(u16, u32, Option<u32>),
     Found(u32, u16),
     Settle(u32),
+    // A call and the pages of its permit.
+    Grant(u32, u32),
+    Permit(u32, i64, Option<Permit>),
+    Lowest(Holder, Option<i64>),
+    Release(u32, i64),
     Exit(u32),
     // How many processes were started and calls issued.
     Drawn(u32, u32),
@@ -36,6 +41,10 @@ fn answers<A: AddressSpace>(attacher: &mut Attacher<A>, step: &Step) -> bool {
         }
         Step::Found(call, owner) => founds(attacher, CallNo(*call), Enclave(*owner)),
         Step::Settle(call) => settles(attacher, CallNo(*call)),
+        Step::Grant(call, pages) => grants(attacher, CallNo(*call), *pages),
+        Step::Permit(pid, apid, want) => attacher.permit_of(Pid(*pid), Apid(*apid)) == *want,
+        Step::Lowest(of, want) => attacher.lowest_permit(*of) == want.map(Apid),
+        Step::Release(pid, apid) => releases(attacher, Pid(*pid), Apid(*apid)),
         Step::Exit(pid) => exits(attacher, Pid(*pid)),
         Step::Drawn(started, issued) => {
             attacher.started() == *started && attacher.issued() == *issued
@@ -125,14 +134,35 @@ fn settles<A: AddressSpace>(attacher: &mut Attacher<A>, call: CallNo) -> bool {
     }
 }
 
-fn exits<A: AddressSpace>(attacher: &mut Attacher<A>, pid: Pid) -> bool {
-    match attacher.user(pid) {
+fn grants<A: AddressSpace>(attacher: &mut Attacher<A>, call: CallNo, pages: u32) -> bool {
+    match attacher.waiting(call) {
+        Some(
+            Waiting {
+                living: true,
+                what: Pending::GetFrom { .. },
+                ..
+            },
+        ) => attacher.granted(call, pages) == Ok(()),
+        _ => false,
+    }
+}
+
+fn releases<A: AddressSpace>(attacher: &mut Attacher<A>, pid: Pid, apid: Apid) -> bool {
+    match attacher.permit_of(pid, apid) {
         Some(_) => {
-            attacher.exit(pid);
+            attacher.release(apid);
             true
         }
         None => false,
     }
+}
+
+fn exits<A: AddressSpace>(attacher: &mut Attacher<A>, pid: Pid) -> bool {
+    if attacher.user(pid).is_none() || attacher.lowest_permit(Holder::Process(pid)).is_some() {
+        return false;
+    }
+    attacher.exit(pid);
+    true
 }
 
 // The row that answers something else than wanted, where there is one.
@@ -238,12 +268,61 @@ const ORPHANS: &[Step] = &[
     Step::Drawn(2, 2),
 ];
 
+const FROM_3: Permit = Permit {
+    owner: Enclave(3),
+    segid: Segid(7),
+    access: READ,
+    pages: 5,
+};
+
+const FROM_4: Permit = Permit {
+    owner: Enclave(4),
+    segid: Segid(9),
+    access: Access::ReadWrite,
+    pages: 6,
+};
+
+// Permits come under the numbers of their calls, in any order, are found, and are dropped.
+const PERMITS: &[Step] = &[
+    Step::Start(1, 1, 1),
+    Step::Start(2, 2, 2),
+    Step::Issue(1, GET_FROM_4, 1),
+    Step::Issue(2, GET_FROM_3, 2),
+    Step::Grant(2, 5),
+    Step::Waits(2, None),
+    Step::Busy(2, None),
+    Step::Permit(2, 2, Some(FROM_3)),
+    Step::Permit(1, 2, None),
+    Step::Permit(1, 1, None),
+    Step::Grant(1, 6),
+    Step::Issue(1, GET_FROM_3, 3),
+    Step::Grant(3, 5),
+    Step::Permit(1, 1, Some(FROM_4)),
+    Step::Permit(1, -1, None),
+    Step::Permit(1, 4_294_967_297, None),
+    Step::Lowest(Holder::Process(Pid(1)), Some(1)),
+    Step::Lowest(Holder::Owner(Enclave(3)), Some(2)),
+    Step::Lowest(Holder::Permit(Apid(3)), Some(3)),
+    Step::Lowest(Holder::Permit(Apid(4)), None),
+    Step::Release(1, 1),
+    Step::Permit(1, 1, None),
+    Step::Lowest(Holder::Process(Pid(1)), Some(3)),
+    Step::Lowest(Holder::Owner(Enclave(4)), None),
+    Step::Release(2, 2),
+    Step::Exit(2),
+    Step::Lowest(Holder::Owner(Enclave(3)), Some(3)),
+    Step::Release(1, 3),
+    Step::Exit(1),
+    Step::Drawn(2, 3),
+];
+
 #[test]
-fn processes_and_calls(rt: HostRuntime) -> Result<(), AllocError> {
+fn processes_calls_and_permits(rt: HostRuntime) -> Result<(), AllocError> {
     let tables = [
         ("processes", PROCESSES),
         ("calls", CALLS),
         ("orphans", ORPHANS),
+        ("permits", PERMITS),
     ];
     for (name, steps) in tables {
         let mut attacher = Attacher::<PageTable>::new(rt.alloc())?;
