@@ -85,7 +85,7 @@ typed_get segid flags uid gid valid =
     let user = and_parts (is_allowed user_field uid) (are_allowed (user_field ∷ []) (gid ∷ [])) access.1 in
     let group = and_parts (is_allowed user_field gid) true user.1 in
     let small = in_range 1 2 flags access.0 in
-    (omega (arith, small), (in_range 0 4294967295 uid user.0, in_range 0 4294967295 gid group.0))
+    (omega (arith, small), in_range 0 4294967295 uid user.0, in_range 0 4294967295 gid group.0)
 
 typed_pages : (pages : ℕ) → is_body (bodies.Granted pages) ≡ true → Is32 pages
 typed_pages pages valid =
