@@ -17,8 +17,9 @@ use Rattle.xemem_language.specs.declared.record.Body.{Body}
 use Rattle.xemem_language.specs.declared.record.Body.TheVariants as bodies
 use Rattle.xemem_language.specs.declared.line.Line.{Line}
 use Rattle.xemem_language.specs.declared.line.Line.TheVariants as lines
-use Rattle.xemem_wire.specs.Table.{kind_of, is_kind_built, has_call, is_destination, is_enclave, is_undirected}
-use Rattle.xemem_wire.specs.Spelling.{is_valid, AreValid}
+use Rattle.xemem_wire.specs.Table.{kind_of, has_call, is_destination, is_enclave, is_undirected}
+use Rattle.xemem_wire.specs.Fields.{are_allowed, flags_field, get_cause_field, is_allowed, name_number, pages_field, segid_field, user_field}
+use Rattle.xemem_wire.specs.Spelling.{is_body, is_valid, AreValid}
 use Rattle.line_reader.specs.Typed.{Is32, IsTypedBody}
 use Rattle.attach_map.specs.declared.Pending.TheVariants as pendings
 use Rattle.attach_map.specs.declared.Waiting.{Waiting}
@@ -74,15 +75,41 @@ pub record HasNumbers (r : Record) : Type 0 where
   pub call : Is32 r.call
   pub body : IsTypedBody r.body
 
-typed_body : (body : Body) → is_kind_built (kind_of body) ≡ true → IsTypedBody body
-typed_body bodies.Query built = tt
-typed_body bodies.Here built = tt
-typed_body bodies.Register built = tt
-typed_body bodies.Admit built = tt
-typed_body bodies.NameReq built = tt
-typed_body (bodies.Named segid) built = tt
-typed_body (bodies.Unname segid) built = tt
-typed_body _ built = cc
+in_range : (low high n : ℕ) → (leb low n && leb n high) ≡ true → n ≤ high
+in_range low high n is = leb-true n high (and_parts (leb low n) (leb n high) is).1
+
+typed_get : (segid : Segid) (flags uid gid : ℕ) → is_body (bodies.Get segid flags uid gid) ≡ true → Is32 flags × Is32 uid × Is32 gid
+typed_get segid flags uid gid valid =
+    let name = and_parts (is_allowed segid_field (name_number segid.0)) (are_allowed (flags_field ∷ user_field ∷ user_field ∷ []) (flags ∷ uid ∷ gid ∷ [])) valid in
+    let access = and_parts (is_allowed flags_field flags) (are_allowed (user_field ∷ user_field ∷ []) (uid ∷ gid ∷ [])) name.1 in
+    let user = and_parts (is_allowed user_field uid) (are_allowed (user_field ∷ []) (gid ∷ [])) access.1 in
+    let group = and_parts (is_allowed user_field gid) true user.1 in
+    let small = in_range 1 2 flags access.0 in
+    (omega (arith, small), in_range 0 4294967295 uid user.0, in_range 0 4294967295 gid group.0)
+
+typed_pages : (pages : ℕ) → is_body (bodies.Granted pages) ≡ true → Is32 pages
+typed_pages pages valid =
+    let small = in_range 1 4096 pages (and_parts (is_allowed pages_field pages) true valid).0 in omega (arith, small)
+
+typed_cause : (cause : ℕ) → is_body (bodies.GetRefused cause) ≡ true → Is32 cause
+typed_cause cause valid =
+    let small = in_range 6 7 cause (and_parts (is_allowed get_cause_field cause) true valid).0 in omega (arith, small)
+
+typed_body : (body : Body) → is_body body ≡ true → IsTypedBody body
+typed_body bodies.Query valid = tt
+typed_body bodies.Here valid = tt
+typed_body bodies.Register valid = tt
+typed_body bodies.Admit valid = tt
+typed_body bodies.NameReq valid = tt
+typed_body (bodies.Named segid) valid = tt
+typed_body (bodies.Unname segid) valid = tt
+typed_body (bodies.Lookup segid) valid = tt
+typed_body (bodies.Found segid owner) valid = tt
+typed_body (bodies.Get segid flags uid gid) valid = typed_get segid flags uid gid valid
+typed_body (bodies.Granted pages) valid = typed_pages pages valid
+typed_body (bodies.GetRefused cause) valid = typed_cause cause valid
+typed_body (bodies.Release apid) valid = tt
+typed_body _ valid = cc
 
 typed_call : (serves : Bool) (call : ℕ) → cond serves (leb 1 call && ltb call (2 ^ 32)) (eqb call 0) ≡ true → Is32 call
 typed_call true call is = let low = ltb-true call (2 ^ 32) (and_parts (leb 1 call) (ltb call (2 ^ 32)) is).1 in omega (arith, low)
@@ -104,7 +131,7 @@ valid_numbers r valid =
       origin = leb-true r.origin.0 255 one.1;
       dest = typed_dest (kind_of r.body) r.dest two.1;
       call = typed_call (has_call (kind_of r.body)) r.call three.1;
-      body = typed_body r.body (and_parts _ _ one.0).0;
+      body = typed_body r.body one.0;
     }
 
 -- ---- rows

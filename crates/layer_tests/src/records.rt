@@ -105,7 +105,7 @@ fn encodes(out: &mut Vec<u8>, rec: &Record, want: &[u8]) -> bool {
 }
 
 fn feeds_encoded(stream: &mut Stream, count: usize) -> bool {
-    if stream.encoded.len() != count || count > 200 || stream.fed > 1000 {
+    if stream.encoded.len() != count || count > 400 || stream.fed > 1000 {
         return false;
     }
     stream.fed += count as u64;
@@ -144,6 +144,22 @@ const NAMED: &[u8] = b"\x18\0\0\0\x01\x06\0\0\x02\0\0\0\x07\0\0\0\x02\x01\0\0\0\
 const UNNAME: &[u8] =
     b"\x18\0\0\0\x01\x07\x02\0\xff\xff\0\0\x08\0\0\0\xff\xff\xff\xff\xff\xff\xff\x7f";
 
+const LOOKUP: &[u8] = b"\x18\0\0\0\x01\x08\x02\0\xff\xff\0\0\x09\0\0\0\x02\x01\0\0\0\0\0\0";
+
+const FOUND: &[u8] = b"\x1c\0\0\0\x01\x09\0\0\x02\0\0\0\x09\0\0\0\x02\x01\0\0\0\0\0\0\xff\0\0\0";
+
+const FOUND_NONE: &[u8] =
+    b"\x1c\0\0\0\x01\x09\0\0\x02\0\0\0\x09\0\0\0\x02\x01\0\0\0\0\0\0\xff\xff\0\0";
+
+const GET: &[u8] =
+    b"\x24\0\0\0\x01\x0a\x02\0\x03\0\0\0\x09\0\0\0\x02\x01\0\0\0\0\0\0\x02\0\0\0\xe8\x03\0\0\xff\xff\xff\xff";
+
+const GRANTED: &[u8] = b"\x14\0\0\0\x01\x0b\x03\0\x02\0\0\0\x09\0\0\0\0\x10\0\0";
+
+const GET_REFUSED: &[u8] = b"\x14\0\0\0\x01\x0c\x03\0\x02\0\0\0\x09\0\0\0\x07\0\0\0";
+
+const RELEASE: &[u8] = b"\x14\0\0\0\x01\x0d\x02\0\x03\0\0\0\x09\0\0\0\xff\xff\xff\xff";
+
 fn bad(bytes: &'static [u8], fault: WireFault, place: u64) -> Line {
     Line {
         bytes,
@@ -153,7 +169,7 @@ fn bad(bytes: &'static [u8], fault: WireFault, place: u64) -> Line {
     }
 }
 
-fn lines() -> [Line; 17] {
+fn lines() -> [Line; 27] {
     [
         Line {
             bytes: QUERY,
@@ -164,10 +180,11 @@ fn lines() -> [Line; 17] {
         bad(b"\x0f\0\0\0", WireFault::Length, 0),
         bad(b"\x10\0\0\0\x02", WireFault::Version, 4),
         bad(b"\x10\0\0\0\x01\x15", WireFault::Kind, 5),
-        bad(b"\x10\0\0\0\x01\x08", WireFault::Kind, 5),
+        bad(b"\x10\0\0\0\x01\x0e", WireFault::Kind, 5),
         bad(b"\x14\0\0\0\x01\x01", WireFault::Length, 0),
         bad(b"\x18\0\0\0\x01\x05", WireFault::Length, 0),
         bad(b"\x10\0\0\0\x01\x06", WireFault::Length, 0),
+        bad(b"\x18\0\0\0\x01\x09", WireFault::Length, 0),
         bad(b"\x18\0\0\0\x01\x06\0\0\xff\xff", WireFault::Field, 8),
         bad(
             b"\x10\0\0\0\x01\x05\x02\0\xff\xff\0\0\0\0\0\0",
@@ -194,6 +211,51 @@ fn lines() -> [Line; 17] {
             queries: 1,
             torn: 0,
         },
+        bad(
+            b"\x1c\0\0\0\x01\x09\0\0\x02\0\0\0\x09\0\0\0\x02\x01\0\0\0\0\0\0\0\x01",
+            WireFault::Field,
+            24,
+        ),
+        bad(
+            b"\x1c\0\0\0\x01\x09\0\0\x02\0\0\0\x09\0\0\0\x02\x01\0\0\0\0\0\0\xff\xff\x01\0",
+            WireFault::Zero,
+            26,
+        ),
+        bad(
+            b"\x24\0\0\0\x01\x0a\x02\0\x03\0\0\0\x09\0\0\0\x02\x01\0\0\0\0\0\x80",
+            WireFault::Field,
+            16,
+        ),
+        bad(
+            b"\x24\0\0\0\x01\x0a\x02\0\x03\0\0\0\x09\0\0\0\x02\x01\0\0\0\0\0\0\x03\0\0\0",
+            WireFault::Field,
+            24,
+        ),
+        bad(
+            b"\x14\0\0\0\x01\x0b\x03\0\x02\0\0\0\x09\0\0\0\0\0\0\0",
+            WireFault::Field,
+            16,
+        ),
+        bad(
+            b"\x14\0\0\0\x01\x0b\x03\0\x02\0\0\0\x09\0\0\0\x01\x10\0\0",
+            WireFault::Field,
+            16,
+        ),
+        bad(
+            b"\x14\0\0\0\x01\x0c\x03\0\x02\0\0\0\x09\0\0\0\x05\0\0\0",
+            WireFault::Field,
+            16,
+        ),
+        bad(
+            b"\x14\0\0\0\x01\x0c\x03\0\x02\0\0\0\x09\0\0\0\x08\0\0\0",
+            WireFault::Field,
+            16,
+        ),
+        bad(
+            b"\x14\0\0\0\x01\x0d\x02\0\x03\0\0\0\x09\0\0\0\0\0\0\0",
+            WireFault::Field,
+            16,
+        ),
         bad(b"\x10\0\0\0\x01\x01\x01\0\0\0", WireFault::Field, 8),
         bad(
             b"\x10\0\0\0\x01\x01\x01\0\xff\xff\x01\0",
@@ -239,8 +301,43 @@ fn unname(segid: i64) -> Body {
     }
 }
 
+fn lookup(segid: i64) -> Body {
+    Body::Lookup {
+        segid: Segid(segid),
+    }
+}
+
+fn found(segid: i64, owner: Option<Enclave>) -> Body {
+    Body::Found {
+        segid: Segid(segid),
+        owner,
+    }
+}
+
+fn get(segid: i64, flags: u32) -> Body {
+    Body::Get {
+        segid: Segid(segid),
+        flags,
+        uid: 1000,
+        gid: 4_294_967_295,
+    }
+}
+
+fn granted(pages: u32) -> Body {
+    Body::Granted { pages }
+}
+
+fn get_refused(cause: u32) -> Body {
+    Body::GetRefused { cause }
+}
+
+fn release(apid: i64) -> Body {
+    Body::Release { apid: Apid(apid) }
+}
+
 // The records of the built kinds, with their spellings, and a stream of all of them.
-fn built() -> [Step; 17] {
+fn built() -> [Step; 31] {
+    let (two, three) = (Some(Enclave(2)), Some(Enclave(3)));
     [
         Step::New,
         Step::Encode(made(1, None, 0, Body::Query), QUERY),
@@ -250,7 +347,14 @@ fn built() -> [Step; 17] {
         Step::Encode(made(2, None, 1, Body::NameReq), NAMEREQ),
         Step::Encode(made(0, Some(Enclave(2)), 7, named(258)), NAMED),
         Step::Encode(made(2, None, 8, unname(9_223_372_036_854_775_807)), UNNAME),
-        Step::FeedEncoded(128),
+        Step::Encode(made(2, None, 9, lookup(258)), LOOKUP),
+        Step::Encode(made(0, two, 9, found(258, Some(Enclave(255)))), FOUND),
+        Step::Encode(made(0, two, 9, found(258, None)), FOUND_NONE),
+        Step::Encode(made(2, three, 9, get(258, 2)), GET),
+        Step::Encode(made(3, two, 9, granted(4096)), GRANTED),
+        Step::Encode(made(3, two, 9, get_refused(7)), GET_REFUSED),
+        Step::Encode(made(2, three, 9, release(4_294_967_295)), RELEASE),
+        Step::FeedEncoded(304),
         Step::Next(Some(QUERY)),
         Step::Next(Some(HERE)),
         Step::Next(Some(REGISTER)),
@@ -258,27 +362,53 @@ fn built() -> [Step; 17] {
         Step::Next(Some(NAMEREQ)),
         Step::Next(Some(NAMED)),
         Step::Next(Some(UNNAME)),
+        Step::Next(Some(LOOKUP)),
+        Step::Next(Some(FOUND)),
+        Step::Next(Some(FOUND_NONE)),
+        Step::Next(Some(GET)),
+        Step::Next(Some(GRANTED)),
+        Step::Next(Some(GET_REFUSED)),
+        Step::Next(Some(RELEASE)),
         Step::Next(None),
     ]
 }
 
 // Records with a number that is out of its range, and of kinds that aren't built.
-fn invalid() -> [Step; 13] {
-    let two = Enclave(2);
+fn invalid() -> [Step; 25] {
+    let zero = Some(Enclave(0));
     [
         Step::Invalid(made(256, None, 0, Body::Query)),
-        Step::Invalid(made(1, Some(Enclave(0)), 0, Body::Query)),
+        Step::Invalid(made(1, zero, 0, Body::Query)),
         Step::Invalid(made(1, None, 0, Body::Admit)),
         Step::Invalid(made(1, Some(Enclave(256)), 0, Body::Admit)),
         Step::Invalid(made(1, Some(Enclave(65535)), 0, Body::Register)),
         Step::Invalid(made(1, None, 1, Body::Here)),
         Step::Invalid(made(1, None, 0, Body::NameReq)),
-        Step::Invalid(made(1, Some(Enclave(0)), 1, Body::NameReq)),
+        Step::Invalid(made(1, zero, 1, Body::NameReq)),
         Step::Invalid(made(1, None, 1, named(1))),
-        Step::Invalid(made(1, Some(Enclave(0)), 1, named(-1))),
-        Step::Invalid(made(1, None, 1, Body::Lookup { segid: Segid(1) })),
-        Step::Invalid(made(1, Some(Enclave(0)), 1, Body::Release { apid: Apid(1) })),
-        Step::Invalid(made(1, None, 0, Body::Died { enclave: two })),
+        Step::Invalid(made(1, zero, 1, named(-1))),
+        Step::Invalid(made(1, zero, 1, lookup(1))),
+        Step::Invalid(made(1, None, 1, lookup(-1))),
+        Step::Invalid(made(1, zero, 1, found(1, Some(Enclave(256))))),
+        Step::Invalid(made(1, zero, 1, found(1, Some(Enclave(65535))))),
+        Step::Invalid(made(1, zero, 1, get(-1, 1))),
+        Step::Invalid(made(1, zero, 1, get(1, 0))),
+        Step::Invalid(made(1, zero, 0, get(1, 1))),
+        Step::Invalid(made(1, zero, 1, granted(0))),
+        Step::Invalid(made(1, zero, 1, granted(4097))),
+        Step::Invalid(made(1, zero, 1, get_refused(5))),
+        Step::Invalid(made(1, zero, 1, get_refused(8))),
+        Step::Invalid(made(1, zero, 1, release(0))),
+        Step::Invalid(made(1, zero, 1, release(4_294_967_296))),
+        Step::Invalid(made(1, zero, 1, Body::Detach)),
+        Step::Invalid(made(
+            1,
+            None,
+            0,
+            Body::Died {
+                enclave: Enclave(2),
+            },
+        )),
     ]
 }
 

@@ -1,6 +1,6 @@
 -- Fields one after the other: what is spelled is read back and has no bad field, and what has none is spelled so.
-use Rattle.std.proofs.Common.{◌≡◌, ℕ, ◌+◌, ◌*◌, ◌/◌, ◌%◌, ◌<◌, ◌≤◌, nat_le, true, false, Some, None, List, [], ◌∷◌, ◌++◌, leb, lit≤, length, drop, get_or, refl, sym, ap, ◌∙◌, if◌then◌else◌, inl, inr, arith, append_assoc, length-append, length-drop, drop-drop}
-use Rattle.std.proofs.lemmas.Bool.{cases_Bool, and_parts, and_from, le-leb}
+use Rattle.std.proofs.Common.{◌≡◌, ℕ, suc, ◌+◌, ◌*◌, ◌/◌, ◌%◌, ◌<◌, ◌≤◌, nat_le, true, false, Some, None, List, [], ◌∷◌, ◌++◌, ◌&&◌, eqb, leb, lit<, lit≤, length, drop, get_or, refl, sym, ap, ◌∙◌, if◌then◌else◌, inl, inr, arith, append_assoc, length-append, length-drop, drop-drop}
+use Rattle.std.proofs.lemmas.Bool.{cases_Bool, and_parts, and_from, or_cases, eqb-true, le-leb, false≢true}
 use Rattle.std.proofs.lemmas.Option.{none-some}
 use Rattle.std.proofs.lemmas.List.{drop-append-le, drop_at, get_or-drop}
 use borrow.Author.Tests.{leb-true}
@@ -9,7 +9,7 @@ use Rattle.xemem_wire.specs.declared.fields.Field.{Field}
 use Rattle.xemem_wire.specs.declared.fields.Width.{Width}
 use Rattle.xemem_wire.specs.declared.fields.Width.TheVariants as widths
 use Rattle.xemem_wire.specs.declared.format.BadField.{BadField}
-use Rattle.xemem_wire.specs.Fields.{bytes_in, number_bytes, number_at_front, is_allowed, fields_length, fields_spelling, fields_numbers, are_allowed, fields_fault}
+use Rattle.xemem_wire.specs.Fields.{bytes_in, limit_of, number_bytes, number_at_front, is_allowed, fields_length, fields_spelling, fields_numbers, are_allowed, fields_fault}
 
 -- each number of the list is a byte
 abbrev pub IsBytes : List ℕ → Type 0
@@ -24,12 +24,6 @@ number_at_front-append widths.Four (a ∷ b ∷ c ∷ d ∷ bytes) more h = refl
 number_at_front-append widths.Four _ more h = absurd (omega arith)
 number_at_front-append widths.Eight (a ∷ b ∷ c ∷ d ∷ e ∷ f ∷ g ∷ i ∷ bytes) more h = refl
 number_at_front-append widths.Eight _ more h = absurd (omega arith)
-
--- the numbers that a width has room for
-abbrev pub limit_of : Width → ℕ
-limit_of widths.Two = 65536
-limit_of widths.Four = 4294967296
-limit_of widths.Eight = 18446744073709551616
 
 pub number_16 : (n : ℕ) → n < 65536 → n % 256 + n / 256 % 256 * 256 ≡ n
 number_16 n h = omega arith
@@ -86,9 +80,47 @@ abbrev pub AllFit : List Field → Type 0
 AllFit [] = Unit {0}
 AllFit (f ∷ fs) = (f.most < limit_of f.width) × AllFit fs
 
+-- the number that stands for none has room in each
+none_room : (w : Width) → 65535 < limit_of w
+none_room widths.Two = lit< tt
+none_room widths.Four = lit< tt
+none_room widths.Eight = lit< tt
+
 allowed_room : (f : Field) (n : ℕ) → f.most < limit_of f.width → is_allowed f n ≡ true → n < limit_of f.width
 allowed_room f n room h =
-    let most : n ≤ f.most = leb-true n f.most (and_parts (leb f.least n) (leb n f.most) h).1 in omega arith
+    elim (or_cases (f.or_none && eqb n 65535) (leb f.least n && leb n f.most) h) [
+      | inl none ↦
+          let is : n ≡ 65535 = eqb-true n 65535 (and_parts f.or_none (eqb n 65535) none).1 in
+          omega (arith, none_room f.width)
+      | inr within ↦
+          let most : n ≤ f.most = leb-true n f.most (and_parts (leb f.least n) (leb n f.most) within).1 in omega arith
+    ]
+
+-- a number of a field that has no none is in its range
+pub in_range : (f : Field) (n : ℕ) → f.or_none ≡ false → is_allowed f n ≡ true → (f.least ≤ n) × (n ≤ f.most)
+in_range f n some h =
+    let range : (leb f.least n && leb n f.most) ≡ true = rw some at h in
+    let ends = and_parts (leb f.least n) (leb n f.most) range in
+    (leb-true f.least n ends.0, leb-true n f.most ends.1)
+
+-- each number is one that its field allows, and there are as many
+abbrev pub AllAllowed : List Field → List ℕ → Type 0
+AllAllowed [] [] = Unit {0}
+AllAllowed (f ∷ fs) (n ∷ ns) = (is_allowed f n ≡ true) × AllAllowed fs ns
+AllAllowed _ _ = ⊥
+
+pub all_allowed : (fs : List Field) (ns : List ℕ) → are_allowed fs ns ≡ true → AllAllowed fs ns
+all_allowed [] [] h = tt
+all_allowed [] (n ∷ ns) h = absurd (false≢true h)
+all_allowed (f ∷ fs) [] h = absurd (false≢true h)
+all_allowed (f ∷ fs) (n ∷ ns) h =
+    let parts = and_parts (is_allowed f n) (are_allowed fs ns) h in (parts.0, all_allowed fs ns parts.1)
+
+pub as_many : (fs : List Field) (ns : List ℕ) → AllAllowed fs ns → length ns ≡ length fs
+as_many [] [] h = refl
+as_many [] (n ∷ ns) h = absurd h
+as_many (f ∷ fs) [] h = absurd h
+as_many (f ∷ fs) (n ∷ ns) h = ap suc (as_many fs ns h.1)
 
 -- no field is there
 pub fields_fault-none : (place : ℕ) (fs : List Field) → fields_fault place fs [] ≡ None

@@ -3,24 +3,59 @@ use Rattle.std.specs.Prelude.{ℕ, ℤ, pos, negsuc, ◌+◌, ◌*◌, ◌==◌,
 use Rattle.std.specs.Int.{w64, to_le_bytes}
 use Rattle.xemem_language.specs.declared.record.Body.{Body}
 use Rattle.xemem_language.specs.declared.record.Body.TheVariants as bodies
+use Rattle.xemem_language.specs.Destinations.{destination_of}
+use Rattle.xm_num.specs.declared.Enclave.{Enclave}
 use Rattle.xemem_wire.specs.declared.fields.Field.{Field}
 use Rattle.xemem_wire.specs.declared.fields.Width.{Width}
 use Rattle.xemem_wire.specs.declared.fields.Width.TheVariants as widths
 use Rattle.xemem_wire.specs.declared.format.BadField.{BadField}
 use Rattle.xemem_wire.specs.declared.format.WireFault.TheVariants as faults
-use Rattle.xemem_wire.specs.Table.{u16_at, u32_at}
+use Rattle.xemem_wire.specs.Table.{is_enclave, u16_at, u32_at}
 
 -- ---- the table: each kind has its row, from which its length, its spelling, its checks and its reading follow
 
 -- a segid is at most 2 ^ 63 - 1
 abbrev pub segid_field : Field
-segid_field = record { width = widths.Eight; least = 0; most = 9223372036854775807; fault = faults.Field }
+segid_field = record { width = widths.Eight; least = 0; most = 9223372036854775807; or_none = false; fault = faults.Field }
+
+-- an owner is an enclave or none
+abbrev pub owner_field : Field
+owner_field = record { width = widths.Two; least = 0; most = 255; or_none = true; fault = faults.Field }
+
+abbrev pub zero_field : Field
+zero_field = record { width = widths.Two; least = 0; most = 0; or_none = false; fault = faults.Zero }
+
+-- any number of 32 bits: a user or a group
+abbrev pub user_field : Field
+user_field = record { width = widths.Four; least = 0; most = 4294967295; or_none = false; fault = faults.Field }
+
+-- 1 to read, 2 to read and to write
+abbrev pub flags_field : Field
+flags_field = record { width = widths.Four; least = 1; most = 2; or_none = false; fault = faults.Field }
+
+abbrev pub pages_field : Field
+pages_field = record { width = widths.Four; least = 1; most = 4096; or_none = false; fault = faults.Field }
+
+-- a get is refused for want of its segment or of a right to it
+abbrev pub get_cause_field : Field
+get_cause_field = record { width = widths.Four; least = 6; most = 7; or_none = false; fault = faults.Field }
+
+-- an apid is the number of a get
+abbrev pub apid_field : Field
+apid_field = record { width = widths.Four; least = 1; most = 4294967295; or_none = false; fault = faults.Field }
 
 -- the fields of a kind, in order; a kind without a row has none
 abbrev pub fields_of_kind : ℕ → List Field
-fields_of_kind kind = if kind == 6 || kind == 7 then segid_field ∷ [] else []
+fields_of_kind kind =
+    if kind == 6 || kind == 7 || kind == 8 then segid_field ∷ []
+    else if kind == 9 then segid_field ∷ owner_field ∷ zero_field ∷ []
+    else if kind == 10 then segid_field ∷ flags_field ∷ user_field ∷ user_field ∷ []
+    else if kind == 11 then pages_field ∷ []
+    else if kind == 12 then get_cause_field ∷ []
+    else if kind == 13 then apid_field ∷ []
+    else []
 
--- a negative segid stands as the highest number, which its field doesn't allow
+-- a negative segid or apid stands as the highest number, which its field doesn't allow
 abbrev pub name_number : ℤ → ℕ
 name_number (pos n) = n
 name_number (negsuc n) = 18446744073709551615
@@ -29,10 +64,21 @@ name_number (negsuc n) = 18446744073709551615
 abbrev pub name_of : ℕ → ℤ
 name_of number = if nat_le number 9223372036854775807 then pos number else negsuc 0
 
+-- an owner that is no enclave's number stands as 256, which its field doesn't allow
+abbrev pub owner_number : Option Enclave → ℕ
+owner_number None = 65535
+owner_number (Some enclave) = if is_enclave enclave.0 then enclave.0 else 256
+
 -- the numbers that a body has for its kind's fields
 abbrev pub numbers_of : Body → List ℕ
 numbers_of (bodies.Named segid) = name_number segid.0 ∷ []
 numbers_of (bodies.Unname segid) = name_number segid.0 ∷ []
+numbers_of (bodies.Lookup segid) = name_number segid.0 ∷ []
+numbers_of (bodies.Found segid owner) = name_number segid.0 ∷ owner_number owner ∷ 0 ∷ []
+numbers_of (bodies.Get segid flags uid gid) = name_number segid.0 ∷ flags ∷ uid ∷ gid ∷ []
+numbers_of (bodies.Granted pages) = pages ∷ []
+numbers_of (bodies.GetRefused cause) = cause ∷ []
+numbers_of (bodies.Release apid) = name_number apid.0 ∷ []
 numbers_of _ = []
 
 -- the body of a built kind with these numbers
@@ -44,7 +90,17 @@ body_of kind numbers =
     else if kind == 4 then bodies.Admit
     else if kind == 5 then bodies.NameReq
     else if kind == 6 then bodies.Named (record { 0 = name_of (slice_index numbers 0) })
-    else bodies.Unname (record { 0 = name_of (slice_index numbers 0) })
+    else if kind == 7 then bodies.Unname (record { 0 = name_of (slice_index numbers 0) })
+    else if kind == 8 then bodies.Lookup (record { 0 = name_of (slice_index numbers 0) })
+    else if kind == 9
+    then bodies.Found (record { 0 = name_of (slice_index numbers 0) }) (destination_of (slice_index numbers 1))
+    else if kind == 10
+    then
+    bodies.Get (record { 0 = name_of (slice_index numbers 0) }) (slice_index numbers 1) (slice_index numbers 2)
+    (slice_index numbers 3)
+    else if kind == 11 then bodies.Granted (slice_index numbers 0)
+    else if kind == 12 then bodies.GetRefused (slice_index numbers 0)
+    else bodies.Release (record { 0 = name_of (slice_index numbers 0) })
 
 -- ---- a field
 
@@ -52,6 +108,12 @@ abbrev pub bytes_in : Width → ℕ
 bytes_in widths.Two = 2
 bytes_in widths.Four = 4
 bytes_in widths.Eight = 8
+
+-- the numbers that have room in that many bytes
+abbrev pub limit_of : Width → ℕ
+limit_of widths.Two = 65536
+limit_of widths.Four = 4294967296
+limit_of widths.Eight = 18446744073709551616
 
 -- a number in that many bytes, the lowest first
 abbrev pub number_bytes : Width → ℕ → List ℕ
@@ -63,8 +125,9 @@ number_at_front widths.Two bytes = u16_at bytes 0
 number_at_front widths.Four bytes = u32_at bytes 0
 number_at_front widths.Eight bytes = u32_at bytes 0 + u32_at bytes 4 * 4294967296
 
+-- a number of the field's range, or 65535 where that stands for none
 abbrev pub is_allowed : Field → ℕ → Bool
-is_allowed field number = nat_le field.least number && nat_le number field.most
+is_allowed field number = (field.or_none && (number == 65535)) || (nat_le field.least number && nat_le number field.most)
 
 -- ---- fields one after the other
 

@@ -30,7 +30,7 @@ kind_of (bodies.Confirm enclave) = 20
 
 -- the kinds that are built
 abbrev pub is_kind_built : ℕ → Bool
-is_kind_built kind = nat_le 1 kind && nat_le kind 7
+is_kind_built kind = nat_le 1 kind && nat_le kind 13
 
 -- the kinds that name no destination: they go to the neighbour, to the name server or to the host
 abbrev pub is_undirected : ℕ → Bool

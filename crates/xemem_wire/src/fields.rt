@@ -1,12 +1,12 @@
 // What stands after a record's header: the table of the kinds' fields, and what follows from it.
-ghost use Rattle.std.specs.Prelude.{◌≡◌, ℕ, ◌+◌, ◌<◌, ◌≤◌, ◌++◌, length, take, slice_index, IfSome, OnOk, OnErr};
+ghost use Rattle.std.specs.Prelude.{◌≡◌, ℕ, ◌+◌, ◌<◌, ◌≤◌, ◌++◌, length, take, slice_index, slice_get, IfSome, OnOk, OnErr};
 ghost use Rattle.xemem_wire.specs.Table.{kind_of};
-ghost use Rattle.xemem_wire.specs.Fields.{bytes_in, number_at_front, is_allowed, fields_of_kind, fields_length, length_of_kind, fields_spelling, fields_numbers, are_allowed, fields_fault, name_number, name_of, numbers_of, body_of};
+ghost use Rattle.xemem_wire.specs.Fields.{bytes_in, limit_of, number_at_front, is_allowed, fields_of_kind, fields_length, length_of_kind, fields_spelling, fields_numbers, are_allowed, fields_fault, name_number, name_of, owner_number, numbers_of, body_of};
 
-use crate::judge::{u16_at, u32_at};
+use crate::judge::{destination_of, is_enclave, u16_at, u32_at};
 use crate::{BadField, Body, WireFault};
 use std::alloc::AllocError;
-use xm_num::Segid;
+use xm_num::{Apid, Enclave, Segid};
 
 /// How many bytes a number has.
 #[derive(Clone, Copy, Debug, PartialEq, Eq)]
@@ -16,12 +16,13 @@ pub(crate) enum Width {
     Eight,
 }
 
-/// A field: its width, its lowest and its highest number, and what is wrong with any other.
+/// A field: its width, its lowest and its highest number, whether 65535 stands for none, and what is wrong with any other.
 #[derive(Clone, Copy, Debug, PartialEq, Eq)]
 pub(crate) struct Field {
     pub(crate) width: Width,
     pub(crate) least: u64,
     pub(crate) most: u64,
+    pub(crate) or_none: bool,
     pub(crate) fault: WireFault,
 }
 
@@ -29,6 +30,66 @@ const SEGID: Field = Field {
     width: Width::Eight,
     least: 0,
     most: 9_223_372_036_854_775_807,
+    or_none: false,
+    fault: WireFault::Field,
+};
+
+const OWNER: Field = Field {
+    width: Width::Two,
+    least: 0,
+    most: 255,
+    or_none: true,
+    fault: WireFault::Field,
+};
+
+const ZERO: Field = Field {
+    width: Width::Two,
+    least: 0,
+    most: 0,
+    or_none: false,
+    fault: WireFault::Zero,
+};
+
+/// A user or a group.
+const USER: Field = Field {
+    width: Width::Four,
+    least: 0,
+    most: 4_294_967_295,
+    or_none: false,
+    fault: WireFault::Field,
+};
+
+/// To read, or to read and to write.
+const FLAGS: Field = Field {
+    width: Width::Four,
+    least: 1,
+    most: 2,
+    or_none: false,
+    fault: WireFault::Field,
+};
+
+const PAGES: Field = Field {
+    width: Width::Four,
+    least: 1,
+    most: 4096,
+    or_none: false,
+    fault: WireFault::Field,
+};
+
+/// `NoSegment` or `Denied`.
+const GET_CAUSE: Field = Field {
+    width: Width::Four,
+    least: 6,
+    most: 7,
+    or_none: false,
+    fault: WireFault::Field,
+};
+
+const APID: Field = Field {
+    width: Width::Four,
+    least: 1,
+    most: 4_294_967_295,
+    or_none: false,
     fault: WireFault::Field,
 };
 
@@ -38,7 +99,12 @@ pub(crate) fn fields_of_kind(kind: u8) -> &'static [Field]
     ensures short { fields_length result.now ≤ 16388 }
 {
     match kind {
-        6 | 7 => &[SEGID],
+        6 | 7 | 8 => &[SEGID],
+        9 => &[SEGID, OWNER, ZERO],
+        10 => &[SEGID, FLAGS, USER, USER],
+        11 => &[PAGES],
+        12 => &[GET_CAUSE],
+        13 => &[APID],
         _ => &[],
     }
 }
@@ -75,7 +141,8 @@ pub(crate) fn length_of_kind(kind: u8) -> u32
 /// The number of that width at the front.
 fn number_at_front(width: Width, bytes: &[u8]) -> u64
     requires { bytes_in width ≤ length bytes.now }
-    ensures { result ≡ number_at_front width bytes.now }
+    ensures number { result ≡ number_at_front width bytes.now }
+    ensures room { result < limit_of width }
 {
     match width {
         Width::Two => u64::from(u16_at(bytes, 0)),
@@ -88,7 +155,7 @@ fn number_at_front(width: Width, bytes: &[u8]) -> u64
 fn is_allowed(field: Field, number: u64) -> bool
     ensures { result ≡ is_allowed field number }
 {
-    field.least <= number && number <= field.most
+    (field.or_none && number == 65535) || (field.least <= number && number <= field.most)
 }
 
 /// The first of these fields that is there and isn't allowed. They begin at that place of the record.
@@ -114,7 +181,8 @@ pub(crate) fn fields_fault(fields: &[Field], bytes: &[u8], place: u64) -> Option
 /// The number of the field at that position, or 0 past the last field.
 fn field_number(fields: &[Field], bytes: &[u8], position: usize) -> u64
     requires { fields_length fields.now ≤ length bytes.now }
-    ensures { result ≡ slice_index (fields_numbers fields.now bytes.now) position }
+    ensures number { result ≡ slice_index (fields_numbers fields.now bytes.now) position }
+    ensures room { IfSome (slice_get fields.now position) (λ field. result < limit_of field.width) }
 {
     let Some((field, later)) = fields.split_first() else {
         return 0;
@@ -160,24 +228,52 @@ pub(crate) fn append_fields(
     appended
 }
 
-/// A segid as a number. A negative one stands as the highest, which no segid has.
+/// A segid or an apid as a number. A negative one stands as the highest, which its field doesn't allow.
 fn name_number(name: i64) -> u64
     ensures { result ≡ name_number name }
 {
     if name < 0 { u64::MAX } else { name as u64 }
 }
 
-/// The numbers of a body's fields, and 0 behind them.
-pub(crate) fn numbers_of(body: &Body) -> [u64; 1]
-    ensures { take (length (fields_of_kind (kind_of body.now))) result ≡ numbers_of body.now }
+/// An owner as a number. One that is no enclave's number stands as one that its field doesn't allow.
+fn owner_number(owner: Option<Enclave>) -> u64
+    ensures { result ≡ owner_number owner }
 {
-    match body {
-        Body::Named { segid } | Body::Unname { segid } => [name_number(segid.0)],
-        _ => [0],
+    match owner {
+        None => 65535,
+        Some(enclave) if is_enclave(enclave.0) => u64::from(enclave.0),
+        Some(_) => 256,
     }
 }
 
-/// What a number stands for as a segid, the other way round.
+/// The numbers of a body's fields, and 0 behind them.
+pub(crate) fn numbers_of(body: &Body) -> [u64; 4]
+    ensures { take (length (fields_of_kind (kind_of body.now))) result ≡ numbers_of body.now }
+{
+    match body {
+        Body::Named { segid } | Body::Unname { segid } | Body::Lookup { segid } => {
+            [name_number(segid.0), 0, 0, 0]
+        }
+        Body::Found { segid, owner } => [name_number(segid.0), owner_number(*owner), 0, 0],
+        Body::Get {
+            segid,
+            flags,
+            uid,
+            gid,
+        } => [
+            name_number(segid.0),
+            u64::from(*flags),
+            u64::from(*uid),
+            u64::from(*gid),
+        ],
+        Body::Granted { pages } => [u64::from(*pages), 0, 0, 0],
+        Body::GetRefused { cause } => [u64::from(*cause), 0, 0, 0],
+        Body::Release { apid } => [name_number(apid.0), 0, 0, 0],
+        _ => [0, 0, 0, 0],
+    }
+}
+
+/// What a number stands for as a segid or an apid, the other way round.
 fn name_of(number: u64) -> i64
     ensures { result ≡ name_of number }
 {
@@ -203,8 +299,30 @@ pub(crate) fn body_in(kind: u8, bytes: &[u8]) -> Body
         6 => Body::Named {
             segid: Segid(name_of(field_number(fields, bytes, 0))),
         },
-        _ => Body::Unname {
+        7 => Body::Unname {
             segid: Segid(name_of(field_number(fields, bytes, 0))),
+        },
+        8 => Body::Lookup {
+            segid: Segid(name_of(field_number(fields, bytes, 0))),
+        },
+        9 => Body::Found {
+            segid: Segid(name_of(field_number(fields, bytes, 0))),
+            owner: destination_of(field_number(fields, bytes, 1) as u16),
+        },
+        10 => Body::Get {
+            segid: Segid(name_of(field_number(fields, bytes, 0))),
+            flags: field_number(fields, bytes, 1) as u32,
+            uid: field_number(fields, bytes, 2) as u32,
+            gid: field_number(fields, bytes, 3) as u32,
+        },
+        11 => Body::Granted {
+            pages: field_number(fields, bytes, 0) as u32,
+        },
+        12 => Body::GetRefused {
+            cause: field_number(fields, bytes, 0) as u32,
+        },
+        _ => Body::Release {
+            apid: Apid(name_of(field_number(fields, bytes, 0))),
         },
     }
 }

@@ -51,7 +51,7 @@ pub(crate) fn has_call(kind: u8) -> bool
 pub(crate) fn is_built(kind: u8) -> bool
     ensures { result ≡ is_kind_built kind }
 {
-    matches!(kind, 1..=7)
+    matches!(kind, 1..=13)
 }
 
 /// Whether that is the number of an enclave.
