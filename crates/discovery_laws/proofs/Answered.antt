@@ -14,7 +14,7 @@ use Rattle.xemem_language.specs.declared.record.Body.TheVariants as bodies
 use Rattle.xemem_language.specs.declared.line.Line.{Line}
 use Rattle.xemem_language.specs.declared.line.Line.TheVariants as lines
 use Rattle.enclave_rules.specs.View.{View}
-use Rattle.enclave_rules.specs.Sending.{Server, knows_way, drop_lines, over_lines, send_lines, way_to}
+use Rattle.enclave_rules.specs.Sending.{Server, knows_way, drop_lines, send_lines, way_to}
 use Rattle.enclave_rules.specs.Steps.{knows_dead, is_stray, here_of, register_of, admit_of, told_askers, register_lines, admit_over, admit_to, body_lines, record_lines}
 use Rattle.global_model.specs.Facts.{Facts, EnclaveFact, after_line, after_lines, fact_of, is_holder, is_living_enclave}
 use Rattle.global_model.specs.Channels.{is_neighbour}
@@ -29,6 +29,7 @@ use Rattle.discovery_laws.proofs.Asking.{is_query, is_here, is_query_body, is_he
 use Rattle.discovery_laws.proofs.Knowing.{known_sent, known_got, known_asked, known_way, way_knows, way_learned}
 use Rattle.discovery_laws.proofs.Newborn.{near_born, near_turned}
 use Rattle.discovery_laws.proofs.Calm.{counted_knowing, counted_owed, IsAsking, IsCalm, AreCalm, calm_line, calm_lines}
+use Rattle.discovery_laws.proofs.Each.{each_either, each_over}
 use Rattle.discovery_laws.proofs.Serving.{Serves, is_serving, serves_asked, serves_body}
 use Rattle.xm_num.specs.declared.Pid.{Pid}
 use Rattle.xemem_language.specs.declared.call.Call.{Call}
@@ -60,29 +61,21 @@ knows_way_is G y = ap (λ b. b || is_some (way_at G y.0)) (holder_is (G.enclave 
 
 -- ---- records that neither ask for the way nor tell it
 
-calm_either : (t : Bool) (ls ms : List Line) → AreCalm ls → AreCalm ms → AreCalm (cond t ls ms)
-calm_either true ls ms left right = left
-calm_either false ls ms left right = right
-
-calm_sent : (v : View) (from : Enclave) (over : Option Enclave) (r : Record) → (is_query r || is_here r) ≡ false → AreCalm (over_lines v (Some from) over r)
-calm_sent v from None r calm = (tt, tt)
-calm_sent v from (Some over) r calm = calm_either (eqb over.0 from.0) (drop_lines v) (lines.Sent v.me over r ∷ []) (tt, tt) (calm, tt)
-
 calm_register : (v : View) (from : Enclave) (r : Record) → (is_query r || is_here r) ≡ false → AreCalm (register_lines v from r)
 calm_register v from r calm = (
   tt,
-  calm_either v.core.holder (lines.Route v.me r.origin from ∷ lines.Sent v.me from (admit_of v.me r.origin) ∷ [])
-      (send_lines v (Some from) Server r) (tt, (refl, tt)) (calm_sent v from (way_to v Server) r calm),
+  each_either IsCalm v.core.holder (lines.Route v.me r.origin from ∷ lines.Sent v.me from (admit_of v.me r.origin) ∷ [])
+      (send_lines v (Some from) Server r) (tt, (refl, tt)) (each_over IsCalm v (Some from) (way_to v Server) r tt (λ x. calm)),
 )
 
 calm_over : (v : View) (from d : Enclave) (r : Record) (over : Option Enclave) → (is_query r || is_here r) ≡ false → AreCalm (admit_over v from d r over)
 calm_over v from d r None calm = (tt, tt)
-calm_over v from d r (Some over) calm = (tt, calm_sent v from (Some over) r calm)
+calm_over v from d r (Some over) calm = (tt, each_over IsCalm v (Some from) (Some over) r tt (λ x. calm))
 
 calm_admit : (v : View) (from : Enclave) (r : Record) (dest : Option Enclave) → (is_query r || is_here r) ≡ false → AreCalm (admit_to v from r dest)
 calm_admit v from r None calm = (tt, tt)
-calm_admit v from r (Some d) calm = calm_either (eqb d.0 v.me.0) (cond v.core.admitted (drop_lines v) (lines.Admitted v.me ∷ []))
-    (admit_over v from d r (at v.ways.backs d.0)) (calm_either v.core.admitted (drop_lines v) (lines.Admitted v.me ∷ []) (tt, tt) (tt, tt))
+calm_admit v from r (Some d) calm = each_either IsCalm (eqb d.0 v.me.0) (cond v.core.admitted (drop_lines v) (lines.Admitted v.me ∷ []))
+    (admit_over v from d r (at v.ways.backs d.0)) (each_either IsCalm v.core.admitted (drop_lines v) (lines.Admitted v.me ∷ []) (tt, tt) (tt, tt))
     (calm_over v from d r (at v.ways.backs d.0) calm)
 
 -- what serves calls asks for no way and tells none
@@ -119,7 +112,7 @@ calm_body v from r calm (bodies.Unname segid) is = serves_body IsCalm calm_serve
 calm_body v from r calm body is = (tt, tt)
 
 pub calm_record : (v : View) (from : Enclave) (r : Record) → (is_query r || is_here r) ≡ false → AreCalm (record_lines v from r)
-calm_record v from r calm = calm_either (is_stray v r) (drop_lines v) (body_lines v from r r.body) (tt, tt) (calm_body v from r calm r.body calm)
+calm_record v from r calm = each_either IsCalm (is_stray v r) (drop_lines v) (body_lines v from r r.body) (tt, tt) (calm_body v from r calm r.body calm)
 
 -- ---- what a step leaves
 

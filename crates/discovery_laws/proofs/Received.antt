@@ -8,7 +8,6 @@ use Rattle.xemem_language.specs.Destinations.{destination_number}
 use Rattle.xemem_language.specs.declared.record.Record.{Record}
 use Rattle.xemem_language.specs.declared.record.Body.{Body}
 use Rattle.xemem_language.specs.declared.record.Body.TheVariants as bodies
-use Rattle.xemem_language.specs.declared.line.Line.{Line}
 use Rattle.xemem_language.specs.declared.line.Line.TheVariants as lines
 use Rattle.enclave_rules.specs.View.{View}
 use Rattle.enclave_rules.specs.Steps.{admit_over, admit_to, body_lines, here_lines, here_of, register_of, admit_of, is_stray, query_lines, record_lines, register_lines, told_askers}
@@ -16,6 +15,7 @@ use Rattle.enclave_rules.specs.Sending.{drop_lines, knows_way, over_lines}
 use Rattle.enclave_rules.specs.Ways.{place_among}
 use Rattle.global_model.specs.Facts.{Facts, after_line}
 use Rattle.discovery_laws.specs.Known.{in_flight}
+use Rattle.discovery_laws.proofs.Each.{each-append, each_over, each_told}
 use Rattle.discovery_laws.proofs.Stages.{about_in, is_about, is_about_by}
 use Rattle.discovery_laws.proofs.Underway.{flight_got}
 use Rattle.discovery_laws.proofs.Unmoved.{AreAside, AreWithinStep, IsAside, IsUnmoved, inner_all}
@@ -57,18 +57,6 @@ unmoved_got G x y r rs d is other = record {
 
 -- ---- what is made of a record
 
-aside_passed : (v : View) (from : Enclave) (to : Option Enclave) (r : Record) (d : ℕ) → is_about d r ≡ false → AreAside d (over_lines v (Some from) to r)
-aside_passed v from None r d other = (tt, tt)
-aside_passed v from (Some over) r d other = by (eqb over.0 from.0)
-  where
-    by : (t : Bool) → AreAside d (cond t (drop_lines v) (lines.Sent v.me over r ∷ []))
-    by true = (tt, tt)
-    by false = (other, tt)
-
-pub aside_told : (v : View) (askers : List (ℕ × Enclave)) (d : ℕ) (more : List Line) → AreAside d more → AreAside d (told_askers v askers ++ more)
-aside_told v [] d more aside = aside
-aside_told v (row ∷ askers) d more aside = (refl, aside_told v askers d more aside)
-
 aside_query : (v : View) (from : Enclave) (d : ℕ) → AreAside d (query_lines v from)
 aside_query v from d = by (knows_way v)
   where
@@ -89,7 +77,11 @@ aside_here v from d may = by (knows_way v) may
         (lines.Way v.me from ∷ told_askers v (less v.ways.askers (place_among v.core.parent from)) ++ lines.Sent v.me from (register_of v.me) ∷ []))
     by true may = (tt, tt)
     by false (inl is) = absurd (cc)
-    by false (inr other) = (other, aside_told v (less v.ways.askers (place_among v.core.parent from)) d _ (ne_eqb v.me.0 d other, tt))
+    by false (inr other) = (
+      other,
+      each-append (IsAside d) (told_askers v (less v.ways.askers (place_among v.core.parent from))) (lines.Sent v.me from (register_of v.me) ∷ [])
+          (each_told (IsAside d) v (less v.ways.askers (place_among v.core.parent from)) (λ x. refl)) (ne_eqb v.me.0 d other, tt),
+    )
 
 aside_register : (v : View) (from : Enclave) (r : Record) (d : ℕ) → is_about d r ≡ false → r.origin.0 ≢ d → AreAside d (register_lines v from r)
 aside_register v from r d other apart = (apart, by v.core.holder)
@@ -97,12 +89,12 @@ aside_register v from r d other apart = (apart, by v.core.holder)
     by : (t : Bool) → AreAside d (cond t (lines.Route v.me r.origin from ∷ lines.Sent v.me from (admit_of v.me r.origin) ∷ [])
         (over_lines v (Some from) (cond t None v.ways.way) r))
     by true = (apart, (ne_eqb r.origin.0 d apart, tt))
-    by false = aside_passed v from v.ways.way r d other
+    by false = each_over (IsAside d) v (Some from) v.ways.way r tt (λ x. other)
 
 aside_over : (v : View) (from e : Enclave) (r : Record) (d : ℕ) (over : Option Enclave) → is_about d r ≡ false → e.0 ≢ d
     → AreAside d (admit_over v from e r over)
 aside_over v from e r d None other apart = (tt, tt)
-aside_over v from e r d (Some over) other apart = (apart, aside_passed v from (Some over) r d other)
+aside_over v from e r d (Some over) other apart = (apart, each_over (IsAside d) v (Some from) (Some over) r tt (λ x. other))
 
 aside_admit : (v : View) (from : Enclave) (r : Record) (d : ℕ) (dest : Option Enclave) → is_about d r ≡ false
     → option_map_or (λ e. eqb e.0 d) dest false ≡ false → AreAside d (admit_to v from r dest)
