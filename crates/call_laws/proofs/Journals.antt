@@ -23,7 +23,7 @@ use Rattle.call_laws.proofs.ExportLines.{IsLive, IsLiveRow}
 use Rattle.exporter_pins.specs.Holdings.{Export}
 use Rattle.xm_num.specs.Rows.{at}
 use Rattle.call_laws.proofs.Exports.{segid_at}
-use Rattle.call_laws.proofs.Tied.{IsCalm, IsTied, legal_lines, tied_lines}
+use Rattle.call_laws.proofs.Tied.{AreNearAnswered, IsTied, legal_lines, tied_lines}
 use Rattle.call_laws.proofs.Steps.{goes_step}
 
 -- ---- lines one after the other
@@ -36,7 +36,7 @@ follows_both Law (l ∷ ls) ms past first more = (first.0, follows_both Law ls m
 
 pub record IsSteady (past : List Line) : Type 0 where
   pub tied : IsTied past
-  pub calm : IsCalm past
+  pub answered : AreNearAnswered past
 
 pub record GoesAll (past ls : List Line) : Type 0 where
   pub legal : Follows CallAt past ls
@@ -49,9 +49,9 @@ all_steps laws (step ∷ steps) past are old =
     let G = facts_at past in
     let ls = written_by G step in
     let later = written_in (after_lines G ls) steps in
-    let on = goes_step laws.rows past step are.0 are.1 old.tied old.calm in
+    let on = goes_step laws.rows past step are.0 are.1 old.tied old.answered in
     let here = sym (laws.facts ls past) in
-    let after : IsSteady (onto ls past) = record { tied = tied_lines laws.rows past ls on.keeps old.tied; calm = on.calm old.tied old.calm } in
+    let after : IsSteady (onto ls past) = record { tied = tied_lines laws.rows past ls on.keeps old.tied; answered = on.answered old.tied old.answered } in
     let more : GoesAll (onto ls past) (written_in (after_lines G ls) steps)
     = subst (λ H. GoesAll (onto ls past) (written_in H steps)) (laws.facts ls past)
     (all_steps laws steps (onto ls past) (subst (λ H. AreSteps H steps) here are.2) after) in
@@ -84,7 +84,7 @@ steady_first laws = record {
     told = λ a b. tt;
     only = record { bounded = λ x y. omega arith; only = λ e k. inl (λ a b. refl); stands = λ e k is. cc };
   };
-  calm = λ e k is. absurd (cc);
+  answered = λ e k is. absurd (cc);
 }
 
 pub journal_of-steady : (laws : CallLaws) (commands : List Command) → IsPlaced commands → GoesAll [] (journal_of commands)
