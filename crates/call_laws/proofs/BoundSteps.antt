@@ -37,7 +37,7 @@ use Rattle.global_model.specs.Refusals.{conditions_of, refusal_of}
 use Rattle.global_model.specs.Pauses.{MayAsk}
 use Rattle.discovery_laws.specs.Known.{is_admitted_at}
 use Rattle.call_laws.proofs.Asks.{is_not, none_holds, some_same}
-use Rattle.call_laws.proofs.Bounds.{bound_handled, first_server, sent_free, serves_sent, server_way}
+use Rattle.call_laws.proofs.Bounds.{bound_handled, first_server, sent_free, sent_for_calls, server_way}
 use Rattle.call_laws.proofs.Onward.{bound_more, sent_lines}
 use Rattle.call_laws.proofs.Roads.{IsMore}
 use Rattle.call_laws.proofs.Rows.{all_more}
@@ -82,11 +82,11 @@ asked_serving G command e p call asks allowed ready = by command asks allowed
 
 module _ (G : Facts) (roads : AreRoads G) (leading : IsLeading G) (e : Enclave) (admitted : is_admitted_at G e.0 ≡ true) where
   bound_make : (hand : Hand) (p : Pid) → AreSent (Bound G) (make_acts hand (view_of G e) p)
-  bound_make hand p = each_make (SentBy (Bound G)) (serves_sent (Bound G)) hand (view_of G e) p
+  bound_make hand p = each_make (SentBy (Bound G)) (sent_for_calls (Bound G)) hand (view_of G e) p
       (λ z way. (first_server G roads leading e.0 z (server_way G e z way), roads.ready e.0 admitted))
 
   bound_remove : (segid : Segid) → AreSent (Bound G) (remove_acts (view_of G e) segid)
-  bound_remove segid = each_remove (SentBy (Bound G)) (serves_sent (Bound G)) (view_of G e) segid
+  bound_remove segid = each_remove (SentBy (Bound G)) (sent_for_calls (Bound G)) (view_of G e) segid
       (λ z way. first_server G roads leading e.0 z (server_way G e z way))
 
 -- ---- each step

@@ -14,13 +14,14 @@ use Rattle.enclave_rules.specs.Segments.{name_lines, named_lines, named_record, 
 use Rattle.enclave_rules.specs.Sending.{Server, To, drop_lines, send_lines, way_to}
 use Rattle.enclave_rules.specs.Steps.{body_lines, handled_lines, is_stray, named_to}
 use Rattle.global_model.specs.Facts.{Facts}
+use Rattle.global_model.specs.Parts.{Lacks}
 use Rattle.global_model.specs.Tree.{IsRooted, parent_of}
 use Rattle.global_model.specs.Views.{view_of}
 use Rattle.discovery_laws.specs.Known.{holds, route_at, way_at}
 use Rattle.discovery_laws.specs.Ways.{IsLeading}
 use Rattle.call_laws.specs.Laws.{TreePaths}
 use Rattle.call_laws.specs.Roads.{IsReachable, Reaches}
-use Rattle.call_laws.proofs.Each.{Serves, each_either, each_name, each_named, each_sent, each_unname}
+use Rattle.call_laws.proofs.Each.{all_but_calls, each_either, each_name, each_named, each_sent, each_unname}
 use Rattle.call_laws.proofs.Rows.{all_more}
 use Rattle.call_laws.proofs.Handled.{free_body, ns_is}
 use Rattle.call_laws.proofs.Onward.{Ahead, AreSent, Bound, BoundBy, IsToCaller, IsToServer, SentBy, is_foreign}
@@ -107,17 +108,9 @@ module _ (G : Facts) (roads : AreRoads G) (leading : IsLeading G) where
 
 -- ---- what lines send
 
--- of what serves calls nothing but the records is sent
-pub serves_sent : (P : ℕ → ℕ → Record → Type 0) → Serves (SentBy P)
-serves_sent P = record {
-  dropped = λ e. tt;
-  issued = λ e p call. tt;
-  drew = λ e call segid. tt;
-  named = λ e call segid. tt;
-  unnamed = λ segid. tt;
-  removed = λ e segid. tt;
-  answered = λ e p call segid. tt;
-}
+pub sent_for_calls : (P : ℕ → ℕ → Record → Type 0) (line : Line) → Lacks all_but_calls line → SentBy P line
+sent_for_calls P (lines.Sent x y r) none = absurd none
+sent_for_calls P _ none = tt
 
 plain_bound : (G : Facts) (a b : ℕ) (r : Record) (body : Body) → IsPlainBody body → BoundBy G a b r body
 plain_bound G a b r bodies.Query plain = tt
@@ -166,26 +159,26 @@ module _ (tree : TreePaths) (G : Facts) (rooted : IsRooted (parent_of G)) (roads
           (route_way G y r.origin z (ahead_some G r.origin.0 y.0 ahead other) way)
 
       by : (t : Bool) → v.core.holder ≡ t → AreSent (Bound G) (cond t (name_lines v r.origin r.call) (send_lines v (Some x) Server r))
-      by true held = each_name (SentBy (Bound G)) (serves_sent (Bound G)) v r.origin r.call (named (sym (ns_is (G.enclave y.0)) ∙ held))
-      by false held = each_sent (SentBy (Bound G)) (serves_sent (Bound G)) v (Some x) Server r
+      by true held = each_name (SentBy (Bound G)) (sent_for_calls (Bound G)) v r.origin r.call (named (sym (ns_is (G.enclave y.0)) ∙ held))
+      by false held = each_sent (SentBy (Bound G)) (sent_for_calls (Bound G)) v (Some x) Server r
           (λ z way. subst (BoundBy G y.0 z.0 r) (sym body) (on_server G roads leading r.origin.0 x.0 y.0 z (server_way G y z way) is.0, is.1))
 
   bound_name : (segid : Segid) → r.body ≡ bodies.Named segid → IsToCaller G x.0 y.0 r → AreSent (Bound G) (body_lines v x r (bodies.Named segid))
   bound_name segid body is = subst (λ dest. AreSent (Bound G) (named_to v x r segid dest)) (sym is.is) (by (eqb is.caller.0 y.0) refl)
     where
       by : (t : Bool) → eqb is.caller.0 y.0 ≡ t → AreSent (Bound G) (cond t (named_lines v r.call segid) (send_lines v (Some x) (To is.caller) r))
-      by true here = each_named (SentBy (Bound G)) (serves_sent (Bound G)) v r.call segid
+      by true here = each_named (SentBy (Bound G)) (sent_for_calls (Bound G)) v r.call segid
       by false there =
           let other : y.0 ≢ is.caller.0 = λ same. eqb-false is.caller.0 y.0 there (sym same) in
           let ahead : IsAhead G is.caller.0 y.0 = record { after = is.after; ahead = is.ahead } in
-          each_sent (SentBy (Bound G)) (serves_sent (Bound G)) v (Some x) (To is.caller) r
+          each_sent (SentBy (Bound G)) (sent_for_calls (Bound G)) v (Some x) (To is.caller) r
           (λ z way. subst (BoundBy G y.0 z.0 r) (sym body) (on_caller G roads leading x.0 y.0 z r is other
           (route_way G y is.caller z (ahead_some G is.caller.0 y.0 ahead other) way)))
 
   bound_unname : (segid : Segid) → r.body ≡ bodies.Unname segid → IsToServer G r.origin.0 x.0 y.0 → AreSent (Bound G) (body_lines v x r (bodies.Unname segid))
   bound_unname segid body is =
-      each_either (SentBy (Bound G)) v.core.holder (unname_lines v r.origin segid) (send_lines v (Some x) Server r) (each_unname (SentBy (Bound G)) (serves_sent (Bound G)) v r.origin segid)
-      (each_sent (SentBy (Bound G)) (serves_sent (Bound G)) v (Some x) Server r (λ z way. subst (BoundBy G y.0 z.0 r) (sym body) (on_server G roads leading r.origin.0 x.0 y.0 z (server_way G y z way) is)))
+      each_either (SentBy (Bound G)) v.core.holder (unname_lines v r.origin segid) (send_lines v (Some x) Server r) (each_unname (SentBy (Bound G)) (sent_for_calls (Bound G)) v r.origin segid)
+      (each_sent (SentBy (Bound G)) (sent_for_calls (Bound G)) v (Some x) Server r (λ z way. subst (BoundBy G y.0 z.0 r) (sym body) (on_server G roads leading r.origin.0 x.0 y.0 z (server_way G y z way) is)))
 
   bound_body : (body : Body) → r.body ≡ body → BoundBy G x.0 y.0 r body → AreSent (Bound G) (body_lines v x r body)
   bound_body bodies.NameReq is bound = bound_request is bound

@@ -2,7 +2,6 @@
 use Rattle.std.proofs.Common.{◌≡◌, ◌+◌, ℕ, List, [], ◌∷◌, ◌++◌, Bool, true, false, cond, ◌&&◌, eqb, Option, None, Some, refl}
 use Rattle.std.specs.List.{AllByRecursion}
 use Rattle.std.specs.Option.{option_map_or}
-use Rattle.xm_num.specs.declared.CallNo.{CallNo}
 use Rattle.xm_num.specs.declared.Enclave.{Enclave}
 use Rattle.xm_num.specs.declared.Pid.{Pid}
 use Rattle.xm_num.specs.declared.Segid.{Segid}
@@ -20,6 +19,7 @@ use Rattle.enclave_rules.specs.View.{View, own_lines}
 use Rattle.enclave_rules.specs.Segments.{drew_line, issue_line, make_acts, make_of, name_lines, name_request, named_lines, named_record, naming_lines, remove_acts, takes_name, unname_lines, unname_record}
 use Rattle.enclave_rules.specs.Sending.{Goal, Server, To, drop_lines, knows_way, made_lines, over_lines, send_lines, way_to}
 use Rattle.enclave_rules.specs.Steps.{adopt_lines, child_lines, here_of, query_of, told_askers, told_lines}
+use Rattle.global_model.specs.Parts.{Part, Opening, Closing, Birth, Admission, Warning, Death, Kill, Start, Owning, Sending, Delivery, Receipt, Asking, Learning, Noting, Lacks}
 use Rattle.call_laws.proofs.Rows.{all_append}
 
 module _ (P : Line → Type 0) where
@@ -57,23 +57,18 @@ module _ (P : Line → Type 0) where
       (each_either ns (lines.Admitted child ∷ []) (lines.Sent child parent (query_of child) ∷ []) (admitted, tt) (sent child parent, tt)))
       (each_adopt v child (sent v.me child))
 
--- the lines that serve calls have the property, but perhaps for the records that are sent
-pub record Serves (P : Line → Type 0) : Type 0 where
-  pub dropped : (e : Enclave) → P (lines.Dropped e)
-  pub issued : (e : Enclave) (p : Pid) (call : CallNo) → P (lines.Issue e p call)
-  pub drew : (e : Enclave) (call : CallNo) (segid : Segid) → P (lines.Drew e call segid)
-  pub named : (e : Enclave) (call : CallNo) (segid : Segid) → P (lines.Named e call segid)
-  pub unnamed : (segid : Segid) → P (lines.Unnamed segid)
-  pub removed : (e : Enclave) (segid : Segid) → P (lines.Remove e segid)
-  pub answered : (e : Enclave) (p : Pid) (call : CallNo) (segid : Segid) → P (lines.AnswerSegid e p call segid)
+-- the parts that lines for calls don't play, but for the records that are sent
+abbrev pub all_but_calls : List Part
+all_but_calls =
+    Opening ∷ Closing ∷ Birth ∷ Admission ∷ Warning ∷ Death ∷ Kill ∷ Start ∷ Owning ∷ Sending ∷ Delivery ∷ Receipt ∷ Asking ∷ Learning ∷ Noting ∷ []
 
-module _ (P : Line → Type 0) (may : Serves P) where
+module _ (P : Line → Type 0) (may : (line : Line) → Lacks all_but_calls line → P line) where
   drops : (v : View) → AllByRecursion P (drop_lines v)
-  drops v = (may.dropped v.me, tt)
+  drops v = (may (lines.Dropped v.me) tt, tt)
 
   pub each_sent : (v : View) (came : Option Enclave) (goal : Goal) (r : Record) → ((z : Enclave) → way_to v goal ≡ Some z → P (lines.Sent v.me z r))
       → AllByRecursion P (send_lines v came goal r)
-  each_sent v came goal r sent = each_over P v came (way_to v goal) r (may.dropped v.me) sent
+  each_sent v came goal r sent = each_over P v came (way_to v goal) r (may (lines.Dropped v.me) tt) sent
 
   pub each_made : (v : View) (goal : Goal) (r : Record) → ((z : Enclave) → way_to v goal ≡ Some z → P (lines.Sent v.me z r)) → AllByRecursion P (made_lines v goal r)
   each_made v goal r sent = each_either P (is_valid r) (send_lines v None goal r) (drop_lines v) (each_sent v None goal r sent) (drops v)
@@ -86,7 +81,7 @@ module _ (P : Line → Type 0) (may : Serves P) where
       by None = drops v
       by (Some w) = each_either P (takes_name v call segid w)
           (lines.Named v.me (record { 0 = call }) segid ∷ lines.AnswerSegid v.me w.pid (record { 0 = call }) segid ∷ []) (drop_lines v)
-          (may.named v.me (record { 0 = call }) segid, (may.answered v.me w.pid (record { 0 = call }) segid, tt)) (drops v)
+          (may (lines.Named v.me (record { 0 = call }) segid) tt, (may (lines.AnswerSegid v.me w.pid (record { 0 = call }) segid) tt, tt)) (drops v)
 
   pub each_name : (v : View) (caller : Enclave) (call : ℕ)
       → ((z : Enclave) → way_to v (To caller) ≡ Some z → P (lines.Sent v.me z (named_record v.me caller call (next_segid v.names))))
@@ -94,11 +89,11 @@ module _ (P : Line → Type 0) (may : Serves P) where
   each_name v caller call sent =
       let r = named_record v.me caller call (next_segid v.names) in
       each_either P (can_draw v.names) (drew_line v caller call ∷ made_lines v (To caller) r) (drop_lines v)
-      (may.drew caller (record { 0 = call }) (next_segid v.names), each_made v (To caller) r sent) (drops v)
+      (may (drew_line v caller call) tt, each_made v (To caller) r sent) (drops v)
 
   pub each_unname : (v : View) (owner : Enclave) (segid : Segid) → AllByRecursion P (unname_lines v owner segid)
   each_unname v owner segid =
-      each_either P (is_segid segid && has_name v.names (segid_number segid) owner) (lines.Unnamed segid ∷ []) (drop_lines v) (may.unnamed segid, tt) (drops v)
+      each_either P (is_segid segid && has_name v.names (segid_number segid) owner) (lines.Unnamed segid ∷ []) (drop_lines v) (may (lines.Unnamed segid) tt, tt) (drops v)
 
   -- what is written for a make
   pub each_make : (hand : Hand) (v : View) (p : Pid)
@@ -107,10 +102,10 @@ module _ (P : Line → Type 0) (may : Serves P) where
       let w = own_lines hand v (issue_line v p ∷ []) in
       let k = v.memory.issued + 1 in
       let named = own_lines hand w (drew_line w w.me k ∷ []) in (
-        may.issued v.me p (record { 0 = k }),
+        may (issue_line v p) tt,
         each_either P w.core.holder (naming_lines hand w k) (made_lines w Server (name_request w.me k))
             (each_either P (can_draw w.names) (drew_line w w.me k ∷ named_lines named k (next_segid w.names)) (drop_lines w)
-            (may.drew w.me (record { 0 = k }) (next_segid w.names), each_named named k (next_segid w.names)) (drops w))
+            (may (drew_line w w.me k) tt, each_named named k (next_segid w.names)) (drops w))
             (each_made w Server (name_request w.me k) sent),
       )
 
@@ -120,4 +115,4 @@ module _ (P : Line → Type 0) (may : Serves P) where
       → AllByRecursion P (remove_acts v segid)
   each_remove v segid sent =
       let r = unname_record v.me (make_of v.exports (segid_number segid)) segid in
-      (may.removed v.me segid, each_either P v.core.holder (unname_lines v v.me segid) (made_lines v Server r) (each_unname v v.me segid) (each_made v Server r sent))
+      (may (lines.Remove v.me segid) tt, each_either P v.core.holder (unname_lines v v.me segid) (made_lines v Server r) (each_unname v v.me segid) (each_made v Server r sent))

@@ -26,6 +26,7 @@ use Rattle.enclave_rules.specs.Sending.{Server, To, drop_lines, over_lines, send
 use Rattle.enclave_rules.specs.Steps.{adopt_lines, admit_of, admit_over, admit_to, body_lines, child_lines, handled_lines, here_lines, here_of, is_stray, named_to, query_lines, query_of, record_lines, register_lines, register_of, told_askers, told_lines}
 use Rattle.global_model.specs.Apt.{IsBirth}
 use Rattle.global_model.specs.Facts.{Facts, after_line, after_lines, at_number, fact_of, facts_after, is_holder, no_facts}
+use Rattle.global_model.specs.Parts.{Lacks}
 use Rattle.global_model.specs.Pauses.{AreSteps, Asks, Bears, Handles, Hosts, IsPause, MayCome, MayStandAlone, Step, Takes, Written, asked_lines, written_by, written_in}
 use Rattle.global_model.specs.Due.{journal_of}
 use Rattle.global_model.specs.Place.{IsPlaced}
@@ -35,7 +36,7 @@ use Rattle.discovery_laws.specs.Known.{back_at, holds, in_flight, knows, route_a
 use Rattle.discovery_laws.specs.Ways.{IsLeading}
 use Rattle.call_laws.specs.Laws.{CallLaws, TreePaths}
 use Rattle.call_laws.specs.Roads.{AreReady, IsReachable, Reaches}
-use Rattle.call_laws.proofs.Each.{Serves, each_adopt, each_either, each_make, each_name, each_named, each_remove, each_sent, each_unname}
+use Rattle.call_laws.proofs.Each.{all_but_calls, each_adopt, each_either, each_make, each_name, each_named, each_remove, each_sent, each_unname}
 use Rattle.call_laws.proofs.Rows.{all_append}
 use Rattle.call_laws.proofs.Flights.{next_flight}
 use Rattle.call_laws.proofs.Requests.{all-behind}
@@ -52,36 +53,29 @@ pub always : (G : Facts) (ls : List Line) → AllByRecursion GuidesAlways ls →
 always G [] all = tt
 always G (l ∷ ls) all = (all.0 G, always (after_line G l) ls all.1)
 
--- so do those that serve calls
-serves_always : Serves GuidesAlways
-serves_always = record {
-  dropped = λ e G. tt;
-  issued = λ e p call G. tt;
-  drew = λ e call segid G. tt;
-  named = λ e call segid G. tt;
-  unnamed = λ segid G. tt;
-  removed = λ e segid G. tt;
-  answered = λ e p call segid G. tt;
-}
+-- so do lines for calls
+always_for_calls : (line : Line) → Lacks all_but_calls line → GuidesAlways line
+always_for_calls (lines.Sent x y r) none G = absurd none
+always_for_calls _ none G = search
 
 always_asked : (v : View) (p : Pid) (call : Call) → AllByRecursion GuidesAlways (asked_lines v p call)
 always_asked v p (calls.Alloc page n) = tt
-always_asked v p (calls.Make addr size mode) = each_make GuidesAlways serves_always (at_hand v p (calls.Make addr size mode)) v p (λ z way G. tt)
-always_asked v p (calls.Remove segid) = each_remove GuidesAlways serves_always v segid (λ z way G. tt)
+always_asked v p (calls.Make addr size mode) = each_make GuidesAlways always_for_calls (at_hand v p (calls.Make addr size mode)) v p (λ z way G. tt)
+always_asked v p (calls.Remove segid) = each_remove GuidesAlways always_for_calls v segid (λ z way G. tt)
 
 module _ (v : View) (x : Enclave) (r : Record) where
   always_request : ((z : Enclave) → GuidesAlways (lines.Sent v.me z r)) → AllByRecursion GuidesAlways (body_lines v x r bodies.NameReq)
   always_request passed = each_either GuidesAlways v.core.holder (name_lines v r.origin r.call) (send_lines v (Some x) Server r)
-      (each_name GuidesAlways serves_always v r.origin r.call (λ z way G. tt)) (each_sent GuidesAlways serves_always v (Some x) Server r (λ z way. passed z))
+      (each_name GuidesAlways always_for_calls v r.origin r.call (λ z way G. tt)) (each_sent GuidesAlways always_for_calls v (Some x) Server r (λ z way. passed z))
 
   always_name : (segid : Segid) → ((z : Enclave) → GuidesAlways (lines.Sent v.me z r)) → (dest : Option Enclave) → AllByRecursion GuidesAlways (named_to v x r segid dest)
   always_name segid passed None = ((λ G. tt), tt)
   always_name segid passed (Some d) = each_either GuidesAlways (eqb d.0 v.me.0) (named_lines v r.call segid) (send_lines v (Some x) (To d) r)
-      (each_named GuidesAlways serves_always v r.call segid) (each_sent GuidesAlways serves_always v (Some x) (To d) r (λ z way. passed z))
+      (each_named GuidesAlways always_for_calls v r.call segid) (each_sent GuidesAlways always_for_calls v (Some x) (To d) r (λ z way. passed z))
 
   always_forget : (segid : Segid) → ((z : Enclave) → GuidesAlways (lines.Sent v.me z r)) → AllByRecursion GuidesAlways (body_lines v x r (bodies.Unname segid))
   always_forget segid passed = each_either GuidesAlways v.core.holder (unname_lines v r.origin segid) (send_lines v (Some x) Server r)
-      (each_unname GuidesAlways serves_always v r.origin segid) (each_sent GuidesAlways serves_always v (Some x) Server r (λ z way. passed z))
+      (each_unname GuidesAlways always_for_calls v r.origin segid) (each_sent GuidesAlways always_for_calls v (Some x) Server r (λ z way. passed z))
 
 number_itself : {A : Type 0} (k : ℕ) (w : A) (f : ℕ → A) → at_number k w f k ≡ w
 number_itself k w f = ap (λ t. cond t w (f k)) (eq-eqb k k refl)

@@ -19,6 +19,7 @@ use Rattle.enclave_rules.specs.Steps.{knows_dead, is_stray, here_of, register_of
 use Rattle.global_model.specs.Facts.{Facts, EnclaveFact, after_line, after_lines, fact_of, is_holder, is_living_enclave}
 use Rattle.global_model.specs.Channels.{is_neighbour}
 use Rattle.global_model.specs.Flow.{IsTree}
+use Rattle.global_model.specs.Parts.{Lacks}
 use Rattle.global_model.specs.Tree.{IsToward, parent_of}
 use Rattle.global_model.specs.Views.{view_of}
 use Rattle.discovery_laws.specs.Known.{askers_of, holds, in_flight, knows, way_at}
@@ -30,7 +31,7 @@ use Rattle.discovery_laws.proofs.Knowing.{known_sent, known_got, known_asked, kn
 use Rattle.discovery_laws.proofs.Newborn.{near_born, near_turned}
 use Rattle.discovery_laws.proofs.Calm.{counted_knowing, counted_owed, IsAsking, IsCalm, AreCalm, calm_line, calm_lines}
 use Rattle.discovery_laws.proofs.Each.{each_either, each_over}
-use Rattle.discovery_laws.proofs.Serving.{Serves, is_serving, serves_asked, serves_body}
+use Rattle.discovery_laws.proofs.Serving.{all_but_calls, is_serving, serves_asked, serves_body}
 use Rattle.xm_num.specs.declared.Pid.{Pid}
 use Rattle.xemem_language.specs.declared.call.Call.{Call}
 use Rattle.global_model.specs.Pauses.{asked_lines}
@@ -85,20 +86,12 @@ serving_calm (bodies.Named segid) is = refl
 serving_calm (bodies.Unname segid) is = refl
 serving_calm _ is = absurd (cc)
 
-calm_serves : Serves IsCalm
-calm_serves = record {
-  dropped = λ e. tt;
-  issued = λ e p call. tt;
-  drew = λ e call segid. tt;
-  named = λ e call segid. tt;
-  unnamed = λ segid. tt;
-  removed = λ e segid. tt;
-  answered = λ e p call segid. tt;
-  sent = λ x y r is. serving_calm r.body is;
-}
+calm_for_calls : (line : Line) → Lacks all_but_calls line → IsCalm line
+calm_for_calls (lines.Sent x y r) none = absurd none
+calm_for_calls _ none = search
 
 pub calm_asked : (v : View) (p : Pid) (call : Call) → AreCalm (asked_lines v p call)
-calm_asked v p call = serves_asked IsCalm calm_serves v p call
+calm_asked v p call = serves_asked IsCalm calm_for_calls (λ x y r is. serving_calm r.body is) v p call
 
 pub calm_body : (v : View) (from : Enclave) (r : Record) → (is_query r || is_here r) ≡ false → (body : Body)
     → (is_query_body body || is_here_body body) ≡ false → AreCalm (body_lines v from r body)
@@ -106,9 +99,9 @@ calm_body v from r calm bodies.Query is = absurd (cc)
 calm_body v from r calm bodies.Here is = absurd (cc)
 calm_body v from r calm bodies.Register is = calm_register v from r calm
 calm_body v from r calm bodies.Admit is = calm_admit v from r r.dest calm
-calm_body v from r calm bodies.NameReq is = serves_body IsCalm calm_serves v from r bodies.NameReq refl (λ x. calm)
-calm_body v from r calm (bodies.Named segid) is = serves_body IsCalm calm_serves v from r (bodies.Named segid) refl (λ x. calm)
-calm_body v from r calm (bodies.Unname segid) is = serves_body IsCalm calm_serves v from r (bodies.Unname segid) refl (λ x. calm)
+calm_body v from r calm bodies.NameReq is = serves_body IsCalm calm_for_calls (λ x y r is. serving_calm r.body is) v from r bodies.NameReq refl (λ x. calm)
+calm_body v from r calm (bodies.Named segid) is = serves_body IsCalm calm_for_calls (λ x y r is. serving_calm r.body is) v from r (bodies.Named segid) refl (λ x. calm)
+calm_body v from r calm (bodies.Unname segid) is = serves_body IsCalm calm_for_calls (λ x y r is. serving_calm r.body is) v from r (bodies.Unname segid) refl (λ x. calm)
 calm_body v from r calm body is = (tt, tt)
 
 pub calm_record : (v : View) (from : Enclave) (r : Record) → (is_query r || is_here r) ≡ false → AreCalm (record_lines v from r)

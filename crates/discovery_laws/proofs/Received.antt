@@ -8,6 +8,7 @@ use Rattle.xemem_language.specs.Destinations.{destination_number}
 use Rattle.xemem_language.specs.declared.record.Record.{Record}
 use Rattle.xemem_language.specs.declared.record.Body.{Body}
 use Rattle.xemem_language.specs.declared.record.Body.TheVariants as bodies
+use Rattle.xemem_language.specs.declared.line.Line.{Line}
 use Rattle.xemem_language.specs.declared.line.Line.TheVariants as lines
 use Rattle.enclave_rules.specs.View.{View}
 use Rattle.enclave_rules.specs.Steps.{admit_over, admit_to, body_lines, here_lines, here_of, register_of, admit_of, is_stray, query_lines, record_lines, register_lines, told_askers}
@@ -19,9 +20,10 @@ use Rattle.discovery_laws.proofs.Each.{each-append, each_over, each_told}
 use Rattle.discovery_laws.proofs.Stages.{about_in, is_about, is_about_by}
 use Rattle.discovery_laws.proofs.Underway.{flight_got}
 use Rattle.discovery_laws.proofs.Unmoved.{AreAside, AreWithinStep, IsAside, IsUnmoved, inner_all}
-use Rattle.discovery_laws.proofs.Serving.{Serves, is_serving, serves_asked, serves_body}
+use Rattle.discovery_laws.proofs.Serving.{all_but_calls, is_serving, serves_asked, serves_body}
 use Rattle.xm_num.specs.declared.Pid.{Pid}
 use Rattle.xemem_language.specs.declared.call.Call.{Call}
+use Rattle.global_model.specs.Parts.{Lacks}
 use Rattle.global_model.specs.Pauses.{asked_lines}
 
 -- ---- a record is got
@@ -117,21 +119,13 @@ serving_other d r (bodies.Named segid) is = refl
 serving_other d r (bodies.Unname segid) is = refl
 serving_other d r _ is = absurd (cc)
 
-pub aside_serves : (d : ℕ) → Serves (IsAside d)
-aside_serves d = record {
-  dropped = λ e. tt;
-  issued = λ e p call. tt;
-  drew = λ e call segid. tt;
-  named = λ e call segid. tt;
-  unnamed = λ segid. tt;
-  removed = λ e segid. tt;
-  answered = λ e p call segid. tt;
-  sent = λ x y r is. serving_other d r r.body is;
-}
+aside_for_calls : (d : ℕ) (line : Line) → Lacks all_but_calls line → IsAside d line
+aside_for_calls d (lines.Sent x y r) none = absurd none
+aside_for_calls d _ none = search
 
 -- so does what is written for a call
 pub aside_asked : (v : View) (p : Pid) (call : Call) (d : ℕ) → AreAside d (asked_lines v p call)
-aside_asked v p call d = serves_asked (IsAside d) (aside_serves d) v p call
+aside_asked v p call d = serves_asked (IsAside d) (aside_for_calls d) (λ x y r is. serving_other d r r.body is) v p call
 
 aside_body : (v : View) (from : Enclave) (r : Record) (d : ℕ) (body : Body) → is_about d r ≡ false → is_about_by d r body ≡ false → MayHear v d body
     → AreAside d (body_lines v from r body)
@@ -139,9 +133,9 @@ aside_body v from r d bodies.Query other none may = aside_query v from d
 aside_body v from r d bodies.Here other none may = aside_here v from d may
 aside_body v from r d bodies.Register other none may = aside_register v from r d other (eqb-false r.origin.0 d none)
 aside_body v from r d bodies.Admit other none may = aside_admit v from r d r.dest other none
-aside_body v from r d bodies.NameReq other none may = serves_body (IsAside d) (aside_serves d) v from r bodies.NameReq refl (λ x. other)
-aside_body v from r d (bodies.Named segid) other none may = serves_body (IsAside d) (aside_serves d) v from r (bodies.Named segid) refl (λ x. other)
-aside_body v from r d (bodies.Unname segid) other none may = serves_body (IsAside d) (aside_serves d) v from r (bodies.Unname segid) refl (λ x. other)
+aside_body v from r d bodies.NameReq other none may = serves_body (IsAside d) (aside_for_calls d) (λ x y r is. serving_other d r r.body is) v from r bodies.NameReq refl (λ x. other)
+aside_body v from r d (bodies.Named segid) other none may = serves_body (IsAside d) (aside_for_calls d) (λ x y r is. serving_other d r r.body is) v from r (bodies.Named segid) refl (λ x. other)
+aside_body v from r d (bodies.Unname segid) other none may = serves_body (IsAside d) (aside_for_calls d) (λ x y r is. serving_other d r r.body is) v from r (bodies.Unname segid) refl (λ x. other)
 aside_body v from r d _ other none may = (tt, tt)
 
 pub aside_record : (v : View) (from : Enclave) (r : Record) (d : ℕ) → is_about d r ≡ false → MayHear v d r.body → AreAside d (record_lines v from r)
