@@ -36,7 +36,7 @@ use Rattle.call_laws.proofs.Idle.{AreIdle, idle_lines, spare_free}
 use Rattle.call_laws.proofs.IdleAsks.{idle_make}
 use Rattle.call_laws.proofs.IdleRemoves.{idle_remove}
 use Rattle.call_laws.proofs.IdleSteps.{idle_handled, is_number}
-use Rattle.call_laws.proofs.Journals.{IsSteady, steady_first}
+use Rattle.call_laws.proofs.Journals.{IsTiedAtPause, at_pause_first}
 use Rattle.call_laws.proofs.Numbers.{AreNumbered, numbered_lines}
 use Rattle.call_laws.proofs.Onward.{AreBound}
 use Rattle.call_laws.proofs.Roads.{AreRoads}
@@ -96,7 +96,7 @@ module _ (rows : CallRows) (tree : TreePaths) (past : List Line) (pause : IsPaus
 -- ---- at every pause
 
 pub record IsSound (past : List Line) : Type 0 where
-  pub steady : IsSteady past
+  pub at_pause : IsTiedAtPause past
   pub numbered : AreNumbered past
   pub roads : AreRoads (facts_at past)
   pub bound : AreBound (facts_at past)
@@ -107,20 +107,20 @@ sound_step : (laws : CallLaws) (done : List Step) (past : List Line) (step : Ste
 sound_step laws done past step walked pause may old =
     let G = facts_at past in
     let ls = written_by G step in
-    let on = goes_step laws.rows past step pause may old.steady.tied old.steady.answered in
+    let on = goes_step laws.rows past step pause may old.at_pause.tied old.at_pause.answered in
     let leading = leading_at laws done G walked in
     let next = walked_more laws done G step walked pause may in
     let guides = guides_step laws.rows.names laws.tree G step pause may old.roads leading (leading_at laws (done ++ step ∷ []) (after_lines G ls) next) in
     let here = sym (laws.facts ls past) in
     let bound = bound_step laws.tree G step pause may old.roads leading old.bound in
     record {
-      steady = record { tied = tied_lines laws.rows past ls on.keeps old.steady.tied; answered = on.answered old.steady.tied old.steady.answered };
+      at_pause = record { tied = tied_lines laws.rows past ls on.keeps old.at_pause.tied; answered = on.answered old.at_pause.tied old.at_pause.answered };
       numbered = numbered_lines past ls on.keeps old.numbered;
       roads = subst AreRoads here (roads_lines laws.rows.names laws.tree G ls guides old.roads);
       bound = subst AreBound here (bound_lines G ls (more_lines laws.tree G ls guides) bound old.bound);
       idle = λ later named.
           let room = room_lines past ls later in
-          idle_step laws.rows laws.tree past pause old.steady.tied old.steady.answered old.numbered old.roads leading old.bound (old.idle room (named_lines_by past ls named)) step may later named room;
+          idle_step laws.rows laws.tree past pause old.at_pause.tied old.at_pause.answered old.numbered old.roads leading old.bound (old.idle room (named_lines_by past ls named)) step may later named room;
     }
 
 pub all_sound : (laws : CallLaws) (steps done : List Step) (past : List Line) → IsWalked done (facts_at past) → AreSteps (facts_at past) steps → IsSound past
@@ -139,7 +139,7 @@ all_sound laws (step ∷ steps) done past walked are old =
 
 sound_first : (laws : CallLaws) → IsSound []
 sound_first laws = record {
-  steady = steady_first laws;
+  at_pause = at_pause_first laws;
   numbered = record { zero = λ e. refl; settled = λ e k issued waits. absurd (cc) };
   roads = no_roads laws;
   bound = λ a b. tt;
