@@ -40,7 +40,7 @@ use Rattle.call_laws.proofs.Exports.{HandsMake}
 use Rattle.call_laws.proofs.ExportLines.{IsLive, IsLiveRow}
 use Rattle.call_laws.proofs.SentLines.{IsEnded, Tells, TellsBy}
 use Rattle.call_laws.proofs.Requests.{RequestsOnce, all-behind, tested_none}
-use Rattle.call_laws.proofs.Tied.{GoesOn, IsCalm, IsTied, KeepsAt, tied_line, goes_aside, goes_first, goes_made}
+use Rattle.call_laws.proofs.Tied.{GoesOn, AreNearAnswered, IsTied, KeepsAt, tied_line, goes_free, goes_first, goes_made}
 use Rattle.call_laws.proofs.Handled.{IsNameable, may_forget, goes_forgotten, goes_named, ns_is}
 
 -- ---- a command that isn't refused
@@ -236,7 +236,7 @@ module _ (rows : CallRows) (past : List Line) (e : Enclave) (p : Pid) (hand : Ha
           → GoesOn issued (cond t (drew_line v1 e k ∷ named_lines (own_lines hand v1 (drew_line v1 e k ∷ [])) k (next_segid v1.names)) (drop_lines v1))
       naming is true = goes_first rows issued (drew_line v1 e k) (named_lines (own_lines hand v1 (drew_line v1 e k ∷ [])) k (next_segid v1.names)) (keeps_drew is) tt
           (goes_named rows drawn (own_lines hand v1 (drew_line v1 e k ∷ [])) k (next_segid v1.names) may_be_named)
-      naming is false = goes_aside rows issued (drop_lines v1) (tt, tt)
+      naming is false = goes_free rows issued (drop_lines v1) (tt, tt)
 
       by : (t : Bool) → v.core.holder ≡ t
           → GoesOn issued (cond t (cond (can_draw v1.names) (drew_line v1 e k ∷ named_lines (own_lines hand v1 (drew_line v1 e k ∷ [])) k (next_segid v1.names)) (drop_lines v1))
@@ -257,7 +257,7 @@ first_found test xs some = by (find test xs) refl some
     by None is some = cc
     by (Some x) is some = record { first = x; found = is }
 
-module _ (rows : CallRows) (past : List Line) (e : Enclave) (segid : Segid) (tied : IsTied past) (calm : IsCalm past)
+module _ (rows : CallRows) (past : List Line) (e : Enclave) (segid : Segid) (tied : IsTied past) (answered : AreNearAnswered past)
     (has : has_segment (facts_at past) e.0 (segid_number segid) ≡ true) where
   abbrev pub s : ℕ
   s = segid_number segid
@@ -310,7 +310,7 @@ module _ (rows : CallRows) (past : List Line) (e : Enclave) (segid : Segid) (tie
     issued = ap (λ c. c.issued) cell_removed ∙ issued_once;
     drawn = ap (λ c. c.drew) cell_removed ∙ live.drawn;
     near = ap (λ c. c.near) cell_removed;
-    waits = ap (λ c. c.waits) cell_removed ∙ calm e.0 made live.near;
+    waits = ap (λ c. c.waits) cell_removed ∙ answered e.0 made live.near;
   }
 
   keeps_remove : KeepsAt past (lines.Remove e segid)
@@ -320,7 +320,7 @@ module _ (rows : CallRows) (past : List Line) (e : Enclave) (segid : Segid) (tie
     served = tt;
     sends = tt;
     once = λ k drew. let same = (tied.ones.one e.0 made e.0 k s live.drawn drew).1 in subst (IsNowhere (facts_at past) e.0) same none_of;
-    gives = calm;
+    gives = answered;
   }
 
   pub goes_remove : GoesOn past (remove_acts (view_of (facts_at past) e) segid)

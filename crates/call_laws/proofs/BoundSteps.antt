@@ -11,12 +11,8 @@ use Rattle.xemem_language.specs.declared.line.Line.TheVariants as lines
 use Rattle.xemem_language.specs.declared.record.Record.{Record}
 use Rattle.enclave_rules.specs.Core.{host}
 use Rattle.enclave_rules.specs.Calls.{at_hand}
-use Rattle.enclave_rules.specs.Exports.{segid_number}
 use Rattle.enclave_rules.specs.Hand.{Hand}
-use Rattle.enclave_rules.specs.Names.{can_draw, next_segid}
-use Rattle.enclave_rules.specs.View.{View, own_lines}
-use Rattle.enclave_rules.specs.Segments.{drew_line, issue_line, make_acts, make_of, name_request, named_lines, naming_lines, unname_lines, unname_record}
-use Rattle.enclave_rules.specs.Sending.{Server, drop_lines, made_lines}
+use Rattle.enclave_rules.specs.Segments.{make_acts}
 use Rattle.enclave_rules.specs.Steps.{adopt_lines, child_lines, told_lines}
 use Rattle.global_model.specs.Facts.{Facts}
 use Rattle.global_model.specs.Pauses.{Asks, Bears, Handles, Hosts, IsPause, MayCome, Step, Takes, Written, asked_lines, written_by}
@@ -28,8 +24,9 @@ use Rattle.call_laws.proofs.Flights.{next_flight}
 use Rattle.call_laws.proofs.Onward.{AreBound, AreSent, Bound, SentBy}
 use Rattle.call_laws.proofs.Requests.{all-behind}
 use Rattle.call_laws.proofs.Roads.{AreRoads}
-use Rattle.call_laws.proofs.Steps.{aside_adopt, aside_alone, aside_append, aside_child, aside_deaths}
-use Rattle.call_laws.proofs.Tied.{AreAside}
+use Rattle.call_laws.proofs.Steps.{free_alone}
+use Rattle.call_laws.proofs.Each.{each_birth, each_either, each_make, each_remove}
+use Rattle.call_laws.proofs.Tied.{IsFreeOfCalls}
 use Rattle.xemem_language.specs.Calls.{call_of}
 use Rattle.xemem_language.specs.declared.call.ProcessCall.{ProcessCall}
 use Rattle.xemem_language.specs.declared.command.Command.{Command}
@@ -40,11 +37,10 @@ use Rattle.global_model.specs.Refusals.{conditions_of, refusal_of}
 use Rattle.global_model.specs.Pauses.{MayAsk}
 use Rattle.discovery_laws.specs.Known.{is_admitted_at}
 use Rattle.call_laws.proofs.Asks.{is_not, none_holds, some_same}
-use Rattle.call_laws.proofs.Bounds.{bound_handled, first_server, sent_aside, sent_either, sent_made, sent_named, sent_unname, server_way}
+use Rattle.call_laws.proofs.Bounds.{bound_handled, first_server, sent_free, sent_for_calls, server_way}
 use Rattle.call_laws.proofs.Onward.{bound_more, sent_lines}
 use Rattle.call_laws.proofs.Roads.{IsMore}
 use Rattle.call_laws.proofs.Rows.{all_more}
-use Rattle.std.proofs.Common.{◌+◌}
 
 -- ---- an enclave whose process makes or removes
 
@@ -86,31 +82,14 @@ asked_serving G command e p call asks allowed ready = by command asks allowed
 
 module _ (G : Facts) (roads : AreRoads G) (leading : IsLeading G) (e : Enclave) (admitted : is_admitted_at G e.0 ≡ true) where
   bound_make : (hand : Hand) (p : Pid) → AreSent (Bound G) (make_acts hand (view_of G e) p)
-  bound_make hand p =
-      let v : View = view_of G e in
-      let w : View = own_lines hand v (issue_line v p ∷ []) in
-      let k : ℕ = v.memory.issued + 1 in (
-        tt,
-        sent_either (Bound G) v.core.holder (naming_lines hand w k) (made_lines w Server (name_request e k))
-            (sent_either (Bound G) (can_draw w.names) (drew_line w e k ∷ named_lines (own_lines hand w (drew_line w e k ∷ [])) k (next_segid w.names)) (drop_lines w)
-            (tt, sent_named (Bound G) (own_lines hand w (drew_line w e k ∷ [])) k (next_segid w.names)) (tt, tt))
-            (sent_made (Bound G) w Server (name_request e k) (λ z way. (first_server G roads leading e.0 z (server_way G e z way), roads.ready e.0 admitted))),
-      )
+  bound_make hand p = each_make (SentBy (Bound G)) (sent_for_calls (Bound G)) hand (view_of G e) p
+      (λ z way. (first_server G roads leading e.0 z (server_way G e z way), roads.ready e.0 admitted))
 
   bound_remove : (segid : Segid) → AreSent (Bound G) (remove_acts (view_of G e) segid)
-  bound_remove segid =
-      let v : View = view_of G e in
-      let r : Record = unname_record e (make_of v.exports (segid_number segid)) segid in (
-        tt,
-        sent_either (Bound G) v.core.holder (unname_lines v e segid) (made_lines v Server r) (sent_unname (Bound G) v e segid)
-            (sent_made (Bound G) v Server r (λ z way. first_server G roads leading e.0 z (server_way G e z way))),
-      )
+  bound_remove segid = each_remove (SentBy (Bound G)) (sent_for_calls (Bound G)) (view_of G e) segid
+      (λ z way. first_server G roads leading e.0 z (server_way G e z way))
 
 -- ---- each step
-
-pub aside_hosts : (ns : Bool) → AreAside (cond ns (lines.Admitted host ∷ []) [])
-aside_hosts true = (tt, tt)
-aside_hosts false = tt
 
 bound_call : (G : Facts) → AreRoads G → IsLeading G → (e : Enclave) (p : Pid) (call : Call) → MayAsk G e p call → AreSent (Bound G) (asked_lines (view_of G e) p call)
 bound_call G roads leading e p (calls.Alloc page n) may = tt
@@ -127,19 +106,17 @@ next_bound G bound x y r rs is =
     first.0
 
 pub bound_step : (tree : TreePaths) (G : Facts) (step : Step) → IsPause G → MayCome G step → AreRoads G → IsLeading G → AreBound G → AreSent (Bound G) (written_by G step)
-bound_step tree G (Written line) pause may roads leading bound = sent_aside G (line ∷ []) (aside_alone G line may.1, tt)
+bound_step tree G (Written line) pause may roads leading bound = sent_free G (line ∷ []) (free_alone G line may.1, tt)
 bound_step tree G (Takes x y count) pause may roads leading bound = (tt, tt)
 bound_step tree G (Handles x y r) pause may roads leading bound =
     let next = next_flight G x.0 y.0 r may.others may.next in
     bound_handled tree G (tree.rooted G pause.tree) roads leading x y r (next_bound G bound x y r next.others next.is)
 bound_step tree G (Asks e p call) pause may roads leading bound = bound_call G roads leading e p call may.1
-bound_step tree G (Hosts ns blocks) pause may roads leading bound = (tt, sent_aside G (cond ns (lines.Admitted host ∷ []) []) (aside_hosts ns))
+bound_step tree G (Hosts ns blocks) pause may roads leading bound = (tt, sent_free G (cond ns (lines.Admitted host ∷ []) []) (each_either IsFreeOfCalls ns (lines.Admitted host ∷ []) [] (tt, tt) tt))
 bound_step tree G (Bears child kind parent ns blocks) pause may roads leading bound = (
   tt,
-  sent_aside G ((told_lines child (G.heard parent.0) ++ child_lines child parent ns) ++ adopt_lines (view_of G parent) child)
-      (aside_append (told_lines child (G.heard parent.0) ++ child_lines child parent ns) (adopt_lines (view_of G parent) child)
-      (aside_append (told_lines child (G.heard parent.0)) (child_lines child parent ns) (aside_deaths child (G.heard parent.0)) (aside_child child parent ns))
-      (aside_adopt (view_of G parent) child)),
+  sent_free G ((told_lines child (G.heard parent.0) ++ child_lines child parent ns) ++ adopt_lines (view_of G parent) child)
+      (each_birth IsFreeOfCalls child parent ns (G.heard parent.0) (view_of G parent) (λ d. tt) tt (λ a b. tt)),
 )
 
 -- the lines after them know more, and so all stays bound

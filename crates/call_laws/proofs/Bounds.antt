@@ -1,35 +1,32 @@
 -- What each step sends for calls goes straight to its goal.
-use Rattle.std.proofs.Common.{◌≡◌, ◌≢◌, ℕ, List, [], ◌∷◌, Bool, true, false, cond, ◌&&◌, eqb, Option, None, Some, is_some, refl, sym, ◌∙◌, subst}
-use Rattle.std.specs.Option.{option_map_or}
+use Rattle.std.proofs.Common.{◌≡◌, ◌≢◌, ℕ, List, [], ◌∷◌, Bool, true, false, cond, eqb, Option, None, Some, is_some, refl, sym, ◌∙◌, subst}
 use Rattle.std.proofs.lemmas.Bool.{eqb-false}
 use Rattle.xm_num.specs.declared.Enclave.{Enclave}
 use Rattle.xm_num.specs.declared.Segid.{Segid}
-use Rattle.xm_num.specs.Rows.{at}
 use Rattle.xemem_language.specs.declared.line.Line.{Line}
 use Rattle.xemem_language.specs.declared.line.Line.TheVariants as lines
 use Rattle.xemem_language.specs.declared.record.Record.{Record}
 use Rattle.xemem_language.specs.declared.record.Body.{Body}
 use Rattle.xemem_language.specs.declared.record.Body.TheVariants as bodies
-use Rattle.xemem_wire.specs.Spelling.{is_valid}
-use Rattle.attach_map.specs.declared.Waiting.{Waiting}
-use Rattle.name_server.specs.Names.{has_name}
-use Rattle.enclave_rules.specs.Exports.{is_segid, segid_number}
-use Rattle.enclave_rules.specs.Names.{can_draw, next_segid}
+use Rattle.enclave_rules.specs.Names.{next_segid}
 use Rattle.enclave_rules.specs.View.{View}
-use Rattle.enclave_rules.specs.Segments.{drew_line, name_lines, named_lines, named_record, takes_name, unname_lines}
-use Rattle.enclave_rules.specs.Sending.{Goal, Server, To, drop_lines, made_lines, over_lines, send_lines, way_to}
+use Rattle.enclave_rules.specs.Segments.{name_lines, named_lines, named_record, unname_lines}
+use Rattle.enclave_rules.specs.Sending.{Server, To, drop_lines, send_lines, way_to}
 use Rattle.enclave_rules.specs.Steps.{body_lines, handled_lines, is_stray, named_to}
 use Rattle.global_model.specs.Facts.{Facts}
+use Rattle.global_model.specs.Parts.{Lacks}
 use Rattle.global_model.specs.Tree.{IsRooted, parent_of}
 use Rattle.global_model.specs.Views.{view_of}
 use Rattle.discovery_laws.specs.Known.{holds, route_at, way_at}
 use Rattle.discovery_laws.specs.Ways.{IsLeading}
 use Rattle.call_laws.specs.Laws.{TreePaths}
 use Rattle.call_laws.specs.Roads.{IsReachable, Reaches}
-use Rattle.call_laws.proofs.Handled.{aside_body, ns_is}
+use Rattle.call_laws.proofs.Each.{all_but_calls, each_either, each_name, each_named, each_sent, each_unname}
+use Rattle.call_laws.proofs.Rows.{all_more}
+use Rattle.call_laws.proofs.Handled.{free_body, ns_is}
 use Rattle.call_laws.proofs.Onward.{Ahead, AreSent, Bound, BoundBy, IsToCaller, IsToServer, SentBy, is_foreign}
 use Rattle.call_laws.proofs.Roads.{AreRoads, Toward}
-use Rattle.call_laws.proofs.Tied.{AreAside, IsAside, IsPlainBody}
+use Rattle.call_laws.proofs.Tied.{AreFreeOfCalls, IsFreeOfCalls, IsPlainBody}
 
 -- ---- the next enclave on a path is one
 
@@ -111,41 +108,20 @@ module _ (G : Facts) (roads : AreRoads G) (leading : IsLeading G) where
 
 -- ---- what lines send
 
-pub sent_either : (P : ℕ → ℕ → Record → Type 0) (t : Bool) (ls ms : List Line) → AreSent P ls → AreSent P ms → AreSent P (cond t ls ms)
-sent_either P true ls ms left right = left
-sent_either P false ls ms left right = right
-
-sent_over : (P : ℕ → ℕ → Record → Type 0) (v : View) (came over : Option Enclave) (r : Record) → ((z : Enclave) → over ≡ Some z → P v.me.0 z.0 r) → AreSent P (over_lines v came over r)
-sent_over P v came None r one = (tt, tt)
-sent_over P v came (Some z) r one =
-    sent_either P (option_map_or (λ from. eqb z.0 from.0) came false) (drop_lines v) (lines.Sent v.me z r ∷ []) (tt, tt) (one z refl, tt)
-
-pub sent_made : (P : ℕ → ℕ → Record → Type 0) (v : View) (goal : Goal) (r : Record) → ((z : Enclave) → way_to v goal ≡ Some z → P v.me.0 z.0 r) → AreSent P (made_lines v goal r)
-sent_made P v goal r one = sent_either P (is_valid r) (send_lines v None goal r) (drop_lines v) (sent_over P v None (way_to v goal) r one) (tt, tt)
-
-pub sent_named : (P : ℕ → ℕ → Record → Type 0) (v : View) (call : ℕ) (segid : Segid) → AreSent P (named_lines v call segid)
-sent_named P v call segid = by (at v.memory.waiting call)
-  where
-    by : (found : Option Waiting) → AreSent P (option_map_or (λ waiting. cond (takes_name v call segid waiting) (lines.Named v.me (record { 0 = call }) segid ∷ lines.AnswerSegid v.me waiting.pid (record { 0 = call }) segid ∷ []) (drop_lines v)) found (drop_lines v))
-    by None = (tt, tt)
-    by (Some w) = sent_either P (takes_name v call segid w) (lines.Named v.me (record { 0 = call }) segid ∷ lines.AnswerSegid v.me w.pid (record { 0 = call }) segid ∷ []) (drop_lines v) (tt, (tt, tt)) (tt, tt)
-
-pub sent_unname : (P : ℕ → ℕ → Record → Type 0) (v : View) (owner : Enclave) (segid : Segid) → AreSent P (unname_lines v owner segid)
-sent_unname P v owner segid = sent_either P (is_segid segid && has_name v.names (segid_number segid) owner) (lines.Unnamed segid ∷ []) (drop_lines v) (tt, tt) (tt, tt)
+pub sent_for_calls : (P : ℕ → ℕ → Record → Type 0) (line : Line) → Lacks all_but_calls line → SentBy P line
+sent_for_calls P (lines.Sent x y r) none = absurd none
+sent_for_calls P _ none = tt
 
 plain_bound : (G : Facts) (a b : ℕ) (r : Record) (body : Body) → IsPlainBody body → BoundBy G a b r body
-plain_bound G a b r bodies.NameReq plain = absurd plain
-plain_bound G a b r (bodies.Named segid) plain = absurd plain
-plain_bound G a b r (bodies.Unname segid) plain = absurd plain
-plain_bound G a b r _ plain = tt
+plain_bound G a b r bodies.Query plain = tt
+plain_bound G a b r _ plain = search
 
-aside_line : (G : Facts) (line : Line) → IsAside line → SentBy (Bound G) line
-aside_line G (lines.Sent x y r) aside = plain_bound G x.0 y.0 r r.body aside
-aside_line G _ aside = tt
+free_line : (G : Facts) (line : Line) → IsFreeOfCalls line → SentBy (Bound G) line
+free_line G (lines.Sent x y r) free = plain_bound G x.0 y.0 r r.body free
+free_line G _ free = tt
 
-pub sent_aside : (G : Facts) (ls : List Line) → AreAside ls → AreSent (Bound G) ls
-sent_aside G [] aside = tt
-sent_aside G (l ∷ ls) aside = (aside_line G l aside.0, sent_aside G ls aside.1)
+pub sent_free : (G : Facts) (ls : List Line) → AreFreeOfCalls ls → AreSent (Bound G) ls
+sent_free G ls free = all_more IsFreeOfCalls (SentBy (Bound G)) ls free (free_line G)
 
 -- the holder has no way to the name server
 pub server_way : (G : Facts) (y z : Enclave) → way_to (view_of G y) Server ≡ Some z → way_at G y.0 ≡ Some z
@@ -183,34 +159,32 @@ module _ (tree : TreePaths) (G : Facts) (rooted : IsRooted (parent_of G)) (roads
           (route_way G y r.origin z (ahead_some G r.origin.0 y.0 ahead other) way)
 
       by : (t : Bool) → v.core.holder ≡ t → AreSent (Bound G) (cond t (name_lines v r.origin r.call) (send_lines v (Some x) Server r))
-      by true held =
-          sent_either (Bound G) (can_draw v.names) (drew_line v r.origin r.call ∷ made_lines v (To r.origin) (named_record y r.origin r.call (next_segid v.names))) (drop_lines v)
-          (tt, sent_made (Bound G) v (To r.origin) (named_record y r.origin r.call (next_segid v.names)) (named (sym (ns_is (G.enclave y.0)) ∙ held))) (tt, tt)
-      by false held = sent_over (Bound G) v (Some x) (way_to v Server) r
+      by true held = each_name (SentBy (Bound G)) (sent_for_calls (Bound G)) v r.origin r.call (named (sym (ns_is (G.enclave y.0)) ∙ held))
+      by false held = each_sent (SentBy (Bound G)) (sent_for_calls (Bound G)) v (Some x) Server r
           (λ z way. subst (BoundBy G y.0 z.0 r) (sym body) (on_server G roads leading r.origin.0 x.0 y.0 z (server_way G y z way) is.0, is.1))
 
   bound_name : (segid : Segid) → r.body ≡ bodies.Named segid → IsToCaller G x.0 y.0 r → AreSent (Bound G) (body_lines v x r (bodies.Named segid))
   bound_name segid body is = subst (λ dest. AreSent (Bound G) (named_to v x r segid dest)) (sym is.is) (by (eqb is.caller.0 y.0) refl)
     where
       by : (t : Bool) → eqb is.caller.0 y.0 ≡ t → AreSent (Bound G) (cond t (named_lines v r.call segid) (send_lines v (Some x) (To is.caller) r))
-      by true here = sent_named (Bound G) v r.call segid
+      by true here = each_named (SentBy (Bound G)) (sent_for_calls (Bound G)) v r.call segid
       by false there =
           let other : y.0 ≢ is.caller.0 = λ same. eqb-false is.caller.0 y.0 there (sym same) in
           let ahead : IsAhead G is.caller.0 y.0 = record { after = is.after; ahead = is.ahead } in
-          sent_over (Bound G) v (Some x) (way_to v (To is.caller)) r
+          each_sent (SentBy (Bound G)) (sent_for_calls (Bound G)) v (Some x) (To is.caller) r
           (λ z way. subst (BoundBy G y.0 z.0 r) (sym body) (on_caller G roads leading x.0 y.0 z r is other
           (route_way G y is.caller z (ahead_some G is.caller.0 y.0 ahead other) way)))
 
   bound_unname : (segid : Segid) → r.body ≡ bodies.Unname segid → IsToServer G r.origin.0 x.0 y.0 → AreSent (Bound G) (body_lines v x r (bodies.Unname segid))
   bound_unname segid body is =
-      sent_either (Bound G) v.core.holder (unname_lines v r.origin segid) (send_lines v (Some x) Server r) (sent_unname (Bound G) v r.origin segid)
-      (sent_over (Bound G) v (Some x) (way_to v Server) r (λ z way. subst (BoundBy G y.0 z.0 r) (sym body) (on_server G roads leading r.origin.0 x.0 y.0 z (server_way G y z way) is)))
+      each_either (SentBy (Bound G)) v.core.holder (unname_lines v r.origin segid) (send_lines v (Some x) Server r) (each_unname (SentBy (Bound G)) (sent_for_calls (Bound G)) v r.origin segid)
+      (each_sent (SentBy (Bound G)) (sent_for_calls (Bound G)) v (Some x) Server r (λ z way. subst (BoundBy G y.0 z.0 r) (sym body) (on_server G roads leading r.origin.0 x.0 y.0 z (server_way G y z way) is)))
 
   bound_body : (body : Body) → r.body ≡ body → BoundBy G x.0 y.0 r body → AreSent (Bound G) (body_lines v x r body)
   bound_body bodies.NameReq is bound = bound_request is bound
   bound_body (bodies.Named segid) is bound = bound_name segid is bound
   bound_body (bodies.Unname segid) is bound = bound_unname segid is bound
-  bound_body body is bound = sent_aside G (body_lines v x r body) (aside_body v x r body (subst IsPlainBody (sym is) tt) tt)
+  bound_body body is bound = sent_free G (body_lines v x r body) (free_body v x r body (subst IsPlainBody (sym is) tt) tt)
 
   pub bound_handled : Bound G x.0 y.0 r → AreSent (Bound G) (handled_lines v x r)
-  bound_handled bound = (tt, sent_either (Bound G) (is_stray v r) (drop_lines v) (body_lines v x r r.body) (tt, tt) (bound_body r.body refl bound))
+  bound_handled bound = (tt, each_either (SentBy (Bound G)) (is_stray v r) (drop_lines v) (body_lines v x r r.body) (tt, tt) (bound_body r.body refl bound))

@@ -1,7 +1,6 @@
 -- What each step tells of ways is true.
-use Rattle.std.proofs.Common.{◌≡◌, ◌+◌, ℕ, List, [], ◌∷◌, ◌++◌, append-nil, Bool, true, false, cond, ◌&&◌, ◌||◌, eqb, Option, None, Some, is_some, inl, inr, refl, sym, ap, ◌∙◌, subst, arith}
+use Rattle.std.proofs.Common.{◌≡◌, ℕ, List, [], ◌∷◌, ◌++◌, append-nil, Bool, true, false, cond, ◌||◌, eqb, Option, None, Some, is_some, inl, inr, refl, sym, ap, ◌∙◌, subst, arith}
 use Rattle.std.specs.List.{AllByRecursion}
-use Rattle.std.specs.Option.{option_map_or}
 use Rattle.std.proofs.lemmas.Bool.{eqb-true, eq-eqb, le-ltb, or_left, or_right}
 use Rattle.xm_num.specs.declared.Block.{Block}
 use Rattle.xm_num.specs.declared.Enclave.{Enclave}
@@ -18,21 +17,16 @@ use Rattle.xemem_language.specs.declared.line.Line.TheVariants as lines
 use Rattle.xemem_language.specs.declared.record.Record.{Record}
 use Rattle.xemem_language.specs.declared.record.Body.{Body}
 use Rattle.xemem_language.specs.declared.record.Body.TheVariants as bodies
-use Rattle.xemem_wire.specs.Spelling.{is_valid}
-use Rattle.attach_map.specs.declared.Waiting.{Waiting}
-use Rattle.name_server.specs.Names.{has_name}
 use Rattle.enclave_rules.specs.Calls.{at_hand}
 use Rattle.enclave_rules.specs.Core.{host}
-use Rattle.enclave_rules.specs.Exports.{segid_number, is_segid}
-use Rattle.enclave_rules.specs.Hand.{Hand}
-use Rattle.enclave_rules.specs.Names.{can_draw, next_segid}
-use Rattle.enclave_rules.specs.View.{View, own_lines}
+use Rattle.enclave_rules.specs.View.{View}
 use Rattle.enclave_rules.specs.Ways.{WaysView, place_among, ways_line}
-use Rattle.enclave_rules.specs.Segments.{drew_line, issue_line, make_acts, make_of, name_lines, name_request, named_lines, named_record, naming_lines, takes_name, unname_lines, unname_record}
-use Rattle.enclave_rules.specs.Sending.{Goal, Server, To, drop_lines, made_lines, over_lines, send_lines, knows_way, way_to}
+use Rattle.enclave_rules.specs.Segments.{name_lines, named_lines, unname_lines}
+use Rattle.enclave_rules.specs.Sending.{Server, To, drop_lines, over_lines, send_lines, knows_way, way_to}
 use Rattle.enclave_rules.specs.Steps.{adopt_lines, admit_of, admit_over, admit_to, body_lines, child_lines, handled_lines, here_lines, here_of, is_stray, named_to, query_lines, query_of, record_lines, register_lines, register_of, told_askers, told_lines}
 use Rattle.global_model.specs.Apt.{IsBirth}
 use Rattle.global_model.specs.Facts.{Facts, after_line, after_lines, at_number, fact_of, facts_after, is_holder, no_facts}
+use Rattle.global_model.specs.Parts.{Lacks}
 use Rattle.global_model.specs.Pauses.{AreSteps, Asks, Bears, Handles, Hosts, IsPause, MayCome, MayStandAlone, Step, Takes, Written, asked_lines, written_by, written_in}
 use Rattle.global_model.specs.Due.{journal_of}
 use Rattle.global_model.specs.Place.{IsPlaced}
@@ -42,102 +36,46 @@ use Rattle.discovery_laws.specs.Known.{back_at, holds, in_flight, knows, route_a
 use Rattle.discovery_laws.specs.Ways.{IsLeading}
 use Rattle.call_laws.specs.Laws.{CallLaws, TreePaths}
 use Rattle.call_laws.specs.Roads.{AreReady, IsReachable, Reaches}
+use Rattle.call_laws.proofs.Each.{all_but_calls, each_adopt, each_either, each_make, each_name, each_named, each_remove, each_sent, each_unname}
+use Rattle.call_laws.proofs.Rows.{all_append}
 use Rattle.call_laws.proofs.Flights.{next_flight}
 use Rattle.call_laws.proofs.Requests.{all-behind}
 use Rattle.call_laws.proofs.Roads.{AnswersTo, AreRoads, GuidesAt, IsAnnounced, IsMore, Leads, LeadsBy, Toward, answers_more, more_line, reaches_more}
 use Rattle.call_laws.proofs.Guides.{Guides, roads_lines}
 use Rattle.call_laws.proofs.Handled.{ns_is}
 
--- ---- lines that say nothing of ways
+-- ---- lines that tell the truth of ways whatever the facts
 
-abbrev pub IsCallBody : Body → Type 0
-IsCallBody bodies.Here = ⊥
-IsCallBody bodies.Register = ⊥
-IsCallBody bodies.Admit = ⊥
-IsCallBody body = Unit {0}
+abbrev pub GuidesAlways : Line → Type 0
+GuidesAlways line = (G : Facts) → GuidesAt G line
 
-abbrev pub IsWayless : Line → Type 0
-IsWayless (lines.Born e kind parent ns blocks) = ⊥
-IsWayless (lines.Told e dead) = ⊥
-IsWayless (lines.Heard e dead) = ⊥
-IsWayless (lines.Admitted e) = ⊥
-IsWayless (lines.Way e over) = ⊥
-IsWayless (lines.Back e of over) = ⊥
-IsWayless (lines.Sent x y r) = IsCallBody r.body
-IsWayless line = Unit {0}
+pub always : (G : Facts) (ls : List Line) → AllByRecursion GuidesAlways ls → Guides G ls
+always G [] all = tt
+always G (l ∷ ls) all = (all.0 G, always (after_line G l) ls all.1)
 
-abbrev pub AreWayless : List Line → Type 0
-AreWayless ls = AllByRecursion IsWayless ls
+-- so do lines for calls
+always_for_calls : (line : Line) → Lacks all_but_calls line → GuidesAlways line
+always_for_calls (lines.Sent x y r) none G = absurd none
+always_for_calls _ none G = search
 
-call_leads : (G : Facts) (a b : ℕ) (r : Record) (body : Body) → IsCallBody body → LeadsBy G a b r body
-call_leads G a b r bodies.Query is = tt
-call_leads G a b r bodies.Here is = absurd is
-call_leads G a b r bodies.Register is = absurd is
-call_leads G a b r bodies.Admit is = absurd is
-call_leads G a b r _ is = tt
+always_asked : (v : View) (p : Pid) (call : Call) → AllByRecursion GuidesAlways (asked_lines v p call)
+always_asked v p (calls.Alloc page n) = tt
+always_asked v p (calls.Make addr size mode) = each_make GuidesAlways always_for_calls (at_hand v p (calls.Make addr size mode)) v p (λ z way G. tt)
+always_asked v p (calls.Remove segid) = each_remove GuidesAlways always_for_calls v segid (λ z way G. tt)
 
-guides_wayless : (G : Facts) (line : Line) → IsWayless line → GuidesAt G line
-guides_wayless G (lines.Born e kind parent ns blocks) is = absurd is
-guides_wayless G (lines.Told e dead) is = is
-guides_wayless G (lines.Heard e dead) is = is
-guides_wayless G (lines.Admitted e) is = absurd is
-guides_wayless G (lines.Way e over) is = absurd is
-guides_wayless G (lines.Back e of over) is = absurd is
-guides_wayless G (lines.Sent x y r) is = call_leads G x.0 y.0 r r.body is
-guides_wayless G _ is = tt
+module _ (v : View) (x : Enclave) (r : Record) where
+  always_request : ((z : Enclave) → GuidesAlways (lines.Sent v.me z r)) → AllByRecursion GuidesAlways (body_lines v x r bodies.NameReq)
+  always_request passed = each_either GuidesAlways v.core.holder (name_lines v r.origin r.call) (send_lines v (Some x) Server r)
+      (each_name GuidesAlways always_for_calls v r.origin r.call (λ z way G. tt)) (each_sent GuidesAlways always_for_calls v (Some x) Server r (λ z way. passed z))
 
-pub wayless : (G : Facts) (ls : List Line) → AreWayless ls → Guides G ls
-wayless G [] is = tt
-wayless G (l ∷ ls) is = (guides_wayless G l is.0, wayless (after_line G l) ls is.1)
+  always_name : (segid : Segid) → ((z : Enclave) → GuidesAlways (lines.Sent v.me z r)) → (dest : Option Enclave) → AllByRecursion GuidesAlways (named_to v x r segid dest)
+  always_name segid passed None = ((λ G. tt), tt)
+  always_name segid passed (Some d) = each_either GuidesAlways (eqb d.0 v.me.0) (named_lines v r.call segid) (send_lines v (Some x) (To d) r)
+      (each_named GuidesAlways always_for_calls v r.call segid) (each_sent GuidesAlways always_for_calls v (Some x) (To d) r (λ z way. passed z))
 
-wayless_either : (t : Bool) (ls ms : List Line) → AreWayless ls → AreWayless ms → AreWayless (cond t ls ms)
-wayless_either true ls ms left right = left
-wayless_either false ls ms left right = right
-
-pub wayless_over : (v : View) (came over : Option Enclave) (r : Record) → IsCallBody r.body → AreWayless (over_lines v came over r)
-wayless_over v came None r is = (tt, tt)
-wayless_over v came (Some over) r is =
-    wayless_either (option_map_or (λ from. eqb over.0 from.0) came false) (drop_lines v) (lines.Sent v.me over r ∷ []) (tt, tt) (is, tt)
-
-wayless_made : (v : View) (goal : Goal) (r : Record) → IsCallBody r.body → AreWayless (made_lines v goal r)
-wayless_made v goal r is = wayless_either (is_valid r) (send_lines v None goal r) (drop_lines v) (wayless_over v None (way_to v goal) r is) (tt, tt)
-
-wayless_named : (v : View) (call : ℕ) (segid : Segid) → AreWayless (named_lines v call segid)
-wayless_named v call segid = by (at v.memory.waiting call)
-  where
-    by : (found : Option Waiting) → AreWayless (option_map_or (λ waiting. cond (takes_name v call segid waiting) (lines.Named v.me (record { 0 = call }) segid ∷ lines.AnswerSegid v.me waiting.pid (record { 0 = call }) segid ∷ []) (drop_lines v)) found (drop_lines v))
-    by None = (tt, tt)
-    by (Some w) = wayless_either (takes_name v call segid w) (lines.Named v.me (record { 0 = call }) segid ∷ lines.AnswerSegid v.me w.pid (record { 0 = call }) segid ∷ []) (drop_lines v) (tt, (tt, tt)) (tt, tt)
-
-wayless_unname : (v : View) (owner : Enclave) (segid : Segid) → AreWayless (unname_lines v owner segid)
-wayless_unname v owner segid = wayless_either (is_segid segid && has_name v.names (segid_number segid) owner) (lines.Unnamed segid ∷ []) (drop_lines v) (tt, tt) (tt, tt)
-
--- nor one that asks for the way
-abbrev pub IsServing : Body → Type 0
-IsServing bodies.Query = ⊥
-IsServing bodies.Here = ⊥
-IsServing bodies.Register = ⊥
-IsServing bodies.Admit = ⊥
-IsServing body = Unit {0}
-
-wayless_call : (v : View) (x : Enclave) (r : Record) (body : Body) → IsCallBody r.body → IsServing body → AreWayless (body_lines v x r body)
-wayless_call v x r bodies.Query plain is = absurd is
-wayless_call v x r bodies.Here plain is = absurd is
-wayless_call v x r bodies.Register plain is = absurd is
-wayless_call v x r bodies.Admit plain is = absurd is
-wayless_call v x r bodies.NameReq plain is =
-    wayless_either v.core.holder (name_lines v r.origin r.call) (send_lines v (Some x) Server r)
-    (wayless_either (can_draw v.names) (drew_line v r.origin r.call ∷ made_lines v (To r.origin) (named_record v.me r.origin r.call (next_segid v.names))) (drop_lines v)
-    (tt, wayless_made v (To r.origin) (named_record v.me r.origin r.call (next_segid v.names)) tt) (tt, tt))
-    (wayless_over v (Some x) (way_to v Server) r plain)
-wayless_call v x r (bodies.Named segid) plain is = by r.dest
-  where
-    by : (dest : Option Enclave) → AreWayless (named_to v x r segid dest)
-    by None = (tt, tt)
-    by (Some d) = wayless_either (eqb d.0 v.me.0) (named_lines v r.call segid) (send_lines v (Some x) (To d) r) (wayless_named v r.call segid) (wayless_over v (Some x) (way_to v (To d)) r plain)
-wayless_call v x r (bodies.Unname segid) plain is =
-    wayless_either v.core.holder (unname_lines v r.origin segid) (send_lines v (Some x) Server r) (wayless_unname v r.origin segid) (wayless_over v (Some x) (way_to v Server) r plain)
-wayless_call v x r _ plain is = (tt, tt)
+  always_forget : (segid : Segid) → ((z : Enclave) → GuidesAlways (lines.Sent v.me z r)) → AllByRecursion GuidesAlways (body_lines v x r (bodies.Unname segid))
+  always_forget segid passed = each_either GuidesAlways v.core.holder (unname_lines v r.origin segid) (send_lines v (Some x) Server r)
+      (each_unname GuidesAlways always_for_calls v r.origin segid) (each_sent GuidesAlways always_for_calls v (Some x) Server r (λ z way. passed z))
 
 number_itself : {A : Type 0} (k : ℕ) (w : A) (f : ℕ → A) → at_number k w f k ≡ w
 number_itself k w f = ap (λ t. cond t w (f k)) (eq-eqb k k refl)
@@ -294,54 +232,23 @@ module _ (rows : RowLaws Enclave) (laws : TreePaths) (G : Facts) (x y : Enclave)
   guides_body bodies.Here is leads toward = guides_here leads
   guides_body bodies.Register is leads toward = guides_register leads (toward refl) is
   guides_body bodies.Admit is leads toward = guides_admit r.dest refl leads is
-  guides_body body is leads toward = wayless got (body_lines v x r body) (wayless_call v x r body (subst IsCallBody (sym is) tt) tt)
+  guides_body bodies.NameReq is leads toward =
+      always got (body_lines v x r bodies.NameReq) (always_request v x r (λ z H. subst (LeadsBy H y.0 z.0 r) (sym is) tt))
+  guides_body (bodies.Named segid) is leads toward =
+      always got (body_lines v x r (bodies.Named segid)) (always_name v x r segid (λ z H. subst (LeadsBy H y.0 z.0 r) (sym is) tt) r.dest)
+  guides_body (bodies.Unname segid) is leads toward =
+      always got (body_lines v x r (bodies.Unname segid)) (always_forget v x r segid (λ z H. subst (LeadsBy H y.0 z.0 r) (sym is) tt))
+  guides_body _ is leads toward = (tt, tt)
 
 -- ---- each step
 
-guides_alone : (G : Facts) (line : Line) → MayStandAlone G line → IsWayless line
-guides_alone G (lines.Born e kind parent ns blocks) may = may
-guides_alone G (lines.Told e dead) may = may
-guides_alone G (lines.Heard e dead) may = may
-guides_alone G (lines.Admitted e) may = absurd may
-guides_alone G (lines.Way e over) may = absurd may
-guides_alone G (lines.Back e of over) may = absurd may
-guides_alone G (lines.Sent x y r) may = absurd may
-guides_alone G _ may = tt
-
-wayless_append : (ls ms : List Line) → AreWayless ls → AreWayless ms → AreWayless (ls ++ ms)
-wayless_append [] ms first more = more
-wayless_append (l ∷ ls) ms first more = (first.0, wayless_append ls ms first.1 more)
-
-wayless_asks : (hand : Hand) (v : View) (p : Pid) → AreWayless (make_acts hand v p)
-wayless_asks hand v p =
-    let w = own_lines hand v (issue_line v p ∷ []) in
-    let k = v.memory.issued + 1 in (
-      tt,
-      wayless_either w.core.holder (naming_lines hand w k) (made_lines w Server (name_request w.me k))
-          (wayless_either (can_draw w.names) (drew_line w w.me k ∷ named_lines (own_lines hand w (drew_line w w.me k ∷ [])) k (next_segid w.names)) (drop_lines w)
-          (tt, wayless_named (own_lines hand w (drew_line w w.me k ∷ [])) k (next_segid w.names)) (tt, tt))
-          (wayless_made w Server (name_request w.me k) tt),
-    )
-
-wayless_step : (v : View) (p : Pid) (call : Call) → AreWayless (asked_lines v p call)
-wayless_step v p (calls.Alloc page n) = tt
-wayless_step v p (calls.Make addr size mode) = wayless_asks (at_hand v p (calls.Make addr size mode)) v p
-wayless_step v p (calls.Remove segid) = (
-  tt,
-  wayless_either v.core.holder (unname_lines v v.me segid) (made_lines v Server (unname_record v.me (make_of v.exports (segid_number segid)) segid))
-      (wayless_unname v v.me segid) (wayless_made v Server (unname_record v.me (make_of v.exports (segid_number segid)) segid) tt),
-)
+guides_alone : (G : Facts) (line : Line) → MayStandAlone G line → GuidesAlways line
+guides_alone G (lines.Sent x y r) may H = absurd may
+guides_alone G _ may H = search
 
 -- one that holds the name server is ready
 holder_ready : (G : Facts) (e : ℕ) → holds G e ≡ true → IsReachable G e
 holder_ready G e held = record { road = record { holder = e; holds = held; before = []; reaches = refl }; knowing = or_left (holds G e) (is_some (way_at G e)) held }
-
-guides_adopt : (G H : Facts) (parent child : Enclave) → AreWayless (adopt_lines (view_of G parent) child)
-guides_adopt G H parent child = by (knows_way (view_of G parent))
-  where
-    by : (t : Bool) → AreWayless (cond t [] (lines.Sent parent child (query_of parent) ∷ []))
-    by true = tt
-    by false = (tt, tt)
 
 module _ (G : Facts) (child : Enclave) (kind : Kind) (parent : Enclave) (ns : Bool) (blocks : List Block) (pause : IsPause G) (tree : TreePaths)
     (birth : IsBirth G child kind parent ns blocks) where
@@ -355,13 +262,13 @@ module _ (G : Facts) (child : Enclave) (kind : Kind) (parent : Enclave) (ns : Bo
   born_holds is = ap (λ t. is_holder (cond t (Some (record { kind = kind; parent = parent; blocks = blocks; ns = ns; living = true; admitted = false })) (G.enclave child.0))) (eq-eqb child.0 child.0 refl) ∙ is
 
   -- what follows the birth: it is admitted where it holds the name server, and else it asks; and then others that say nothing of ways
-  guides_child : (asks more : List Line) → AreWayless asks → AreWayless more
+  guides_child : (asks more : List Line) → AllByRecursion GuidesAlways asks → AllByRecursion GuidesAlways more
       → Guides (after_line G (lines.Born child kind parent ns blocks)) (cond ns (lines.Admitted child ∷ []) asks ++ more)
   guides_child asks more first rest = by ns refl
     where
       by : (t : Bool) → ns ≡ t → Guides (after_line G (lines.Born child kind parent ns blocks)) (cond t (lines.Admitted child ∷ []) asks ++ more)
-      by true is = (holder_ready born child.0 (born_holds is), wayless (after_line born (lines.Admitted child)) more rest)
-      by false is = wayless born (asks ++ more) (wayless_append asks more first rest)
+      by true is = (holder_ready born child.0 (born_holds is), always (after_line born (lines.Admitted child)) more rest)
+      by false is = always born (asks ++ more) (all_append GuidesAlways asks more first rest)
 
 module _ (rows : RowLaws Enclave) (tree : TreePaths) (G : Facts) (x y : Enclave) (r : Record) (roads : AreRoads G) (leading : IsLeading G) where
   route_is : (H : Facts) (d over : Enclave) → route_at (after_line H (lines.Route y d over)) y.0 d.0 ≡ Some over
@@ -401,12 +308,12 @@ no_deaths child heard none = ap (told_lines child) none
 
 pub guides_step : RowLaws Enclave → TreePaths → (G : Facts) (step : Step) → IsPause G → MayCome G step → AreRoads G → IsLeading G → IsLeading (after_lines G (written_by G step))
     → Guides G (written_by G step)
-guides_step rows tree G (Written line) pause may roads leading after = wayless G (line ∷ []) (guides_alone G line may.1, tt)
+guides_step rows tree G (Written line) pause may roads leading after = always G (line ∷ []) (guides_alone G line may.1, tt)
 guides_step rows tree G (Takes x y count) pause may roads leading after = (tt, tt)
 guides_step rows tree G (Handles x y r) pause may roads leading after =
     let next = next_flight G x.0 y.0 r may.others may.next in
     guides_handled rows tree G x y r roads leading next.others next.is after
-guides_step rows tree G (Asks e p call) pause may roads leading after = wayless G (asked_lines (view_of G e) p call) (wayless_step (view_of G e) p call)
+guides_step rows tree G (Asks e p call) pause may roads leading after = always G (asked_lines (view_of G e) p call) (always_asked (view_of G e) p call)
 guides_step rows tree G (Hosts ns blocks) pause may roads leading after = (
   guides_born G host kinds.Host host ns blocks pause tree may.1,
   subst (Guides (after_line G (lines.Born host kinds.Host host ns blocks))) (append-nil (cond ns (lines.Admitted host ∷ []) []))
@@ -417,7 +324,8 @@ guides_step rows tree G (Bears child kind parent ns blocks) pause may roads lead
     let more = adopt_lines (view_of G parent) child in (
       guides_born G child kind parent ns blocks pause tree may.1,
       subst (λ told. Guides H ((told ++ child_lines child parent ns) ++ more)) (sym (no_deaths child (G.heard parent.0) (roads.quiet parent.0)))
-          (guides_child G child kind parent ns blocks pause tree may.1 (lines.Sent child parent (query_of child) ∷ []) more (tt, tt) (guides_adopt G H parent child)),
+          (guides_child G child kind parent ns blocks pause tree may.1 (lines.Sent child parent (query_of child) ∷ []) more ((λ K. tt), tt)
+          (each_adopt GuidesAlways (view_of G parent) child (λ K. tt))),
     )
 
 -- ---- along all steps

@@ -19,7 +19,7 @@ use Rattle.enclave_rules.specs.Names.{can_draw, next_segid}
 use Rattle.enclave_rules.specs.View.{View}
 use Rattle.enclave_rules.specs.Ways.{place_among}
 use Rattle.enclave_rules.specs.Segments.{drew_line, name_lines, named_lines, named_record, takes_name, unname_lines}
-use Rattle.enclave_rules.specs.Sending.{Server, To, drop_lines, made_lines, over_lines, send_lines, knows_way, way_to}
+use Rattle.enclave_rules.specs.Sending.{Server, To, drop_lines, made_lines, send_lines, knows_way, way_to}
 use Rattle.enclave_rules.specs.Steps.{admit_of, admit_over, admit_to, body_lines, handled_lines, here_of, is_stray, name_request_lines, named_to, record_lines, register_of, told_askers, unname_to}
 use Rattle.global_model.specs.Facts.{EnclaveFact, Facts, fact_of, facts_at, is_holder, runs}
 use Rattle.global_model.specs.Views.{view_of}
@@ -29,54 +29,46 @@ use Rattle.call_laws.specs.Flights.{FitsBy, IsFit, IsNowhere, IsSingle, is_of, i
 use Rattle.call_laws.specs.Legal.{MayForget}
 use Rattle.call_laws.specs.Laws.{CallRows}
 use Rattle.call_laws.proofs.CellLines.{is_cell_itself}
+use Rattle.call_laws.proofs.Each.{each_either, each_over, each_told}
+use Rattle.call_laws.proofs.Rows.{all_append}
 use Rattle.call_laws.proofs.MemoryLines.{waiting_row}
 use Rattle.call_laws.specs.One.{IsPair}
 use Rattle.call_laws.proofs.SentLines.{IsEnded, Tells, TellsBy}
 use Rattle.call_laws.proofs.Requests.{RequestsOnce, all-behind, got_gone, got_same}
-use Rattle.call_laws.proofs.Tied.{AreAside, GoesOn, IsPlainBody, IsTied, calm_named, goes_aside, goes_first, goes_made, goes_over, goes_quiet}
+use Rattle.call_laws.proofs.Tied.{AreFreeOfCalls, GoesOn, IsFreeOfCalls, IsPlainBody, IsTied, answered_named, goes_free, goes_first, goes_made, goes_over, goes_quiet}
 
 -- ---- records that say nothing of calls
 
-pub aside_either : (t : Bool) (ls ms : List Line) → AreAside ls → AreAside ms → AreAside (cond t ls ms)
-aside_either true ls ms left right = left
-aside_either false ls ms left right = right
+free_admit_over : (v : View) (from d : Enclave) (r : Record) (over : Option Enclave) → IsPlainBody r.body → AreFreeOfCalls (admit_over v from d r over)
+free_admit_over v from d r None plain = (tt, tt)
+free_admit_over v from d r (Some over) plain = (tt, each_over IsFreeOfCalls v (Some from) (Some over) r tt (λ z way. plain))
 
-pub aside_over : (v : View) (came over : Option Enclave) (r : Record) → IsPlainBody r.body → AreAside (over_lines v came over r)
-aside_over v came None r plain = (tt, tt)
-aside_over v came (Some over) r plain =
-    aside_either (option_map_or (λ from. eqb over.0 from.0) came false) (drop_lines v) (lines.Sent v.me over r ∷ []) (tt, tt) (plain, tt)
+free_admit : (v : View) (from : Enclave) (r : Record) (dest : Option Enclave) → IsPlainBody r.body → AreFreeOfCalls (admit_to v from r dest)
+free_admit v from r None plain = (tt, tt)
+free_admit v from r (Some d) plain =
+    each_either IsFreeOfCalls (eqb d.0 v.me.0) (cond v.core.admitted (drop_lines v) (lines.Admitted v.me ∷ [])) (admit_over v from d r (at v.ways.backs d.0))
+    (each_either IsFreeOfCalls v.core.admitted (drop_lines v) (lines.Admitted v.me ∷ []) (tt, tt) (tt, tt)) (free_admit_over v from d r (at v.ways.backs d.0) plain)
 
-aside_told : (v : View) (askers : List (ℕ × Enclave)) (more : List Line) → AreAside more → AreAside (told_askers v askers ++ more)
-aside_told v [] more aside = aside
-aside_told v (row ∷ askers) more aside = (tt, aside_told v askers more aside)
-
-aside_admit_over : (v : View) (from d : Enclave) (r : Record) (over : Option Enclave) → IsPlainBody r.body → AreAside (admit_over v from d r over)
-aside_admit_over v from d r None plain = (tt, tt)
-aside_admit_over v from d r (Some over) plain = (tt, aside_over v (Some from) (Some over) r plain)
-
-aside_admit : (v : View) (from : Enclave) (r : Record) (dest : Option Enclave) → IsPlainBody r.body → AreAside (admit_to v from r dest)
-aside_admit v from r None plain = (tt, tt)
-aside_admit v from r (Some d) plain =
-    aside_either (eqb d.0 v.me.0) (cond v.core.admitted (drop_lines v) (lines.Admitted v.me ∷ [])) (admit_over v from d r (at v.ways.backs d.0))
-    (aside_either v.core.admitted (drop_lines v) (lines.Admitted v.me ∷ []) (tt, tt) (tt, tt)) (aside_admit_over v from d r (at v.ways.backs d.0) plain)
-
-pub aside_body : (v : View) (from : Enclave) (r : Record) (body : Body) → IsPlainBody r.body → IsPlainBody body → AreAside (body_lines v from r body)
-aside_body v from r bodies.Query plain is =
-    aside_either (knows_way v) (lines.Sent v.me from (here_of v.me) ∷ []) (lines.Asked v.me from ∷ []) (tt, tt) (tt, tt)
-aside_body v from r bodies.Here plain is =
-    aside_either (knows_way v) (drop_lines v)
-    (lines.Way v.me from ∷ told_askers v (less v.ways.askers (place_among v.core.parent from)) ++ lines.Sent v.me from (register_of v.me) ∷ []) (tt, tt)
-    (tt, aside_told v (less v.ways.askers (place_among v.core.parent from)) (lines.Sent v.me from (register_of v.me) ∷ []) (tt, tt))
-aside_body v from r bodies.Register plain is = (
+pub free_body : (v : View) (from : Enclave) (r : Record) (body : Body) → IsPlainBody r.body → IsPlainBody body → AreFreeOfCalls (body_lines v from r body)
+free_body v from r bodies.Query plain is =
+    each_either IsFreeOfCalls (knows_way v) (lines.Sent v.me from (here_of v.me) ∷ []) (lines.Asked v.me from ∷ []) (tt, tt) (tt, tt)
+free_body v from r bodies.Here plain is =
+    each_either IsFreeOfCalls (knows_way v) (drop_lines v)
+    (lines.Way v.me from ∷ told_askers v (less v.ways.askers (place_among v.core.parent from)) ++ lines.Sent v.me from (register_of v.me) ∷ []) (tt, tt) (
+      tt,
+      all_append IsFreeOfCalls (told_askers v (less v.ways.askers (place_among v.core.parent from))) (lines.Sent v.me from (register_of v.me) ∷ [])
+          (each_told IsFreeOfCalls v (less v.ways.askers (place_among v.core.parent from)) (λ x. tt)) (tt, tt),
+    )
+free_body v from r bodies.Register plain is = (
   tt,
-  aside_either v.core.holder (lines.Route v.me r.origin from ∷ lines.Sent v.me from (admit_of v.me r.origin) ∷ []) (send_lines v (Some from) Server r) (tt, (tt, tt))
-      (aside_over v (Some from) (way_to v Server) r plain),
+  each_either IsFreeOfCalls v.core.holder (lines.Route v.me r.origin from ∷ lines.Sent v.me from (admit_of v.me r.origin) ∷ []) (send_lines v (Some from) Server r) (tt, (tt, tt))
+      (each_over IsFreeOfCalls v (Some from) (way_to v Server) r tt (λ z way. plain)),
 )
-aside_body v from r bodies.Admit plain is = aside_admit v from r r.dest plain
-aside_body v from r bodies.NameReq plain is = absurd is
-aside_body v from r (bodies.Named segid) plain is = absurd is
-aside_body v from r (bodies.Unname segid) plain is = absurd is
-aside_body v from r _ plain is = (tt, tt)
+free_body v from r bodies.Admit plain is = free_admit v from r r.dest plain
+free_body v from r bodies.NameReq plain is = absurd is
+free_body v from r (bodies.Named segid) plain is = absurd is
+free_body v from r (bodies.Unname segid) plain is = absurd is
+free_body v from r _ plain is = (tt, tt)
 
 -- ---- the holder
 
@@ -128,13 +120,13 @@ goes_named rows past v call segid may = by (at v.memory.waiting call) (λ w is. 
           tt,
         ),
       );
-      calm = λ tied calm. calm_named past v.me w.pid (record { 0 = call }) segid segid calm;
+      answered = λ tied answered. answered_named past v.me w.pid (record { 0 = call }) segid segid answered;
     }
-    named w ok false = goes_aside rows past (drop_lines v) (tt, tt)
+    named w ok false = goes_free rows past (drop_lines v) (tt, tt)
 
     by : (found : Option Waiting) → ((w : Waiting) → found ≡ Some w → IsNameable past v.me call segid w)
         → GoesOn past (option_map_or (λ waiting. cond (takes_name v call segid waiting) (lines.Named v.me (record { 0 = call }) segid ∷ lines.AnswerSegid v.me waiting.pid (record { 0 = call }) segid ∷ []) (drop_lines v)) found (drop_lines v))
-    by None may = goes_aside rows past (drop_lines v) (tt, tt)
+    by None may = goes_free rows past (drop_lines v) (tt, tt)
     by (Some w) may = named w (may w refl) (takes_name v call segid w)
 
 -- what waits by a cell
@@ -176,7 +168,7 @@ goes_forgotten rows past v owner segid served may nowhere = by (is_segid segid &
           },
           tt,
         ) (tt, tt)
-    by false is = goes_aside rows past (drop_lines v) (tt, tt)
+    by false is = goes_free rows past (drop_lines v) (tt, tt)
 
 -- one that stands, of a call that has ended
 pub may_forget : (past : List Line) (s e k : ℕ) {P : Enclave → Type 0} → ((of : Enclave) → P of → IsPair (cells past) s of.0)
@@ -278,7 +270,7 @@ module _ (rows : CallRows) (past : List Line) (x y : Enclave) (r : Record) (behi
           (λ d is. let same : r.origin ≡ d = cc in
           subst (λ d. (cells (drew_line v r.origin r.call ∷ lines.Got x y ∷ past) d.0 r.call).drew ≡ Some (segid_number (next_segid v.names))) same
           (rw (is_cell_itself r.origin.0 r.call) refl)) (named_once request))
-      drawn holder false = goes_aside rows (lines.Got x y ∷ past) (drop_lines v) (tt, tt)
+      drawn holder false = goes_free rows (lines.Got x y ∷ past) (drop_lines v) (tt, tt)
 
       by : (t : Bool) → v.core.holder ≡ t → GoesOn (lines.Got x y ∷ past) (cond t (name_lines v r.origin r.call) (send_lines v (Some x) Server r))
       by true is = drawn (holder_holds is) (can_draw v.names)
@@ -286,7 +278,7 @@ module _ (rows : CallRows) (past : List Line) (x y : Enclave) (r : Record) (behi
 
   goes_name : (segid : Segid) → r.body ≡ bodies.Named segid → (dest : Option Enclave) → r.dest ≡ dest → ((d : Enclave) → dest ≡ Some d → (cells past d.0 r.call).drew ≡ Some (segid_number segid))
       → GoesOn (lines.Got x y ∷ past) (named_to v x r segid dest)
-  goes_name segid body None to told = goes_aside rows (lines.Got x y ∷ past) (drop_lines v) (tt, tt)
+  goes_name segid body None to told = goes_free rows (lines.Got x y ∷ past) (drop_lines v) (tt, tt)
   goes_name segid body (Some d) to told = by (eqb d.0 y.0) refl
     where
       by : (t : Bool) → eqb d.0 y.0 ≡ t → GoesOn (lines.Got x y ∷ past) (cond t (named_lines v r.call segid) (send_lines v (Some x) (To d) r))
@@ -329,7 +321,7 @@ module _ (rows : CallRows) (past : List Line) (x y : Enclave) (r : Record) (behi
   goes_by bodies.NameReq is told = goes_request is (λ t. told)
   goes_by (bodies.Named segid) is told = goes_name segid is r.dest refl told
   goes_by (bodies.Unname segid) is told = goes_unname segid is told
-  goes_by body is told = goes_aside rows (lines.Got x y ∷ past) (body_lines v x r body) (aside_body v x r body (subst IsPlainBody (sym is) tt) tt)
+  goes_by body is told = goes_free rows (lines.Got x y ∷ past) (body_lines v x r body) (free_body v x r body (subst IsPlainBody (sym is) tt) tt)
 
 pub goes_handled : CallRows → (past : List Line) (x y : Enclave) (r : Record) (behind : List Record) → IsTied past → in_flight (facts_at past) x.0 y.0 ≡ r ∷ behind
     → GoesOn past (handled_lines (view_of (facts_at past) y) x r)
@@ -346,7 +338,7 @@ goes_handled rows past x y r behind tied next =
         first.0
 
     by : (t : Bool) → is_stray v r ≡ t → GoesOn (lines.Got x y ∷ past) (cond t (drop_lines v) (body_lines v x r r.body))
-    by true is = goes_aside rows (lines.Got x y ∷ past) (drop_lines v) (tt, tt)
+    by true is = goes_free rows (lines.Got x y ∷ past) (drop_lines v) (tt, tt)
     by false is =
         let foreign : eqb r.origin.0 y.0 ≡ false = (or_parts _ _ (or_parts _ _ is).0).0 in
         goes_by rows past x y r behind tied tells next foreign r.body refl tells

@@ -14,7 +14,7 @@ use Rattle.call_laws.specs.Flights.{IsNowhere, is_of}
 use Rattle.call_laws.specs.Laws.{CallRows}
 use Rattle.call_laws.proofs.CellLines.{same_call}
 use Rattle.call_laws.proofs.Requests.{AsksOnce, IsBounded, same_pair, tested, tested_got, tested_sent, tested_took}
-use Rattle.call_laws.proofs.Tied.{AreAside, IsAside, IsTied, KeepsAt, tied_line}
+use Rattle.call_laws.proofs.Tied.{AreFreeOfCalls, IsFreeOfCalls, IsTied, KeepsAt, tied_line}
 
 pub record IsIdleCell (c : CallCell) : Type 0 where
   pub waits : c.waits ≡ false
@@ -83,19 +83,13 @@ idle_lines rows past [] e k keeps tied spares old = old
 idle_lines rows past (l ∷ ls) e k keeps tied spares old =
     idle_lines rows (l ∷ past) ls e k keeps.1 (tied_line rows past l keeps.0 tied) spares.1 (idle_line past l e k keeps.0.once tied.only.bounded spares.0 old)
 
-spares_aside : (past : List Line) (line : Line) (e k : ℕ) → IsAside line → Spares e k past line
-spares_aside past (lines.Got x y) e k aside = absurd aside
-spares_aside past (lines.Issue of p call) e k aside = absurd aside
-spares_aside past (lines.Drew of call segid) e k aside = absurd aside
-spares_aside past (lines.Named of call segid) e k aside = absurd aside
-spares_aside past (lines.AnswerSegid of p call segid) e k aside = absurd aside
-spares_aside past (lines.Remove of segid) e k aside = absurd aside
-spares_aside past (lines.Unnamed segid) e k aside = absurd aside
-spares_aside past _ e k aside = tt
+spares_free : (past : List Line) (line : Line) (e k : ℕ) → IsFreeOfCalls line → Spares e k past line
+spares_free past (lines.Sent x y r) e k free = tt
+spares_free past _ e k free = search
 
-pub spares_asides : (past ls : List Line) (e k : ℕ) → AreAside ls → Follows (Spares e k) past ls
-spares_asides past [] e k aside = tt
-spares_asides past (l ∷ ls) e k aside = (spares_aside past l e k aside.0, spares_asides (l ∷ past) ls e k aside.1)
+pub spare_free : (past ls : List Line) (e k : ℕ) → AreFreeOfCalls ls → Follows (Spares e k) past ls
+spare_free past [] e k free = tt
+spare_free past (l ∷ ls) e k free = (spares_free past l e k free.0, spare_free (l ∷ past) ls e k free.1)
 
 -- ---- lines that are about one call
 

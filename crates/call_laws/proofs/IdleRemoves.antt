@@ -34,10 +34,10 @@ use Rattle.discovery_laws.specs.Known.{knows}
 use Rattle.call_laws.proofs.Asks.{cell_removed, first, goes_remove, issued_once, live}
 use Rattle.call_laws.proofs.IdleRecords.{apart_drawn, made_is, unname_is}
 use Rattle.call_laws.proofs.Room.{valid_unname}
-use Rattle.call_laws.proofs.Tied.{IsCalm}
+use Rattle.call_laws.proofs.Tied.{AreNearAnswered}
 use Rattle.call_laws.proofs.IdleAsks.{IsWay, way_of}
 
-module _ (rows : CallRows) (past : List Line) (e : Enclave) (segid : Segid) (tied : IsTied past) (calm : IsCalm past)
+module _ (rows : CallRows) (past : List Line) (e : Enclave) (segid : Segid) (tied : IsTied past) (answered : AreNearAnswered past)
     (has : has_segment (facts_at past) e.0 (segid_number segid) ≡ true) (number : e.0 ≤ 255) (fits : is_segid segid ≡ true) where
   abbrev pub G : Facts
   G = facts_at past
@@ -49,19 +49,19 @@ module _ (rows : CallRows) (past : List Line) (e : Enclave) (segid : Segid) (tie
   s = segid_number segid
 
   abbrev pub made : ℕ
-  made = (first rows past e segid tied calm has).first.0
+  made = (first rows past e segid tied answered has).first.0
 
   abbrev pub removed : List Line
   removed = lines.Remove e segid ∷ past
 
   is_live : IsLive (cells past e.0 made) s
-  is_live = live rows past e segid tied calm has
+  is_live = live rows past e segid tied answered has
 
   cell : cells removed e.0 made ≡ as_near false (cells past e.0 made)
-  cell = cell_removed rows past e segid tied calm has
+  cell = cell_removed rows past e segid tied answered has
 
   keeps : Follows KeepsAt past (remove_acts v segid)
-  keeps = (goes_remove rows past e segid tied calm has).keeps
+  keeps = (goes_remove rows past e segid tied answered has).keeps
 
   after : IsTied removed
   after = tied_line rows past (lines.Remove e segid) keeps.0 tied
@@ -79,7 +79,7 @@ module _ (rows : CallRows) (past : List Line) (e : Enclave) (segid : Segid) (tie
       (settles_first past (lines.Remove e segid) (lines.Unnamed segid ∷ []) e.0 made spares_removed
       (settles_first removed (lines.Unnamed segid) [] e.0 made (apart_drawn removed e.0 made s after.ones drew_removed)
       (settles_end (lines.Unnamed segid ∷ removed) e.0 made (subst (λ t. IsIdleCell (cond t (as_forgotten (cells removed e.0 made)) (cells removed e.0 made))) (sym (drawn_has s (cells removed e.0 made) drew_removed)) (record {
-        waits = ap (λ c. c.waits) cell ∙ calm e.0 made is_live.near;
+        waits = ap (λ c. c.waits) cell ∙ answered e.0 made is_live.near;
         even = sym (ap (λ c. c.near) cell);
       })))))
     where
@@ -99,7 +99,7 @@ module _ (rows : CallRows) (past : List Line) (e : Enclave) (segid : Segid) (tie
       (and_from (eqb e.0 e.0) (eqb (make_of v.exports s) made) (eq-eqb e.0 e.0 refl) (eq-eqb (make_of v.exports s) made call_is))))
     where
       call_is : make_of v.exports s ≡ made
-      call_is = ap (λ row. option_map_or (λ row. row.0) row 0) (first rows past e segid tied calm has).found
+      call_is = ap (λ row. option_map_or (λ row. row.0) row 0) (first rows past e segid tied answered has).found
 
       way : IsWay G e.0
       way = way_of G e.0 knowing (sym (ns_is (G.enclave e.0)) ∙ held)
@@ -119,7 +119,7 @@ module _ (rows : CallRows) (past : List Line) (e : Enclave) (segid : Segid) (tie
   idle_remove knowing zero room idle = settled rows past (remove_acts v segid) e.0 made keeps tied (by v.core.holder refl) idle
     where
       issued : (cells past e.0 made).issued ≡ true
-      issued = issued_once rows past e segid tied calm has
+      issued = issued_once rows past e segid tied answered has
 
       some : 1 ≤ made
       some = elim (cases_Bool (leb 1 made)) [

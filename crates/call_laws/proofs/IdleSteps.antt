@@ -23,8 +23,8 @@ use Rattle.call_laws.specs.Flights.{is_of}
 use Rattle.call_laws.specs.Laws.{CallRows}
 use Rattle.call_laws.specs.Onward.{IsForCaller, IsForServer, IsOnward, OnwardBy}
 use Rattle.call_laws.specs.Places.{HasRoom}
-use Rattle.call_laws.proofs.Handled.{aside_body, goes_handled, ns_is}
-use Rattle.call_laws.proofs.Idle.{AreIdle, Settles, Spares, idle_lines, settled, spares_asides}
+use Rattle.call_laws.proofs.Handled.{free_body, goes_handled, ns_is}
+use Rattle.call_laws.proofs.Idle.{AreIdle, Settles, Spares, idle_lines, settled, spare_free}
 use Rattle.call_laws.proofs.SentLines.{Tells}
 use Rattle.call_laws.proofs.Tied.{IsPlainBody, IsTied, KeepsAt}
 use Rattle.global_model.specs.Facts.{EnclaveFact, is_living_enclave}
@@ -35,10 +35,10 @@ use Rattle.discovery_laws.specs.Ways.{IsLeading}
 use Rattle.call_laws.specs.Laws.{TreePaths}
 use Rattle.enclave_rules.specs.Steps.{record_lines}
 use Rattle.std.proofs.lemmas.Bool.{eqb-false, ltb-true}
-use Rattle.call_laws.proofs.Tied.{AreAside}
+use Rattle.call_laws.proofs.Tied.{AreFreeOfCalls, IsFreeOfCalls}
 use Rattle.call_laws.proofs.BoundSteps.{next_bound}
 use Rattle.call_laws.proofs.Bounds.{ahead_some, reached_ahead}
-use Rattle.call_laws.proofs.Handled.{aside_either}
+use Rattle.call_laws.proofs.Each.{each_either}
 use Rattle.call_laws.proofs.IdleHandled.{forgotten, name_passed, name_taken, own_request, own_unname, request_drawn, server_passed}
 use Rattle.call_laws.proofs.IdleRecords.{plain_none, stray_is}
 use Rattle.call_laws.proofs.Onward.{AreBound, BoundBy, bound_onward}
@@ -130,13 +130,13 @@ module _ (rows : CallRows) (tree : TreePaths) (past : List Line) (x y : Enclave)
             (own_unname rows past x y r behind tied next tells on.foreign valid segid body) here (held_or false here on.goes refl)
 
     plain : (body : Body) → r.body ≡ body → IsPlainBody body → AreIdle (onto (handled_lines v x r) past)
-    plain body is other f j = idle_lines rows past (handled_lines v x r) f j keeps tied (got, spares_asides (lines.Got x y ∷ past) (record_lines v x r) f j aside) (idle f j)
+    plain body is other f j = idle_lines rows past (handled_lines v x r) f j keeps tied (got, spare_free (lines.Got x y ∷ past) (record_lines v x r) f j free) (idle f j)
       where
         is_plain : IsPlainBody r.body
         is_plain = subst IsPlainBody (sym is) other
 
-        aside : AreAside (record_lines v x r)
-        aside = aside_either (is_stray v r) (drop_lines v) (body_lines v x r r.body) (tt, tt) (aside_body v x r r.body is_plain is_plain)
+        free : AreFreeOfCalls (record_lines v x r)
+        free = each_either IsFreeOfCalls (is_stray v r) (drop_lines v) (body_lines v x r r.body) (tt, tt) (free_body v x r r.body is_plain is_plain)
 
         got : Spares f j past (lines.Got x y)
         got q rs found =

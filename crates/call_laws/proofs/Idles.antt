@@ -28,33 +28,34 @@ use Rattle.discovery_laws.specs.Ways.{IsLeading}
 use Rattle.call_laws.specs.Laws.{CallLaws, CallRows, TreePaths}
 use Rattle.call_laws.specs.Places.{HaveSegids, HasRoom}
 use Rattle.call_laws.proofs.Asks.{asked_runs, removed_has}
-use Rattle.call_laws.proofs.BoundSteps.{aside_hosts, asked_serving, bound_lines, bound_step}
+use Rattle.call_laws.proofs.BoundSteps.{asked_serving, bound_lines, bound_step}
 use Rattle.call_laws.proofs.Flights.{next_flight}
 use Rattle.call_laws.proofs.Guides.{more_lines, roads_lines}
 use Rattle.call_laws.proofs.Guiding.{IsWalked, guides_step, leading_at, no_roads, walked_more}
-use Rattle.call_laws.proofs.Idle.{AreIdle, idle_lines, spares_asides}
+use Rattle.call_laws.proofs.Idle.{AreIdle, idle_lines, spare_free}
 use Rattle.call_laws.proofs.IdleAsks.{idle_make}
 use Rattle.call_laws.proofs.IdleRemoves.{idle_remove}
 use Rattle.call_laws.proofs.IdleSteps.{idle_handled, is_number}
-use Rattle.call_laws.proofs.Journals.{IsSteady, steady_first}
+use Rattle.call_laws.proofs.Journals.{IsTiedAtPause, at_pause_first}
 use Rattle.call_laws.proofs.Numbers.{AreNumbered, numbered_lines}
 use Rattle.call_laws.proofs.Onward.{AreBound}
 use Rattle.call_laws.proofs.Roads.{AreRoads}
 use Rattle.call_laws.proofs.Room.{named_lines_by, room_lines}
-use Rattle.call_laws.proofs.Steps.{aside_adopt, aside_alone, aside_append, aside_child, aside_deaths, goes_step}
-use Rattle.call_laws.proofs.Tied.{AreAside, IsCalm, IsTied, KeepsAt, tied_lines}
+use Rattle.call_laws.proofs.Steps.{free_alone, goes_step}
+use Rattle.call_laws.proofs.Each.{each_birth, each_either}
+use Rattle.call_laws.proofs.Tied.{AreFreeOfCalls, IsFreeOfCalls, AreNearAnswered, IsTied, KeepsAt, tied_lines}
 
 -- ---- each step
 
-module _ (rows : CallRows) (tree : TreePaths) (past : List Line) (pause : IsPause (facts_at past)) (tied : IsTied past) (calm : IsCalm past) (numbered : AreNumbered past)
+module _ (rows : CallRows) (tree : TreePaths) (past : List Line) (pause : IsPause (facts_at past)) (tied : IsTied past) (answered : AreNearAnswered past) (numbered : AreNumbered past)
     (roads : AreRoads (facts_at past)) (leading : IsLeading (facts_at past)) (bound : AreBound (facts_at past)) (idle : AreIdle past) where
-  idle_aside : (ls : List Line) → AreAside ls → Follows KeepsAt past ls → AreIdle (onto ls past)
-  idle_aside ls aside keeps f j = idle_lines rows past ls f j keeps tied (spares_asides past ls f j aside) (idle f j)
+  idle_free : (ls : List Line) → AreFreeOfCalls ls → Follows KeepsAt past ls → AreIdle (onto ls past)
+  idle_free ls free keeps f j = idle_lines rows past ls f j keeps tied (spare_free past ls f j free) (idle f j)
 
-  idle_born : (e : Enclave) (kind : Kind) (parent : Enclave) (ns : Bool) (blocks : List Block) (ls : List Line) → AreAside ls
+  idle_born : (e : Enclave) (kind : Kind) (parent : Enclave) (ns : Bool) (blocks : List Block) (ls : List Line) → AreFreeOfCalls ls
       → Follows KeepsAt past (lines.Born e kind parent ns blocks ∷ ls) → AreIdle (onto (lines.Born e kind parent ns blocks ∷ ls) past)
-  idle_born e kind parent ns blocks ls aside keeps f j =
-      idle_lines rows past (lines.Born e kind parent ns blocks ∷ ls) f j keeps tied (tt, spares_asides (lines.Born e kind parent ns blocks ∷ past) ls f j aside) (idle f j)
+  idle_born e kind parent ns blocks ls free keeps f j =
+      idle_lines rows past (lines.Born e kind parent ns blocks ∷ ls) f j keeps tied (tt, spare_free (lines.Born e kind parent ns blocks ∷ past) ls f j free) (idle f j)
 
   idle_call : (e : Enclave) (p : Pid) (call : Call) → MayAsk (facts_at past) e p call → HasRoom (onto (asked_lines (view_of (facts_at past) e) p call) past)
       → HaveSegids (onto (asked_lines (view_of (facts_at past) e) p call) past) → HasRoom past → AreIdle (onto (asked_lines (view_of (facts_at past) e) p call) past)
@@ -72,32 +73,30 @@ module _ (rows : CallRows) (tree : TreePaths) (past : List Line) (pause : IsPaus
       let G = facts_at past in
       let v : View = view_of G e in
       let serving = asked_serving G may.command e p (calls.Remove segid) may.asks may.allowed refl in
-      idle_remove rows past e segid tied calm (removed_has G may.command e p segid may.asks may.allowed) (is_number G e.0 pause.tree serving.living)
+      idle_remove rows past e segid tied answered (removed_has G may.command e p segid may.asks may.allowed) (is_number G e.0 pause.tree serving.living)
       (named_lines_by (lines.Remove e segid ∷ past) (cond v.core.holder (unname_lines v e segid) (made_lines v Server (unname_record e (make_of v.exports (segid_number segid)) segid))) named).0
       (roads.ready e.0 serving.admitted).knowing numbered.zero room idle
 
   idle_step : (step : Step) → MayCome (facts_at past) step → HasRoom (onto (written_by (facts_at past) step) past) → HaveSegids (onto (written_by (facts_at past) step) past)
       → HasRoom past → AreIdle (onto (written_by (facts_at past) step) past)
-  idle_step (Written line) may later named room = idle_aside (line ∷ []) (aside_alone (facts_at past) line may.1, tt) (goes_step rows past (Written line) pause may tied calm).keeps
-  idle_step (Takes x y count) may later named room = idle_aside (lines.Took x y count ∷ []) (tt, tt) (goes_step rows past (Takes x y count) pause may tied calm).keeps
+  idle_step (Written line) may later named room = idle_free (line ∷ []) (free_alone (facts_at past) line may.1, tt) (goes_step rows past (Written line) pause may tied answered).keeps
+  idle_step (Takes x y count) may later named room = idle_free (lines.Took x y count ∷ []) (tt, tt) (goes_step rows past (Takes x y count) pause may tied answered).keeps
   idle_step (Handles x y r) may later named room =
       let next = next_flight (facts_at past) x.0 y.0 r may.others may.next in
       idle_handled rows tree past x y r tied pause roads leading bound room idle next.others next.is may.living
   idle_step (Asks e p call) may later named room = idle_call e p call may.1 later named room
   idle_step (Hosts ns blocks) may later named room =
-      idle_born host kinds.Host host ns blocks (cond ns (lines.Admitted host ∷ []) []) (aside_hosts ns) (goes_step rows past (Hosts ns blocks) pause may tied calm).keeps
+      idle_born host kinds.Host host ns blocks (cond ns (lines.Admitted host ∷ []) []) (each_either IsFreeOfCalls ns (lines.Admitted host ∷ []) [] (tt, tt) tt) (goes_step rows past (Hosts ns blocks) pause may tied answered).keeps
   idle_step (Bears child kind parent ns blocks) may later named room =
       let G = facts_at past in
       idle_born child kind parent ns blocks ((told_lines child (G.heard parent.0) ++ child_lines child parent ns) ++ adopt_lines (view_of G parent) child)
-      (aside_append (told_lines child (G.heard parent.0) ++ child_lines child parent ns) (adopt_lines (view_of G parent) child)
-      (aside_append (told_lines child (G.heard parent.0)) (child_lines child parent ns) (aside_deaths child (G.heard parent.0)) (aside_child child parent ns))
-      (aside_adopt (view_of G parent) child))
-      (goes_step rows past (Bears child kind parent ns blocks) pause may tied calm).keeps
+      (each_birth IsFreeOfCalls child parent ns (G.heard parent.0) (view_of G parent) (λ d. tt) tt (λ a b. tt))
+      (goes_step rows past (Bears child kind parent ns blocks) pause may tied answered).keeps
 
 -- ---- at every pause
 
 pub record IsSound (past : List Line) : Type 0 where
-  pub steady : IsSteady past
+  pub at_pause : IsTiedAtPause past
   pub numbered : AreNumbered past
   pub roads : AreRoads (facts_at past)
   pub bound : AreBound (facts_at past)
@@ -108,20 +107,20 @@ sound_step : (laws : CallLaws) (done : List Step) (past : List Line) (step : Ste
 sound_step laws done past step walked pause may old =
     let G = facts_at past in
     let ls = written_by G step in
-    let on = goes_step laws.rows past step pause may old.steady.tied old.steady.calm in
+    let on = goes_step laws.rows past step pause may old.at_pause.tied old.at_pause.answered in
     let leading = leading_at laws done G walked in
     let next = walked_more laws done G step walked pause may in
     let guides = guides_step laws.rows.names laws.tree G step pause may old.roads leading (leading_at laws (done ++ step ∷ []) (after_lines G ls) next) in
     let here = sym (laws.facts ls past) in
     let bound = bound_step laws.tree G step pause may old.roads leading old.bound in
     record {
-      steady = record { tied = tied_lines laws.rows past ls on.keeps old.steady.tied; calm = on.calm old.steady.tied old.steady.calm };
+      at_pause = record { tied = tied_lines laws.rows past ls on.keeps old.at_pause.tied; answered = on.answered old.at_pause.tied old.at_pause.answered };
       numbered = numbered_lines past ls on.keeps old.numbered;
       roads = subst AreRoads here (roads_lines laws.rows.names laws.tree G ls guides old.roads);
       bound = subst AreBound here (bound_lines G ls (more_lines laws.tree G ls guides) bound old.bound);
       idle = λ later named.
           let room = room_lines past ls later in
-          idle_step laws.rows laws.tree past pause old.steady.tied old.steady.calm old.numbered old.roads leading old.bound (old.idle room (named_lines_by past ls named)) step may later named room;
+          idle_step laws.rows laws.tree past pause old.at_pause.tied old.at_pause.answered old.numbered old.roads leading old.bound (old.idle room (named_lines_by past ls named)) step may later named room;
     }
 
 pub all_sound : (laws : CallLaws) (steps done : List Step) (past : List Line) → IsWalked done (facts_at past) → AreSteps (facts_at past) steps → IsSound past
@@ -140,7 +139,7 @@ all_sound laws (step ∷ steps) done past walked are old =
 
 sound_first : (laws : CallLaws) → IsSound []
 sound_first laws = record {
-  steady = steady_first laws;
+  at_pause = at_pause_first laws;
   numbered = record { zero = λ e. refl; settled = λ e k issued waits. absurd (cc) };
   roads = no_roads laws;
   bound = λ a b. tt;

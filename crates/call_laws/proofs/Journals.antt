@@ -23,7 +23,7 @@ use Rattle.call_laws.proofs.ExportLines.{IsLive, IsLiveRow}
 use Rattle.exporter_pins.specs.Holdings.{Export}
 use Rattle.xm_num.specs.Rows.{at}
 use Rattle.call_laws.proofs.Exports.{segid_at}
-use Rattle.call_laws.proofs.Tied.{IsCalm, IsTied, legal_lines, tied_lines}
+use Rattle.call_laws.proofs.Tied.{AreNearAnswered, IsTied, legal_lines, tied_lines}
 use Rattle.call_laws.proofs.Steps.{goes_step}
 
 -- ---- lines one after the other
@@ -34,38 +34,38 @@ follows_both Law (l ∷ ls) ms past first more = (first.0, follows_both Law ls m
 
 -- ---- at every pause
 
-pub record IsSteady (past : List Line) : Type 0 where
+pub record IsTiedAtPause (past : List Line) : Type 0 where
   pub tied : IsTied past
-  pub calm : IsCalm past
+  pub answered : AreNearAnswered past
 
 pub record GoesAll (past ls : List Line) : Type 0 where
   pub legal : Follows CallAt past ls
-  pub end : IsSteady (onto ls past)
+  pub end : IsTiedAtPause (onto ls past)
 
-pub all_steps : (laws : CallLaws) (steps : List Step) (past : List Line) → AreSteps (facts_at past) steps → IsSteady past
+pub all_steps : (laws : CallLaws) (steps : List Step) (past : List Line) → AreSteps (facts_at past) steps → IsTiedAtPause past
     → GoesAll past (written_in (facts_at past) steps)
 all_steps laws [] past are old = record { legal = tt; end = old }
 all_steps laws (step ∷ steps) past are old =
     let G = facts_at past in
     let ls = written_by G step in
     let later = written_in (after_lines G ls) steps in
-    let on = goes_step laws.rows past step are.0 are.1 old.tied old.calm in
+    let on = goes_step laws.rows past step are.0 are.1 old.tied old.answered in
     let here = sym (laws.facts ls past) in
-    let after : IsSteady (onto ls past) = record { tied = tied_lines laws.rows past ls on.keeps old.tied; calm = on.calm old.tied old.calm } in
+    let after : IsTiedAtPause (onto ls past) = record { tied = tied_lines laws.rows past ls on.keeps old.tied; answered = on.answered old.tied old.answered } in
     let more : GoesAll (onto ls past) (written_in (after_lines G ls) steps)
     = subst (λ H. GoesAll (onto ls past) (written_in H steps)) (laws.facts ls past)
     (all_steps laws steps (onto ls past) (subst (λ H. AreSteps H steps) here are.2) after) in
     record {
       legal = follows_both CallAt ls later past (legal_lines past ls on.keeps) more.legal;
-      end = subst IsSteady (sym (laws.pasts ls later past)) more.end;
+      end = subst IsTiedAtPause (sym (laws.pasts ls later past)) more.end;
     }
 
 no_rows : (V : Type 0) → IsAscending {V = V} []
 unfolding IsStrictlySortedBy
 no_rows V = tt
 
-pub steady_first : (laws : CallLaws) → IsSteady []
-steady_first laws = record {
+pub at_pause_first : (laws : CallLaws) → IsTiedAtPause []
+at_pause_first laws = record {
   tied = record {
     blank = λ e k none. refl;
     ones = record { some = λ e k s is. absurd (cc); one = λ e k e' k' s is is'. absurd (cc) };
@@ -84,16 +84,16 @@ steady_first laws = record {
     told = λ a b. tt;
     only = record { bounded = λ x y. omega arith; only = λ e k. inl (λ a b. refl); stands = λ e k is. cc };
   };
-  calm = λ e k is. absurd (cc);
+  answered = λ e k is. absurd (cc);
 }
 
-pub journal_of-steady : (laws : CallLaws) (commands : List Command) → IsPlaced commands → GoesAll [] (journal_of commands)
-journal_of-steady laws commands placed =
+pub journal_of-tied : (laws : CallLaws) (commands : List Command) → IsPlaced commands → GoesAll [] (journal_of commands)
+journal_of-tied laws commands placed =
     let in_steps = laws.steps commands placed in
-    subst (GoesAll []) (sym in_steps.written) (all_steps laws in_steps.steps [] in_steps.are (steady_first laws))
+    subst (GoesAll []) (sym in_steps.written) (all_steps laws in_steps.steps [] in_steps.are (at_pause_first laws))
 
 pub journal_of-calls : (laws : CallLaws) (commands : List Command) → IsPlaced commands → AreCalls (journal_of commands)
-journal_of-calls laws commands placed = (journal_of-steady laws commands placed).legal
+journal_of-calls laws commands placed = (journal_of-tied laws commands placed).legal
 
 -- ---- cells and facts
 
@@ -127,7 +127,7 @@ tied_true past tied = record {
     live_by e k s (Some export) is segid = record { export = export; stands = is; segid = segid }
 
 pub journal_of-true : (laws : CallLaws) (commands : List Command) → IsPlaced commands → AreCellsTrue (onto (journal_of commands) [])
-journal_of-true laws commands placed = let all = journal_of-steady laws commands placed in tied_true (onto (journal_of commands) []) all.end.tied
+journal_of-true laws commands placed = let all = journal_of-tied laws commands placed in tied_true (onto (journal_of commands) []) all.end.tied
 
 pub journal_of-one : (laws : CallLaws) (commands : List Command) → IsPlaced commands → AreSegidsOne (facts_after (journal_of commands))
 journal_of-one laws commands placed =
@@ -141,10 +141,10 @@ journal_of-one laws commands placed =
 
 pub journal_of-single : (laws : CallLaws) (commands : List Command) → IsPlaced commands → AreSingle (onto (journal_of commands) [])
 journal_of-single laws commands placed =
-    let only = (journal_of-steady laws commands placed).end.tied.only in
+    let only = (journal_of-tied laws commands placed).end.tied.only in
     record { single = only.only; stands = only.stands }
 
 pub steps_single : (laws : CallLaws) (steps : List Step) → AreSteps no_facts steps → AreSingle (onto (written_in no_facts steps) [])
 steps_single laws steps are =
-    let only = (all_steps laws steps [] are (steady_first laws)).end.tied.only in
+    let only = (all_steps laws steps [] are (at_pause_first laws)).end.tied.only in
     record { single = only.only; stands = only.stands }

@@ -1,4 +1,5 @@
 mod Rows
+mod Each
 mod CellLines
 mod MemoryLines
 mod NameLines

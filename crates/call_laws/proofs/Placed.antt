@@ -67,21 +67,21 @@ module _ (past : List Line) (sound : IsSound past) (e k : ℕ) where
           let drew = drew_of issued idle.waits in
           subst (StandsAt G c e k) (sym (place_is false true true idle.waits near (idle.even ∙ near)))
           (drew.0, record { waits_is = idle.waits; near_is = near; far_is = idle.even ∙ near; drew_is = drew.1 }, none)
-      by true near false issued = absurd (let clash : true ≡ false = sym near ∙ ap (λ c. c.near) (sound.steady.tied.blank e k issued) in cc)
+      by true near false issued = absurd (let clash : true ≡ false = sym near ∙ ap (λ c. c.near) (sound.at_pause.tied.blank e k issued) in cc)
       by false near true issued =
           let drew = drew_of issued idle.waits in
           subst (StandsAt G c e k) (sym (place_is false false false idle.waits near (idle.even ∙ near) ∙ ap (place_by false false false) issued))
           (drew.0, record { waits_is = idle.waits; near_is = near; far_is = idle.even ∙ near; drew_is = drew.1 }, none)
       by false near false issued =
           subst (StandsAt G c e k) (sym (place_is false false false idle.waits near (idle.even ∙ near) ∙ ap (place_by false false false) issued))
-          (sound.steady.tied.blank e k issued, none)
+          (sound.at_pause.tied.blank e k issued, none)
 
   placed_call : (IsNowhere G e k → IsIdleCell c) → IsSingle past e k → StandsAt G c e k (place_of c)
   placed_call idle (inl none) = placed_idle none (idle none)
   placed_call idle (inr one) = placed_between one
 
 pub sound_placed : (past : List Line) → IsSound past → HasRoom past → HaveSegids past → ArePlacedCalls past
-sound_placed past sound room named e k = placed_call past sound e k (sound.idle room named e k) (sound.steady.tied.only.only e k)
+sound_placed past sound room named e k = placed_call past sound e k (sound.idle room named e k) (sound.at_pause.tied.only.only e k)
 
 -- ---- commands have segids in their range
 

@@ -96,14 +96,14 @@ rest_flight G flowing none_cut rest x y = by (is_neighbour G x y) refl
 sound_even : (past : List Line) → IsSound past → HasRoom past → HaveSegids past → ((x y : ℕ) → in_flight (facts_at past) x y ≡ []) → IsEven past
 sound_even past sound room named none = record {
   waits = λ e k. no_row (at ((facts_at past).memory e).waiting k) (true_of.waits e k ∙ (idle e k).waits);
-  named = λ e k s live. true_of.stands e k s (true_of.name e k s live) (sound.steady.tied.only.stands e k (true_of.near e k s live));
+  named = λ e k s live. true_of.stands e k s (true_of.name e k s live) (sound.at_pause.tied.only.stands e k (true_of.near e k s live));
   lives = λ s of is.
       let pair = true_of.far (facts_at past).holder.0 s of is in
       (pair.call, true_of.live of.0 pair.call s pair.drawn (sym (idle of.0 pair.call).even ∙ pair.stands));
 }
   where
     true_of : AreCellsTrue past
-    true_of = tied_true past sound.steady.tied
+    true_of = tied_true past sound.at_pause.tied
 
     idle : (e k : ℕ) → IsIdleCell (cells past e k)
     idle e k = sound.idle room named e k (λ a b. ap (filter (is_of e k)) (none a b))

@@ -14,11 +14,12 @@ use Rattle.xemem_language.specs.declared.record.Body.TheVariants as bodies
 use Rattle.xemem_language.specs.declared.line.Line.{Line}
 use Rattle.xemem_language.specs.declared.line.Line.TheVariants as lines
 use Rattle.enclave_rules.specs.View.{View}
-use Rattle.enclave_rules.specs.Sending.{Server, knows_way, drop_lines, over_lines, send_lines, way_to}
+use Rattle.enclave_rules.specs.Sending.{Server, knows_way, drop_lines, send_lines, way_to}
 use Rattle.enclave_rules.specs.Steps.{knows_dead, is_stray, here_of, register_of, admit_of, told_askers, register_lines, admit_over, admit_to, body_lines, record_lines}
 use Rattle.global_model.specs.Facts.{Facts, EnclaveFact, after_line, after_lines, fact_of, is_holder, is_living_enclave}
 use Rattle.global_model.specs.Channels.{is_neighbour}
 use Rattle.global_model.specs.Flow.{IsTree}
+use Rattle.global_model.specs.Parts.{Lacks}
 use Rattle.global_model.specs.Tree.{IsToward, parent_of}
 use Rattle.global_model.specs.Views.{view_of}
 use Rattle.discovery_laws.specs.Known.{askers_of, holds, in_flight, knows, way_at}
@@ -29,7 +30,8 @@ use Rattle.discovery_laws.proofs.Asking.{is_query, is_here, is_query_body, is_he
 use Rattle.discovery_laws.proofs.Knowing.{known_sent, known_got, known_asked, known_way, way_knows, way_learned}
 use Rattle.discovery_laws.proofs.Newborn.{near_born, near_turned}
 use Rattle.discovery_laws.proofs.Calm.{counted_knowing, counted_owed, IsAsking, IsCalm, AreCalm, calm_line, calm_lines}
-use Rattle.discovery_laws.proofs.Serving.{Serves, is_serving, serves_asked, serves_body}
+use Rattle.discovery_laws.proofs.Each.{each_either, each_over}
+use Rattle.discovery_laws.proofs.Serving.{all_but_calls, is_serving, serves_asked, serves_body}
 use Rattle.xm_num.specs.declared.Pid.{Pid}
 use Rattle.xemem_language.specs.declared.call.Call.{Call}
 use Rattle.global_model.specs.Pauses.{asked_lines}
@@ -60,29 +62,21 @@ knows_way_is G y = ap (λ b. b || is_some (way_at G y.0)) (holder_is (G.enclave 
 
 -- ---- records that neither ask for the way nor tell it
 
-calm_either : (t : Bool) (ls ms : List Line) → AreCalm ls → AreCalm ms → AreCalm (cond t ls ms)
-calm_either true ls ms left right = left
-calm_either false ls ms left right = right
-
-calm_sent : (v : View) (from : Enclave) (over : Option Enclave) (r : Record) → (is_query r || is_here r) ≡ false → AreCalm (over_lines v (Some from) over r)
-calm_sent v from None r calm = (tt, tt)
-calm_sent v from (Some over) r calm = calm_either (eqb over.0 from.0) (drop_lines v) (lines.Sent v.me over r ∷ []) (tt, tt) (calm, tt)
-
 calm_register : (v : View) (from : Enclave) (r : Record) → (is_query r || is_here r) ≡ false → AreCalm (register_lines v from r)
 calm_register v from r calm = (
   tt,
-  calm_either v.core.holder (lines.Route v.me r.origin from ∷ lines.Sent v.me from (admit_of v.me r.origin) ∷ [])
-      (send_lines v (Some from) Server r) (tt, (refl, tt)) (calm_sent v from (way_to v Server) r calm),
+  each_either IsCalm v.core.holder (lines.Route v.me r.origin from ∷ lines.Sent v.me from (admit_of v.me r.origin) ∷ [])
+      (send_lines v (Some from) Server r) (tt, (refl, tt)) (each_over IsCalm v (Some from) (way_to v Server) r tt (λ x. calm)),
 )
 
 calm_over : (v : View) (from d : Enclave) (r : Record) (over : Option Enclave) → (is_query r || is_here r) ≡ false → AreCalm (admit_over v from d r over)
 calm_over v from d r None calm = (tt, tt)
-calm_over v from d r (Some over) calm = (tt, calm_sent v from (Some over) r calm)
+calm_over v from d r (Some over) calm = (tt, each_over IsCalm v (Some from) (Some over) r tt (λ x. calm))
 
 calm_admit : (v : View) (from : Enclave) (r : Record) (dest : Option Enclave) → (is_query r || is_here r) ≡ false → AreCalm (admit_to v from r dest)
 calm_admit v from r None calm = (tt, tt)
-calm_admit v from r (Some d) calm = calm_either (eqb d.0 v.me.0) (cond v.core.admitted (drop_lines v) (lines.Admitted v.me ∷ []))
-    (admit_over v from d r (at v.ways.backs d.0)) (calm_either v.core.admitted (drop_lines v) (lines.Admitted v.me ∷ []) (tt, tt) (tt, tt))
+calm_admit v from r (Some d) calm = each_either IsCalm (eqb d.0 v.me.0) (cond v.core.admitted (drop_lines v) (lines.Admitted v.me ∷ []))
+    (admit_over v from d r (at v.ways.backs d.0)) (each_either IsCalm v.core.admitted (drop_lines v) (lines.Admitted v.me ∷ []) (tt, tt) (tt, tt))
     (calm_over v from d r (at v.ways.backs d.0) calm)
 
 -- what serves calls asks for no way and tells none
@@ -92,20 +86,12 @@ serving_calm (bodies.Named segid) is = refl
 serving_calm (bodies.Unname segid) is = refl
 serving_calm _ is = absurd (cc)
 
-calm_serves : Serves IsCalm
-calm_serves = record {
-  dropped = λ e. tt;
-  issued = λ e p call. tt;
-  drew = λ e call segid. tt;
-  named = λ e call segid. tt;
-  unnamed = λ segid. tt;
-  removed = λ e segid. tt;
-  answered = λ e p call segid. tt;
-  sent = λ x y r is. serving_calm r.body is;
-}
+calm_for_calls : (line : Line) → Lacks all_but_calls line → IsCalm line
+calm_for_calls (lines.Sent x y r) none = absurd none
+calm_for_calls _ none = search
 
 pub calm_asked : (v : View) (p : Pid) (call : Call) → AreCalm (asked_lines v p call)
-calm_asked v p call = serves_asked IsCalm calm_serves v p call
+calm_asked v p call = serves_asked IsCalm calm_for_calls (λ x y r is. serving_calm r.body is) v p call
 
 pub calm_body : (v : View) (from : Enclave) (r : Record) → (is_query r || is_here r) ≡ false → (body : Body)
     → (is_query_body body || is_here_body body) ≡ false → AreCalm (body_lines v from r body)
@@ -113,13 +99,13 @@ calm_body v from r calm bodies.Query is = absurd (cc)
 calm_body v from r calm bodies.Here is = absurd (cc)
 calm_body v from r calm bodies.Register is = calm_register v from r calm
 calm_body v from r calm bodies.Admit is = calm_admit v from r r.dest calm
-calm_body v from r calm bodies.NameReq is = serves_body IsCalm calm_serves v from r bodies.NameReq refl (λ x. calm)
-calm_body v from r calm (bodies.Named segid) is = serves_body IsCalm calm_serves v from r (bodies.Named segid) refl (λ x. calm)
-calm_body v from r calm (bodies.Unname segid) is = serves_body IsCalm calm_serves v from r (bodies.Unname segid) refl (λ x. calm)
+calm_body v from r calm bodies.NameReq is = serves_body IsCalm calm_for_calls (λ x y r is. serving_calm r.body is) v from r bodies.NameReq refl (λ x. calm)
+calm_body v from r calm (bodies.Named segid) is = serves_body IsCalm calm_for_calls (λ x y r is. serving_calm r.body is) v from r (bodies.Named segid) refl (λ x. calm)
+calm_body v from r calm (bodies.Unname segid) is = serves_body IsCalm calm_for_calls (λ x y r is. serving_calm r.body is) v from r (bodies.Unname segid) refl (λ x. calm)
 calm_body v from r calm body is = (tt, tt)
 
 pub calm_record : (v : View) (from : Enclave) (r : Record) → (is_query r || is_here r) ≡ false → AreCalm (record_lines v from r)
-calm_record v from r calm = calm_either (is_stray v r) (drop_lines v) (body_lines v from r r.body) (tt, tt) (calm_body v from r calm r.body calm)
+calm_record v from r calm = each_either IsCalm (is_stray v r) (drop_lines v) (body_lines v from r r.body) (tt, tt) (calm_body v from r calm r.body calm)
 
 -- ---- what a step leaves
 

@@ -18,9 +18,10 @@ use Rattle.discovery_laws.specs.Known.{back_at, holds, in_flight, is_admitted_at
 use Rattle.discovery_laws.specs.Laws.{DiscoveryLaws}
 use Rattle.discovery_laws.proofs.Answered.{knows_way_is}
 use Rattle.discovery_laws.proofs.Effects.{way_learns, way_leaves}
+use Rattle.discovery_laws.proofs.Each.{each_told}
 use Rattle.discovery_laws.proofs.Underway.{IsBounded, bounded_got}
 use Rattle.discovery_laws.proofs.Stages.{Stage, Silent, Registering, Admitting, Ready, IsRegistered, IsStaged, about_in, is_about, is_about_by}
-use Rattle.discovery_laws.proofs.Unmoved.{AreAside, IsUnmoved, AreUnmoved, unmoved_lines}
+use Rattle.discovery_laws.proofs.Unmoved.{IsAside, IsUnmoved, AreUnmoved, unmoved_lines}
 use Rattle.discovery_laws.proofs.Received.{unmoved_got}
 use Rattle.discovery_laws.proofs.Moves.{one_sent}
 use Rattle.discovery_laws.proofs.Led.{IsLed}
@@ -89,10 +90,6 @@ told_way : (G : Facts) (v : View) (askers : List (ℕ × Enclave)) (e : ℕ) →
 told_way G v [] e = refl
 told_way G v (row ∷ askers) e = told_way (after_line G (lines.Sent v.me row.1 (here_of v.me))) v askers e
 
-tell_aside : (v : View) (askers : List (ℕ × Enclave)) (d : ℕ) → AreAside d (told_askers v askers)
-tell_aside v [] d = tt
-tell_aside v (row ∷ askers) d = (refl, tell_aside v askers d)
-
 fresh_way : (G : Facts) (e over : Enclave) (d : ℕ) → IsUnheard G d → IsUnheard (after_line G (lines.Way e over)) d
 fresh_way G e over d fresh = record {
   flight = fresh.flight;
@@ -116,7 +113,7 @@ begins laws G v d x askers bounded fresh = subst P (sym (laws.past.after G2 (tol
     done : P (after_line (after_lines (after_line G (lines.Way d x)) (told_askers v askers)) (lines.Sent d x (register_of d)))
     done led rooted =
         let told : AreUnmoved (after_line G (lines.Way d x)) (after_lines (after_line G (lines.Way d x)) (told_askers v askers)) d.0
-        = unmoved_lines laws.row (after_line G (lines.Way d x)) (told_askers v askers) d.0 bounded (tell_aside v askers d.0) in
+        = unmoved_lines laws.row (after_line G (lines.Way d x)) (told_askers v askers) d.0 bounded (each_told (IsAside d.0) v askers (λ z. refl)) in
         let K = after_lines (after_line G (lines.Way d x)) (told_askers v askers) in
         let way : way_at K d.0 ≡ Some x = told_way (after_line G (lines.Way d x)) v askers d.0 ∙ way_learns G d x d.0 ∙ rw (eq-eqb d.0 d.0 refl) refl in
         let held = led.held d.0 x way in

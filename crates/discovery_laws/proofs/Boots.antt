@@ -21,7 +21,8 @@ use Rattle.discovery_laws.proofs.Flights.{one_if, count, add, add-here, sent_mor
 use Rattle.discovery_laws.proofs.Asking.{is_query, queries_sent, counted_sent}
 use Rattle.discovery_laws.proofs.Knowing.{known_sent}
 use Rattle.discovery_laws.proofs.Newborn.{born, far_down, far_up, known_born, counted_born}
-use Rattle.discovery_laws.proofs.Calm.{counted_owed, IsAsking, AreCalm, calm_line, calm_lines}
+use Rattle.discovery_laws.proofs.Each.{each_either}
+use Rattle.discovery_laws.proofs.Calm.{counted_owed, IsAsking, IsCalm, calm_line, calm_lines}
 use Rattle.discovery_laws.proofs.Answered.{none_owed, holder_born, knows_way_is, living_born}
 
 -- two that aren't the same owe each other at most one answer
@@ -88,16 +89,12 @@ module _ (laws : DiscoveryLaws) (G : Facts) (pause : IsPause G) (old : IsAsking 
   asked_host ns blocks may =
       let next : host.0 ≡ G.born = may.next in
       let H = born G host host kinds.Host ns blocks pause.tree pause.ways next in
-      calm_lines laws.tree none_owed (cond ns (lines.Admitted host ∷ []) []) H (by ns) (record {
+      calm_lines laws.tree none_owed (cond ns (lines.Admitted host ∷ []) []) H (each_either IsCalm ns (lines.Admitted host ∷ []) [] (tt, tt) tt) (record {
         counted = counted_born G host host kinds.Host ns blocks pause.tree pause.ways next none_owed pause.apart (λ a b. omega arith)
             (λ a b. omega arith) (λ near. absurd (cc)) (λ near. absurd (cc)) old.counted;
         known = known_born G host host kinds.Host ns blocks pause.tree pause.ways next laws.tree old.rooted (λ is. none_served (sym may.next)) old.known;
         rooted = rooted_born host host kinds.Host ns blocks (λ some. some);
       })
-    where
-      by : (t : Bool) → AreCalm (cond t (lines.Admitted host ∷ []) [])
-      by true = (tt, tt)
-      by false = tt
 
   -- ---- a child
 

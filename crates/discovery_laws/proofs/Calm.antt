@@ -164,11 +164,5 @@ calm_lines laws owed (l ∷ ls) G calm old = calm_lines laws owed ls (after_line
 
 -- a line that may stand by itself is calm
 pub calm_alone : (G : Facts) (line : Line) → MayStandAlone G line → IsCalm line
-calm_alone G (lines.Born e kind parent ns blocks) may = may
-calm_alone G (lines.Told e of) may = may
-calm_alone G (lines.Heard e of) may = may
-calm_alone G (lines.Got x y) may = may
-calm_alone G (lines.Asked e by) may = may
-calm_alone G (lines.Way e over) may = may
 calm_alone G (lines.Sent x y r) may = absurd may
-calm_alone G line may = tt
+calm_alone G _ may = search

@@ -12,13 +12,11 @@ use Rattle.xemem_language.specs.declared.record.Record.{Record}
 use Rattle.xemem_language.specs.declared.line.Line.{Line}
 use Rattle.xemem_language.specs.declared.line.Line.TheVariants as lines
 use Rattle.enclave_rules.specs.View.{View}
-use Rattle.enclave_rules.specs.Steps.{adopt_lines, child_lines, query_of, record_lines, told_lines}
+use Rattle.enclave_rules.specs.Steps.{adopt_lines, child_lines, record_lines, told_lines}
 use Rattle.enclave_rules.specs.Core.{host}
-use Rattle.enclave_rules.specs.Sending.{knows_way}
 use Rattle.global_model.specs.Facts.{Facts, after_line, after_lines, facts_at, is_admitted}
 use Rattle.global_model.specs.Flow.{IsTree}
 use Rattle.global_model.specs.Journals.{Follows, onto}
-use Rattle.global_model.specs.Parts.{Receipt, Lacks}
 use Rattle.global_model.specs.Pauses.{IsPause, MayCome, MayHandle, Step, Written, Hosts, Bears, Takes, Handles, Asks, asked_lines, written_by}
 use Rattle.global_model.specs.Views.{view_of}
 use Rattle.discovery_laws.specs.Known.{in_flight, is_admitted_at}
@@ -27,6 +25,7 @@ use Rattle.discovery_laws.specs.Once.{IsFirstNew, OnceAt, first_onto, is_alike, 
 use Rattle.xemem_language.specs.Destinations.{destination_number}
 use Rattle.xemem_wire.specs.Table.{kind_of}
 use Rattle.discovery_laws.proofs.Underway.{bounded_got, next_flight}
+use Rattle.discovery_laws.proofs.Each.{each_birth, each_either}
 use Rattle.discovery_laws.proofs.Joined.{IsJoined}
 use Rattle.discovery_laws.proofs.Marks.{IsLasting, kept-trans, kept_got, kept_lines, mark, mark_kept}
 use Rattle.discovery_laws.proofs.Onces.{alike_kind, alike_mark, new_record}
@@ -36,26 +35,6 @@ use Rattle.discovery_laws.proofs.Registrations.{pause_bounded}
 use Rattle.discovery_laws.proofs.Unmoved.{AreWithinStep, IsWithinStep, inner_all, inner_aside}
 
 -- ---- what a step leaves of what is kept
-
-inner-append : (ls ms : List Line) → AreWithinStep ls → AreWithinStep ms → AreWithinStep (ls ++ ms)
-inner-append [] ms first more = more
-inner-append (l ∷ ls) ms first more = (first.0, inner-append ls ms first.1 more)
-
-inner_told : (child : Enclave) (heard : List Enclave) → AreWithinStep (told_lines child heard)
-inner_told child [] = tt
-inner_told child (d ∷ heard) = (tt, inner_told child heard)
-
-pub inner_either : (t : Bool) (ls ms : List Line) → AreWithinStep ls → AreWithinStep ms → AreWithinStep (cond t ls ms)
-inner_either true ls ms one other = one
-inner_either false ls ms one other = other
-
-pub inner_birth : (child parent : Enclave) (ns : Bool) (heard : List Enclave) (v : View)
-    → AreWithinStep ((told_lines child heard ++ child_lines child parent ns) ++ adopt_lines v child)
-inner_birth child parent ns heard v =
-    inner-append (told_lines child heard ++ child_lines child parent ns) (adopt_lines v child)
-    (inner-append (told_lines child heard) (child_lines child parent ns) (inner_told child heard)
-    (inner_either ns (lines.Admitted child ∷ []) (lines.Sent child parent (query_of child) ∷ []) (tt, tt) (tt, tt)))
-    (inner_either (knows_way v) [] (lines.Sent v.me child (query_of v.me) ∷ []) tt (tt, tt))
 
 -- what was kept is kept by a newborn enclave too, which had nothing
 kept_born : (G : Facts) (child : Enclave) (kind : Kind) (parent : Enclave) (ns : Bool) (blocks : List Block) → IsTree G → child.0 ≡ G.born
@@ -94,47 +73,31 @@ kept_step laws G (Hosts ns blocks) pause may =
     let G1 = after_line G (lines.Born host kinds.Host host ns blocks) in
     let more = cond ns (lines.Admitted host ∷ []) [] in
     kept-trans G G1 (after_lines G1 more) (kept_born G host kinds.Host host ns blocks pause.tree may.1.next)
-    (kept_lines laws.row G1 more (inner_either ns (lines.Admitted host ∷ []) [] (tt, tt) tt) (pause_bounded G pause))
+    (kept_lines laws.row G1 more (each_either IsWithinStep ns (lines.Admitted host ∷ []) [] (tt, tt) tt) (pause_bounded G pause))
 kept_step laws G (Bears child kind parent ns blocks) pause may =
     let G1 = after_line G (lines.Born child kind parent ns blocks) in
     let v = view_of G parent in
     let more = (told_lines child (G.heard parent.0) ++ child_lines child parent ns) ++ adopt_lines v child in
     kept-trans G G1 (after_lines G1 more) (kept_born G child kind parent ns blocks pause.tree may.1.next)
-    (kept_lines laws.row G1 more (inner_birth child parent ns (G.heard parent.0) v) (pause_bounded G pause))
+    (kept_lines laws.row G1 more (each_birth IsWithinStep child parent ns (G.heard parent.0) v (λ d. tt) tt (λ a b. tt)) (pause_bounded G pause))
 
 -- ---- the records that were got
 
--- a line that gets no record
-abbrev pub IsGotless : Line → Type 0
-IsGotless line = Lacks (Receipt ∷ []) line
+same_got_line : (y : ℕ) (line : Line) (past : List Line) → IsWithinStep line → records_got y (line ∷ past) ≡ records_got y past
+same_got_line y (lines.Got x z) past inner = absurd inner
+same_got_line y _ past inner = refl
 
-abbrev pub AreGotless : List Line → Type 0
-AreGotless journal = AllByRecursion IsGotless journal
+same_got : (y : ℕ) (ls past : List Line) → AreWithinStep ls → records_got y (onto ls past) ≡ records_got y past
+same_got y [] past inner = refl
+same_got y (l ∷ ls) past inner = same_got y ls (l ∷ past) inner.1 ∙ same_got_line y l past inner.0
 
-gotless_inner : (line : Line) → IsWithinStep line → IsGotless line
-gotless_inner (lines.Born e kind parent ns blocks) inner = tt
-gotless_inner (lines.Got x y) inner = inner
-gotless_inner _ inner = tt
+once_line : (line : Line) (past : List Line) → IsWithinStep line → OnceAt past line
+once_line (lines.Got x z) past inner = absurd inner
+once_line _ past inner = tt
 
-pub all_gotless : (ls : List Line) → AreWithinStep ls → AreGotless ls
-all_gotless [] inner = tt
-all_gotless (l ∷ ls) inner = (gotless_inner l inner.0, all_gotless ls inner.1)
-
-same_got_line : (y : ℕ) (line : Line) (past : List Line) → IsGotless line → records_got y (line ∷ past) ≡ records_got y past
-same_got_line y (lines.Got x z) past none = absurd none
-same_got_line y _ past none = refl
-
-same_got : (y : ℕ) (ls past : List Line) → AreGotless ls → records_got y (onto ls past) ≡ records_got y past
-same_got y [] past none = refl
-same_got y (l ∷ ls) past none = same_got y ls (l ∷ past) none.1 ∙ same_got_line y l past none.0
-
-once_line : (line : Line) (past : List Line) → IsGotless line → OnceAt past line
-once_line (lines.Got x z) past none = absurd none
-once_line _ past none = tt
-
-once_lines : (ls past : List Line) → AreGotless ls → Follows OnceAt past ls
-once_lines [] past none = tt
-once_lines (l ∷ ls) past none = (once_line l past none.0, once_lines ls (l ∷ past) none.1)
+once_lines : (ls past : List Line) → AreWithinStep ls → Follows OnceAt past ls
+once_lines [] past inner = tt
+once_lines (l ∷ ls) past inner = (once_line l past inner.0, once_lines ls (l ∷ past) inner.1)
 
 -- all of them that are of discovery are kept
 abbrev pub AreMarked : Facts → ℕ → List Record → Type 0
@@ -168,12 +131,23 @@ pub record GoesOn (past ls : List Line) : Type 0 where
   pub once : Follows OnceAt past ls
   pub got : (y : ℕ) → AreMarked (after_lines (facts_at past) ls) y (records_got y (onto ls past))
 
-pub goes_gotless : (past ls : List Line) → AreGotless ls → IsLasting (facts_at past) (after_lines (facts_at past) ls) → IsDiscovered past → GoesOn past ls
-goes_gotless past ls none kept old = record {
-  once = once_lines ls past none;
-  got = λ y. subst (AreMarked (after_lines (facts_at past) ls) y) (sym (same_got y ls past none))
+pub goes_within : (past ls : List Line) → AreWithinStep ls → IsLasting (facts_at past) (after_lines (facts_at past) ls) → IsDiscovered past → GoesOn past ls
+goes_within past ls inner kept old = record {
+  once = once_lines ls past inner;
+  got = λ y. subst (AreMarked (after_lines (facts_at past) ls) y) (sym (same_got y ls past inner))
       (marked_kept (facts_at past) (after_lines (facts_at past) ls) y (records_got y past) kept (old.got y));
 }
+
+pub goes_born : (past : List Line) (child : Enclave) (kind : Kind) (parent : Enclave) (ns : Bool) (blocks : List Block) (more : List Line) → AreWithinStep more
+    → IsLasting (facts_at past) (after_lines (facts_at past) (lines.Born child kind parent ns blocks ∷ more)) → IsDiscovered past
+    → GoesOn past (lines.Born child kind parent ns blocks ∷ more)
+goes_born past child kind parent ns blocks more inner kept old =
+    let born = lines.Born child kind parent ns blocks in
+    let H = after_lines (facts_at past) (born ∷ more) in
+    record {
+      once = (tt, once_lines more (born ∷ past) inner);
+      got = λ y. subst (AreMarked H y) (sym (same_got y more (born ∷ past) inner)) (marked_kept (facts_at past) H y (records_got y past) kept (old.got y));
+    }
 
 pub goes_handled : DiscoveryLaws → (past : List Line) (x y : Enclave) (r : Record) → IsPause (facts_at past) → MayHandle (facts_at past) x y r → IsDiscovered past
     → IsLasting (facts_at past) (after_lines (facts_at past) (lines.Got x y ∷ record_lines (view_of (facts_at past) y) x r))
@@ -181,7 +155,7 @@ pub goes_handled : DiscoveryLaws → (past : List Line) (x y : Enclave) (r : Rec
 goes_handled laws past x y r pause may old kept =
     let G = facts_at past in
     let own = record_lines (view_of G y) x r in
-    let inner = all_gotless own (inner_record (view_of G y) x r) in
+    let inner = inner_record (view_of G y) x r in
     let new = new_record laws G x y r pause may old.joined.asked old.joined.registered in
     let next = next_flight G x.0 y.0 r may.others may.next in
     record {

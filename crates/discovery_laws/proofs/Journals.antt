@@ -1,5 +1,6 @@
 -- Along every journal discovery goes as it is to, and no record is got twice.
 use Rattle.std.proofs.Common.{ℕ, List, [], ◌∷◌, ◌++◌, cond, sym, subst}
+use Rattle.xm_num.specs.declared.Kind.TheVariants as kinds
 use Rattle.xemem_language.specs.declared.command.Command.{Command}
 use Rattle.xemem_language.specs.declared.line.Line.{Line}
 use Rattle.xemem_language.specs.declared.line.Line.TheVariants as lines
@@ -13,28 +14,30 @@ use Rattle.global_model.specs.Place.{IsPlaced}
 use Rattle.global_model.specs.Views.{view_of}
 use Rattle.discovery_laws.specs.Laws.{DiscoveryLaws}
 use Rattle.discovery_laws.specs.Once.{OnceAt, IsOnce, records_got}
+use Rattle.discovery_laws.proofs.Each.{each_birth, each_either}
 use Rattle.discovery_laws.proofs.Joined.{IsJoined, joined_first, joined_step}
-use Rattle.discovery_laws.proofs.Discovered.{AreMarked, GoesOn, IsDiscovered, all_gotless, inner_asked, inner_birth, inner_either, goes_handled, goes_gotless, kept_step}
+use Rattle.discovery_laws.proofs.Discovered.{AreMarked, GoesOn, IsDiscovered, inner_asked, goes_born, goes_handled, goes_within, kept_step}
 use Rattle.discovery_laws.proofs.Pausing.{aside_alone}
-use Rattle.discovery_laws.proofs.Unmoved.{inner_aside}
+use Rattle.discovery_laws.proofs.Unmoved.{IsWithinStep, inner_aside}
 
 -- ---- steps
 
 goes_on : DiscoveryLaws → (past : List Line) (step : Step) → IsPause (facts_at past) → MayCome (facts_at past) step → IsDiscovered past
     → GoesOn past (written_by (facts_at past) step)
-goes_on laws past (Written line) pause may old = goes_gotless past (line ∷ []) (all_gotless (line ∷ []) (inner_aside line 0 (aside_alone (facts_at past) line 0 may.1), tt)) (kept_step laws (facts_at past) (Written line) pause may) old
-goes_on laws past (Takes x y count) pause may old = goes_gotless past (lines.Took x y count ∷ []) (tt, tt) (kept_step laws (facts_at past) (Takes x y count) pause may) old
+goes_on laws past (Written line) pause may old = goes_within past (line ∷ []) (inner_aside line 0 (aside_alone (facts_at past) line 0 may.1), tt) (kept_step laws (facts_at past) (Written line) pause may) old
+goes_on laws past (Takes x y count) pause may old = goes_within past (lines.Took x y count ∷ []) (tt, tt) (kept_step laws (facts_at past) (Takes x y count) pause may) old
 goes_on laws past (Asks e p call) pause may old =
     let v = view_of (facts_at past) e in
-    goes_gotless past (asked_lines v p call) (all_gotless (asked_lines v p call) (inner_asked v p call)) (kept_step laws (facts_at past) (Asks e p call) pause may) old
+    goes_within past (asked_lines v p call) (inner_asked v p call) (kept_step laws (facts_at past) (Asks e p call) pause may) old
 goes_on laws past (Handles x y r) pause may old = goes_handled laws past x y r pause may old (kept_step laws (facts_at past) (Handles x y r) pause may)
 goes_on laws past (Hosts ns blocks) pause may old =
-    goes_gotless past (written_by (facts_at past) (Hosts ns blocks)) (tt, all_gotless (cond ns (lines.Admitted host ∷ []) []) (inner_either ns (lines.Admitted host ∷ []) [] (tt, tt) tt)) (kept_step laws (facts_at past) (Hosts ns blocks) pause may) old
+    goes_born past host kinds.Host host ns blocks (cond ns (lines.Admitted host ∷ []) []) (each_either IsWithinStep ns (lines.Admitted host ∷ []) [] (tt, tt) tt)
+    (kept_step laws (facts_at past) (Hosts ns blocks) pause may) old
 goes_on laws past (Bears child kind parent ns blocks) pause may old =
     let G = facts_at past in
     let v = view_of G parent in
-    goes_gotless past (written_by G (Bears child kind parent ns blocks))
-    (tt, all_gotless ((told_lines child (G.heard parent.0) ++ child_lines child parent ns) ++ adopt_lines v child) (inner_birth child parent ns (G.heard parent.0) v))
+    goes_born past child kind parent ns blocks ((told_lines child (G.heard parent.0) ++ child_lines child parent ns) ++ adopt_lines v child)
+    (each_birth IsWithinStep child parent ns (G.heard parent.0) v (λ d. tt) tt (λ a b. tt))
     (kept_step laws (facts_at past) (Bears child kind parent ns blocks) pause may) old
 
 after_step : (laws : DiscoveryLaws) (past : List Line) (step : Step) → IsPause (facts_at past) → MayCome (facts_at past) step → IsDiscovered past

@@ -1,3 +1,4 @@
+pub mod Each
 pub mod Underway
 pub mod Flights
 pub mod Effects

@@ -7,10 +7,8 @@ use Rattle.xm_num.specs.declared.Kind.{Kind}
 use Rattle.xm_num.specs.declared.Kind.TheVariants as kinds
 use Rattle.xemem_language.specs.declared.line.Line.{Line}
 use Rattle.xemem_language.specs.declared.line.Line.TheVariants as lines
-use Rattle.enclave_rules.specs.View.{View}
 use Rattle.enclave_rules.specs.Steps.{adopt_lines, birth_lines, query_of}
 use Rattle.enclave_rules.specs.Core.{host}
-use Rattle.enclave_rules.specs.Sending.{knows_way}
 use Rattle.global_model.specs.Facts.{Facts, EnclaveFact, after_line, after_lines, as_admitted, is_admitted, is_holder}
 use Rattle.global_model.specs.Flow.{IsTree}
 use Rattle.global_model.specs.Pauses.{IsPause, MayCome, MayStandAlone, Step, Written, Hosts, Bears, Takes, Handles, Asks, asked_lines, written_by}
@@ -20,44 +18,26 @@ use Rattle.discovery_laws.specs.Known.{back_at, holds, is_admitted_at, knows, ro
 use Rattle.discovery_laws.specs.Laws.{DiscoveryLaws}
 use Rattle.discovery_laws.proofs.Underway.{IsBounded}
 use Rattle.discovery_laws.proofs.Stages.{Stage, Silent, Registering, Admitting, Ready, IsRegistered, IsStaged, about_in}
-use Rattle.discovery_laws.proofs.Unmoved.{holds_admitted, AreAside, IsAside, IsUnmoved, staged_stays, unmoved-trans, unmoved_lines}
+use Rattle.discovery_laws.proofs.Unmoved.{holds_admitted, AreAside, IsAside, IsUnmoved, inner_all, staged_stays, unmoved-trans, unmoved_lines}
+use Rattle.discovery_laws.proofs.Each.{each-append, each_adopt}
 use Rattle.discovery_laws.proofs.Led.{IsLed}
 use Rattle.discovery_laws.proofs.Received.{aside_asked}
-use Rattle.discovery_laws.proofs.Trees.{AreBarren, IsBarren, grown_barren, grown_born, grown-trans}
+use Rattle.discovery_laws.proofs.Trees.{grown_born, grown_within, grown-trans}
 use Rattle.discovery_laws.proofs.Registrations.{handled, pause_bounded, registered_grown}
 
 -- ---- a line by itself, and bytes that are taken
 
 pub aside_alone : (G : Facts) (line : Line) (d : ℕ) → MayStandAlone G line → IsAside d line
-aside_alone G (lines.Born e kind parent ns blocks) d may = may
-aside_alone G (lines.Heard e of) d may = may
-aside_alone G (lines.Got x y) d may = may
 aside_alone G (lines.Sent x y r) d may = absurd may
-aside_alone G (lines.Way e over) d may = absurd may
-aside_alone G (lines.Back e of over) d may = absurd may
-aside_alone G (lines.Route e of over) d may = absurd may
-aside_alone G (lines.Admitted e) d may = absurd may
-aside_alone G _ d may = tt
-
-barren_aside : (line : Line) (d : ℕ) → IsAside d line → IsBarren line
-barren_aside (lines.Born e kind parent ns blocks) d aside = aside
-barren_aside _ d aside = tt
-
-barren_all : (ls : List Line) (d : ℕ) → AreAside d ls → AreBarren ls
-barren_all [] d aside = tt
-barren_all (l ∷ ls) d aside = (barren_aside l d aside.0, barren_all ls d aside.1)
+aside_alone G _ d may = search
 
 -- lines that say nothing of d
 pub stays : DiscoveryLaws → (G : Facts) (ls : List Line) (d : ℕ) → IsTree G → IsBounded G → AreAside d ls → IsRegistered (parent_of G) G.born G d
     → IsRegistered (parent_of (after_lines G ls)) (after_lines G ls).born (after_lines G ls) d
 stays laws G ls d tree bounded aside registered =
     let more = unmoved_lines laws.row G ls d bounded aside in
-    registered_grown laws G (after_lines G ls) tree (grown_barren G ls (barren_all ls d aside)) (after_lines G ls) d
+    registered_grown laws G (after_lines G ls) tree (grown_within G ls (inner_all ls d aside)) (after_lines G ls) d
     (record { stage = registered.stage; is = staged_stays (parent_of G) G.born G (after_lines G ls) d registered.stage more.same registered.is })
-
-aside-append : (d : ℕ) (ls ms : List Line) → AreAside d ls → AreAside d ms → AreAside d (ls ++ ms)
-aside-append d [] ms first more = more
-aside-append d (l ∷ ls) ms first more = (first.0, aside-append d ls ms first.1 more)
 
 -- ---- births
 
@@ -187,7 +167,7 @@ module _ (laws : DiscoveryLaws) (G : Facts) (child : Enclave) (kind : Kind) (par
     (pause : IsPause G) (next : child.0 ≡ G.born) (asks_aside : (d : ℕ) → AreAside d asks) (more_aside : (d : ℕ) → AreAside d more) where
   aside_first : (d : ℕ) → child.0 ≢ d → (t : Bool) → AreAside d (cond t (lines.Admitted child ∷ []) asks ++ more)
   aside_first d apart true = (apart, more_aside d)
-  aside_first d apart false = aside-append d asks more (asks_aside d) (more_aside d)
+  aside_first d apart false = each-append (IsAside d) asks more (asks_aside d) (more_aside d)
 
   born_other : (d : ℕ) → child.0 ≢ d → IsRegistered (parent_of G) G.born G d
       → (let H : Facts = after_lines G (lines.Born child kind parent ns blocks ∷ cond ns (lines.Admitted child ∷ []) asks ++ more) in
@@ -199,7 +179,7 @@ module _ (laws : DiscoveryLaws) (G : Facts) (child : Enclave) (kind : Kind) (par
       let unmoved = unmoved_lines laws.row G1 ls d (pause_bounded G pause) aside in
       let H = after_lines G1 ls in
       registered_grown laws G H pause.tree
-      (grown-trans G G1 H (grown_born G child parent kind ns blocks next) (grown_barren G1 ls (barren_all ls d aside))) H d
+      (grown-trans G G1 H (grown_born G child parent kind ns blocks next) (grown_within G1 ls (inner_all ls d aside))) H d
       (record {
         stage = registered.stage;
         is = staged_stays (parent_of G) G.born G H d registered.stage
@@ -216,7 +196,7 @@ module _ (laws : DiscoveryLaws) (G : Facts) (child : Enclave) (kind : Kind) (par
       (unmoved_lines laws.row G2 more child.0 (pause_bounded G pause) (more_aside child.0)).same (bare_admitted G1 child true some bare)
   bare_first false bare =
       let G1 = after_line G (lines.Born child kind parent ns blocks) in
-      let aside : AreAside child.0 (asks ++ more) = aside-append child.0 asks more (asks_aside child.0) (more_aside child.0) in
+      let aside : AreAside child.0 (asks ++ more) = each-append (IsAside child.0) asks more (asks_aside child.0) (more_aside child.0) in
       bare_stays G1 (after_lines G1 (asks ++ more)) child.0 false false
       (unmoved_lines laws.row G1 (asks ++ more) child.0 (pause_bounded G pause) aside).same bare
 
@@ -242,13 +222,6 @@ module _ (laws : DiscoveryLaws) (G : Facts) (child : Enclave) (kind : Kind) (par
 
 -- ---- each step
 
-aside_adopt : (v : View) (child : Enclave) (d : ℕ) → AreAside d (adopt_lines v child)
-aside_adopt v child d = by (knows_way v)
-  where
-    by : (t : Bool) → AreAside d (cond t [] (lines.Sent v.me child (query_of v.me) ∷ []))
-    by true = tt
-    by false = (refl, tt)
-
 pub registered_step : DiscoveryLaws → (G : Facts) (step : Step) → IsPause G → MayCome G step → IsLed G
     → (let H : Facts = after_lines G (written_by G step) in
     IsLed H → IsRooted (parent_of H)
@@ -273,4 +246,4 @@ registered_step laws G (Bears child kind parent ns blocks) pause may led led' ro
     IsRegistered (parent_of (after_lines G ls)) (after_lines G ls).born (after_lines G ls) d in
     subst P (sym (led.quiet parent.0))
     (bears laws G child kind parent ns blocks (lines.Sent child parent (query_of child) ∷ []) (adopt_lines (view_of G parent) child) pause may.1.next
-    (λ d. (refl, tt)) (aside_adopt (view_of G parent) child) d registered)
+    (λ d. (refl, tt)) (λ d. each_adopt (IsAside d) (view_of G parent) child refl) d registered)

@@ -16,12 +16,14 @@ use Rattle.enclave_rules.specs.Sending.{drop_lines, knows_way, over_lines}
 use Rattle.enclave_rules.specs.Ways.{place_among}
 use Rattle.global_model.specs.Facts.{Facts, after_line}
 use Rattle.discovery_laws.specs.Known.{in_flight}
+use Rattle.discovery_laws.proofs.Each.{each-append, each_over, each_told}
 use Rattle.discovery_laws.proofs.Stages.{about_in, is_about, is_about_by}
 use Rattle.discovery_laws.proofs.Underway.{flight_got}
 use Rattle.discovery_laws.proofs.Unmoved.{AreAside, AreWithinStep, IsAside, IsUnmoved, inner_all}
-use Rattle.discovery_laws.proofs.Serving.{Serves, is_serving, serves_asked, serves_body}
+use Rattle.discovery_laws.proofs.Serving.{all_but_calls, is_serving, serves_asked, serves_body}
 use Rattle.xm_num.specs.declared.Pid.{Pid}
 use Rattle.xemem_language.specs.declared.call.Call.{Call}
+use Rattle.global_model.specs.Parts.{Lacks}
 use Rattle.global_model.specs.Pauses.{asked_lines}
 
 -- ---- a record is got
@@ -57,18 +59,6 @@ unmoved_got G x y r rs d is other = record {
 
 -- ---- what is made of a record
 
-aside_passed : (v : View) (from : Enclave) (to : Option Enclave) (r : Record) (d : ℕ) → is_about d r ≡ false → AreAside d (over_lines v (Some from) to r)
-aside_passed v from None r d other = (tt, tt)
-aside_passed v from (Some over) r d other = by (eqb over.0 from.0)
-  where
-    by : (t : Bool) → AreAside d (cond t (drop_lines v) (lines.Sent v.me over r ∷ []))
-    by true = (tt, tt)
-    by false = (other, tt)
-
-pub aside_told : (v : View) (askers : List (ℕ × Enclave)) (d : ℕ) (more : List Line) → AreAside d more → AreAside d (told_askers v askers ++ more)
-aside_told v [] d more aside = aside
-aside_told v (row ∷ askers) d more aside = (refl, aside_told v askers d more aside)
-
 aside_query : (v : View) (from : Enclave) (d : ℕ) → AreAside d (query_lines v from)
 aside_query v from d = by (knows_way v)
   where
@@ -89,7 +79,11 @@ aside_here v from d may = by (knows_way v) may
         (lines.Way v.me from ∷ told_askers v (less v.ways.askers (place_among v.core.parent from)) ++ lines.Sent v.me from (register_of v.me) ∷ []))
     by true may = (tt, tt)
     by false (inl is) = absurd (cc)
-    by false (inr other) = (other, aside_told v (less v.ways.askers (place_among v.core.parent from)) d _ (ne_eqb v.me.0 d other, tt))
+    by false (inr other) = (
+      other,
+      each-append (IsAside d) (told_askers v (less v.ways.askers (place_among v.core.parent from))) (lines.Sent v.me from (register_of v.me) ∷ [])
+          (each_told (IsAside d) v (less v.ways.askers (place_among v.core.parent from)) (λ x. refl)) (ne_eqb v.me.0 d other, tt),
+    )
 
 aside_register : (v : View) (from : Enclave) (r : Record) (d : ℕ) → is_about d r ≡ false → r.origin.0 ≢ d → AreAside d (register_lines v from r)
 aside_register v from r d other apart = (apart, by v.core.holder)
@@ -97,12 +91,12 @@ aside_register v from r d other apart = (apart, by v.core.holder)
     by : (t : Bool) → AreAside d (cond t (lines.Route v.me r.origin from ∷ lines.Sent v.me from (admit_of v.me r.origin) ∷ [])
         (over_lines v (Some from) (cond t None v.ways.way) r))
     by true = (apart, (ne_eqb r.origin.0 d apart, tt))
-    by false = aside_passed v from v.ways.way r d other
+    by false = each_over (IsAside d) v (Some from) v.ways.way r tt (λ x. other)
 
 aside_over : (v : View) (from e : Enclave) (r : Record) (d : ℕ) (over : Option Enclave) → is_about d r ≡ false → e.0 ≢ d
     → AreAside d (admit_over v from e r over)
 aside_over v from e r d None other apart = (tt, tt)
-aside_over v from e r d (Some over) other apart = (apart, aside_passed v from (Some over) r d other)
+aside_over v from e r d (Some over) other apart = (apart, each_over (IsAside d) v (Some from) (Some over) r tt (λ x. other))
 
 aside_admit : (v : View) (from : Enclave) (r : Record) (d : ℕ) (dest : Option Enclave) → is_about d r ≡ false
     → option_map_or (λ e. eqb e.0 d) dest false ≡ false → AreAside d (admit_to v from r dest)
@@ -125,21 +119,13 @@ serving_other d r (bodies.Named segid) is = refl
 serving_other d r (bodies.Unname segid) is = refl
 serving_other d r _ is = absurd (cc)
 
-pub aside_serves : (d : ℕ) → Serves (IsAside d)
-aside_serves d = record {
-  dropped = λ e. tt;
-  issued = λ e p call. tt;
-  drew = λ e call segid. tt;
-  named = λ e call segid. tt;
-  unnamed = λ segid. tt;
-  removed = λ e segid. tt;
-  answered = λ e p call segid. tt;
-  sent = λ x y r is. serving_other d r r.body is;
-}
+aside_for_calls : (d : ℕ) (line : Line) → Lacks all_but_calls line → IsAside d line
+aside_for_calls d (lines.Sent x y r) none = absurd none
+aside_for_calls d _ none = search
 
 -- so does what is written for a call
 pub aside_asked : (v : View) (p : Pid) (call : Call) (d : ℕ) → AreAside d (asked_lines v p call)
-aside_asked v p call d = serves_asked (IsAside d) (aside_serves d) v p call
+aside_asked v p call d = serves_asked (IsAside d) (aside_for_calls d) (λ x y r is. serving_other d r r.body is) v p call
 
 aside_body : (v : View) (from : Enclave) (r : Record) (d : ℕ) (body : Body) → is_about d r ≡ false → is_about_by d r body ≡ false → MayHear v d body
     → AreAside d (body_lines v from r body)
@@ -147,9 +133,9 @@ aside_body v from r d bodies.Query other none may = aside_query v from d
 aside_body v from r d bodies.Here other none may = aside_here v from d may
 aside_body v from r d bodies.Register other none may = aside_register v from r d other (eqb-false r.origin.0 d none)
 aside_body v from r d bodies.Admit other none may = aside_admit v from r d r.dest other none
-aside_body v from r d bodies.NameReq other none may = serves_body (IsAside d) (aside_serves d) v from r bodies.NameReq refl (λ x. other)
-aside_body v from r d (bodies.Named segid) other none may = serves_body (IsAside d) (aside_serves d) v from r (bodies.Named segid) refl (λ x. other)
-aside_body v from r d (bodies.Unname segid) other none may = serves_body (IsAside d) (aside_serves d) v from r (bodies.Unname segid) refl (λ x. other)
+aside_body v from r d bodies.NameReq other none may = serves_body (IsAside d) (aside_for_calls d) (λ x y r is. serving_other d r r.body is) v from r bodies.NameReq refl (λ x. other)
+aside_body v from r d (bodies.Named segid) other none may = serves_body (IsAside d) (aside_for_calls d) (λ x y r is. serving_other d r r.body is) v from r (bodies.Named segid) refl (λ x. other)
+aside_body v from r d (bodies.Unname segid) other none may = serves_body (IsAside d) (aside_for_calls d) (λ x y r is. serving_other d r r.body is) v from r (bodies.Unname segid) refl (λ x. other)
 aside_body v from r d _ other none may = (tt, tt)
 
 pub aside_record : (v : View) (from : Enclave) (r : Record) (d : ℕ) → is_about d r ≡ false → MayHear v d r.body → AreAside d (record_lines v from r)

@@ -3,7 +3,6 @@
 use Rattle.std.proofs.Common.{◌≡◌, ◌+◌, ◌&&◌, ℕ, List, [], ◌∷◌, Bool, true, false, cond, eqb, Option, None, Some, refl}
 use Rattle.std.specs.List.{AllByRecursion}
 use Rattle.std.specs.Option.{option_map_or}
-use Rattle.xm_num.specs.declared.CallNo.{CallNo}
 use Rattle.xm_num.specs.declared.Enclave.{Enclave}
 use Rattle.xm_num.specs.declared.Pid.{Pid}
 use Rattle.xm_num.specs.declared.Segid.{Segid}
@@ -22,11 +21,13 @@ use Rattle.enclave_rules.specs.Hand.{Hand}
 use Rattle.enclave_rules.specs.Exports.{is_segid, segid_number}
 use Rattle.enclave_rules.specs.Names.{can_draw, next_segid}
 use Rattle.enclave_rules.specs.View.{View, own_lines}
-use Rattle.enclave_rules.specs.Sending.{Goal, Server, To, drop_lines, made_lines, over_lines, send_lines, way_to}
+use Rattle.enclave_rules.specs.Sending.{Goal, Server, To, drop_lines, made_lines, send_lines, way_to}
 use Rattle.enclave_rules.specs.Segments.{asking_lines, drew_line, issue_line, make_of, name_lines, name_request, named_lines, named_record, naming_lines, takes_name, unname_lines, unname_record}
 use Rattle.enclave_rules.specs.Steps.{body_lines, named_to}
 use Rattle.enclave_rules.specs.Calls.{at_hand}
+use Rattle.global_model.specs.Parts.{Part, Opening, Closing, Birth, Admission, Warning, Death, Kill, Start, Owning, Sending, Delivery, Receipt, Asking, Learning, Noting, Lacks}
 use Rattle.global_model.specs.Pauses.{asked_lines}
+use Rattle.discovery_laws.proofs.Each.{each_either, each_over}
 
 -- a record that serves a make
 abbrev pub is_serving : Body → Bool
@@ -35,33 +36,18 @@ is_serving (bodies.Named segid) = true
 is_serving (bodies.Unname segid) = true
 is_serving body = false
 
--- the lines that serve a call have the property
-pub record Serves (P : Line → Type 0) : Type 0 where
-  pub dropped : (e : Enclave) → P (lines.Dropped e)
-  pub issued : (e : Enclave) (p : Pid) (call : CallNo) → P (lines.Issue e p call)
-  pub drew : (e : Enclave) (call : CallNo) (segid : Segid) → P (lines.Drew e call segid)
-  pub named : (e : Enclave) (call : CallNo) (segid : Segid) → P (lines.Named e call segid)
-  pub unnamed : (segid : Segid) → P (lines.Unnamed segid)
-  pub removed : (e : Enclave) (segid : Segid) → P (lines.Remove e segid)
-  pub answered : (e : Enclave) (p : Pid) (call : CallNo) (segid : Segid) → P (lines.AnswerSegid e p call segid)
-  pub sent : (x y : Enclave) (r : Record) → is_serving r.body ≡ true → P (lines.Sent x y r)
+-- the parts that lines for calls don't play, but for the records that are sent
+abbrev pub all_but_calls : List Part
+all_but_calls =
+    Opening ∷ Closing ∷ Birth ∷ Admission ∷ Warning ∷ Death ∷ Kill ∷ Start ∷ Owning ∷ Sending ∷ Delivery ∷ Receipt ∷ Asking ∷ Learning ∷ Noting ∷ []
 
-module _ (P : Line → Type 0) (may : Serves P) where
-  either : (t : Bool) (ls ms : List Line) → AllByRecursion P ls → AllByRecursion P ms → AllByRecursion P (cond t ls ms)
-  either true ls ms left right = left
-  either false ls ms left right = right
-
+module _ (P : Line → Type 0) (may : (line : Line) → Lacks all_but_calls line → P line) (sends : (x y : Enclave) (r : Record) → is_serving r.body ≡ true → P (lines.Sent x y r)) where
   drops : (v : View) → AllByRecursion P (drop_lines v)
-  drops v = (may.dropped v.me, tt)
-
-  goes_over : (v : View) (came over : Option Enclave) (r : Record) → ((x : Enclave) → P (lines.Sent v.me x r)) → AllByRecursion P (over_lines v came over r)
-  goes_over v came None r sent = drops v
-  goes_over v came (Some over) r sent =
-      either (option_map_or (λ from. eqb over.0 from.0) came false) (drop_lines v) (lines.Sent v.me over r ∷ []) (drops v) (sent over, tt)
+  drops v = (may (lines.Dropped v.me) tt, tt)
 
   serves_made : (v : View) (goal : Goal) (r : Record) → is_serving r.body ≡ true → AllByRecursion P (made_lines v goal r)
   serves_made v goal r is =
-      either (is_valid r) (send_lines v None goal r) (drop_lines v) (goes_over v None (way_to v goal) r (λ x. may.sent v.me x r is)) (drops v)
+      each_either P (is_valid r) (send_lines v None goal r) (drop_lines v) (each_over P v None (way_to v goal) r (may (lines.Dropped v.me) tt) (λ x. sends v.me x r is)) (drops v)
 
   serves_named : (v : View) (call : ℕ) (segid : Segid) → AllByRecursion P (named_lines v call segid)
   serves_named v call segid = by (at v.memory.waiting call)
@@ -69,42 +55,42 @@ module _ (P : Line → Type 0) (may : Serves P) where
       by : (found : Option Waiting) → AllByRecursion P (option_map_or (λ waiting. cond (takes_name v call segid waiting)
           (lines.Named v.me (record { 0 = call }) segid ∷ lines.AnswerSegid v.me waiting.pid (record { 0 = call }) segid ∷ []) (drop_lines v)) found (drop_lines v))
       by None = drops v
-      by (Some waiting) = either (takes_name v call segid waiting)
+      by (Some waiting) = each_either P (takes_name v call segid waiting)
           (lines.Named v.me (record { 0 = call }) segid ∷ lines.AnswerSegid v.me waiting.pid (record { 0 = call }) segid ∷ []) (drop_lines v)
-          (may.named v.me (record { 0 = call }) segid, (may.answered v.me waiting.pid (record { 0 = call }) segid, tt)) (drops v)
+          (may (lines.Named v.me (record { 0 = call }) segid) tt, (may (lines.AnswerSegid v.me waiting.pid (record { 0 = call }) segid) tt, tt)) (drops v)
 
   serves_names : (v : View) (caller : Enclave) (call : ℕ) → AllByRecursion P (name_lines v caller call)
   serves_names v caller call =
-      either (can_draw v.names) (drew_line v caller call ∷ made_lines v (To caller) (named_record v.me caller call (next_segid v.names))) (drop_lines v)
-      (may.drew caller (record { 0 = call }) (next_segid v.names), serves_made v (To caller) (named_record v.me caller call (next_segid v.names)) refl) (drops v)
+      each_either P (can_draw v.names) (drew_line v caller call ∷ made_lines v (To caller) (named_record v.me caller call (next_segid v.names))) (drop_lines v)
+      (may (drew_line v caller call) tt, serves_made v (To caller) (named_record v.me caller call (next_segid v.names)) refl) (drops v)
 
   serves_unname : (v : View) (owner : Enclave) (segid : Segid) → AllByRecursion P (unname_lines v owner segid)
   serves_unname v owner segid =
-      either (is_segid segid && has_name v.names (segid_number segid) owner) (lines.Unnamed segid ∷ []) (drop_lines v) (may.unnamed segid, tt) (drops v)
+      each_either P (is_segid segid && has_name v.names (segid_number segid) owner) (lines.Unnamed segid ∷ []) (drop_lines v) (may (lines.Unnamed segid) tt, tt) (drops v)
 
   -- what is made of a record that serves a make, which may be passed on
   pub serves_body : (v : View) (from : Enclave) (r : Record) (body : Body) → is_serving body ≡ true → ((x : Enclave) → P (lines.Sent v.me x r))
       → AllByRecursion P (body_lines v from r body)
   serves_body v from r bodies.NameReq is sent =
-      either v.core.holder (name_lines v r.origin r.call) (send_lines v (Some from) Server r) (serves_names v r.origin r.call)
-      (goes_over v (Some from) (way_to v Server) r sent)
+      each_either P v.core.holder (name_lines v r.origin r.call) (send_lines v (Some from) Server r) (serves_names v r.origin r.call)
+      (each_over P v (Some from) (way_to v Server) r (may (lines.Dropped v.me) tt) sent)
   serves_body v from r (bodies.Named segid) is sent = to r.dest
     where
       to : (dest : Option Enclave) → AllByRecursion P (named_to v from r segid dest)
       to None = drops v
-      to (Some d) = either (eqb d.0 v.me.0) (named_lines v r.call segid) (send_lines v (Some from) (To d) r) (serves_named v r.call segid)
-          (goes_over v (Some from) (way_to v (To d)) r sent)
+      to (Some d) = each_either P (eqb d.0 v.me.0) (named_lines v r.call segid) (send_lines v (Some from) (To d) r) (serves_named v r.call segid)
+          (each_over P v (Some from) (way_to v (To d)) r (may (lines.Dropped v.me) tt) sent)
   serves_body v from r (bodies.Unname segid) is sent =
-      either v.core.holder (unname_lines v r.origin segid) (send_lines v (Some from) Server r) (serves_unname v r.origin segid)
-      (goes_over v (Some from) (way_to v Server) r sent)
+      each_either P v.core.holder (unname_lines v r.origin segid) (send_lines v (Some from) Server r) (serves_unname v r.origin segid)
+      (each_over P v (Some from) (way_to v Server) r (may (lines.Dropped v.me) tt) sent)
   serves_body v from r _ is sent = absurd (cc)
 
   serves_asking : (hand : Hand) (v : View) (call : ℕ) → AllByRecursion P (asking_lines hand v call)
   serves_asking hand v call =
       let w = own_lines hand v (drew_line v v.me call ∷ []) in
-      either v.core.holder (naming_lines hand v call) (made_lines v Server (name_request v.me call))
-      (either (can_draw v.names) (drew_line v v.me call ∷ named_lines w call (next_segid v.names)) (drop_lines v)
-      (may.drew v.me (record { 0 = call }) (next_segid v.names), serves_named w call (next_segid v.names)) (drops v))
+      each_either P v.core.holder (naming_lines hand v call) (made_lines v Server (name_request v.me call))
+      (each_either P (can_draw v.names) (drew_line v v.me call ∷ named_lines w call (next_segid v.names)) (drop_lines v)
+      (may (drew_line v v.me call) tt, serves_named w call (next_segid v.names)) (drops v))
       (serves_made v Server (name_request v.me call) refl)
 
   -- what is written for a call that may need another enclave
@@ -112,7 +98,7 @@ module _ (P : Line → Type 0) (may : Serves P) where
   serves_asked v p (calls.Alloc at n) = tt
   serves_asked v p (calls.Make addr size mode) =
       let hand = at_hand v p (calls.Make addr size mode) in
-      (may.issued v.me p (record { 0 = v.memory.issued + 1 }), serves_asking hand (own_lines hand v (issue_line v p ∷ [])) (v.memory.issued + 1))
+      (may (issue_line v p) tt, serves_asking hand (own_lines hand v (issue_line v p ∷ [])) (v.memory.issued + 1))
   serves_asked v p (calls.Remove segid) =
       let away = unname_record v.me (make_of v.exports (segid_number segid)) segid in
-      (may.removed v.me segid, either v.core.holder (unname_lines v v.me segid) (made_lines v Server away) (serves_unname v v.me segid) (serves_made v Server away refl))
+      (may (lines.Remove v.me segid) tt, each_either P v.core.holder (unname_lines v v.me segid) (made_lines v Server away) (serves_unname v v.me segid) (serves_made v Server away refl))

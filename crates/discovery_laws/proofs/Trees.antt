@@ -1,7 +1,6 @@
 -- The tree that later lines leave; a registration stays where it was when others are born.
 use Rattle.std.proofs.Common.{◌≡◌, ◌<◌, ◌≤◌, ℕ, List, [], ◌∷◌, Bool, true, false, cond, eqb, Some, refl, ◌∙◌, arith}
 use Rattle.std.proofs.lemmas.Bool.{ne_eqb}
-use Rattle.std.specs.List.{AllByRecursion}
 use Rattle.xm_num.specs.declared.Enclave.{Enclave}
 use Rattle.xm_num.specs.declared.Block.{Block}
 use Rattle.xm_num.specs.declared.Kind.{Kind}
@@ -13,7 +12,6 @@ use Rattle.discovery_laws.proofs.Received.{inner_record}
 use Rattle.discovery_laws.proofs.Unmoved.{AreWithinStep, IsWithinStep}
 use Rattle.enclave_rules.specs.Steps.{record_lines}
 use Rattle.global_model.specs.Facts.{Facts, after_line, after_lines, fact_of}
-use Rattle.global_model.specs.Parts.{Birth, Lacks}
 use Rattle.global_model.specs.Tree.{IsRooted, IsToward, distance, parent_of}
 use Rattle.global_model.specs.Views.{view_of}
 use Rattle.discovery_laws.specs.Laws.{DiscoveryLaws}
@@ -31,45 +29,31 @@ record IsSameTree (G H : Facts) : Type 0 where
   parents : (e : ℕ) → parent_of H e ≡ parent_of G e
   born : H.born ≡ G.born
 
--- a line that bears no enclave
-abbrev pub IsBarren : Line → Type 0
-IsBarren line = Lacks (Birth ∷ []) line
+same_line : (G : Facts) (line : Line) → IsWithinStep line → IsSameTree G (after_line G line)
+same_line G (lines.Born e kind parent ns blocks) inner = absurd inner
+same_line G (lines.Admitted e) inner = record { parents = kept_by (λ fact. (fact_of fact).parent.0) parent_kept G e; born = refl }
+same_line G (lines.Do (commands.Pool blocks)) inner = record { parents = λ e. refl; born = refl }
+same_line G _ inner = record { parents = λ e. refl; born = refl }
 
-abbrev pub AreBarren : List Line → Type 0
-AreBarren journal = AllByRecursion IsBarren journal
-
-same_line : (G : Facts) (line : Line) → IsBarren line → IsSameTree G (after_line G line)
-same_line G (lines.Born e kind parent ns blocks) barren = absurd barren
-same_line G (lines.Admitted e) barren = record { parents = kept_by (λ fact. (fact_of fact).parent.0) parent_kept G e; born = refl }
-same_line G (lines.Do (commands.Pool blocks)) barren = record { parents = λ e. refl; born = refl }
-same_line G _ barren = record { parents = λ e. refl; born = refl }
-
-same_lines : (G : Facts) (ls : List Line) → AreBarren ls → IsSameTree G (after_lines G ls)
-same_lines G [] barren = record { parents = λ e. refl; born = refl }
-same_lines G (l ∷ ls) barren =
-    let one = same_line G l barren.0 in
-    let more = same_lines (after_line G l) ls barren.1 in
+same_lines : (G : Facts) (ls : List Line) → AreWithinStep ls → IsSameTree G (after_lines G ls)
+same_lines G [] inner = record { parents = λ e. refl; born = refl }
+same_lines G (l ∷ ls) inner =
+    let one = same_line G l inner.0 in
+    let more = same_lines (after_line G l) ls inner.1 in
     record { parents = λ e. more.parents e ∙ one.parents e; born = more.born ∙ one.born }
 
-pub grown_barren : (G : Facts) (ls : List Line) → AreBarren ls → IsGrown G (after_lines G ls)
-grown_barren G ls barren =
-    let same = same_lines G ls barren in
+pub grown_within : (G : Facts) (ls : List Line) → AreWithinStep ls → IsGrown G (after_lines G ls)
+grown_within G ls inner =
+    let same = same_lines G ls inner in
     let born = same.born in
     record { parents = λ e some below. same.parents e; born = omega (arith, born) }
-
-within_barren : (line : Line) → IsWithinStep line → IsBarren line
-within_barren (lines.Born e kind parent ns blocks) within = within
-within_barren _ within = tt
-
-all_barren : (ls : List Line) → AreWithinStep ls → AreBarren ls
-all_barren [] within = tt
-all_barren (l ∷ ls) within = (within_barren l within.0, all_barren ls within.1)
 
 -- what is written for a record bears none
 pub grown_handled : (G : Facts) (x y : Enclave) (r : Record) → IsGrown G (after_lines G (lines.Got x y ∷ record_lines (view_of G y) x r))
 grown_handled G x y r =
-    let own = record_lines (view_of G y) x r in
-    grown_barren G (lines.Got x y ∷ own) (tt, all_barren own (inner_record (view_of G y) x r))
+    let v = view_of G y in
+    let more = grown_within (after_line G (lines.Got x y)) (record_lines v x r) (inner_record v x r) in
+    record { parents = more.parents; born = more.born }
 
 -- the next enclave is born
 pub grown_born : (G : Facts) (child parent : Enclave) (kind : Kind) (ns : Bool) (blocks : List Block) → child.0 ≡ G.born

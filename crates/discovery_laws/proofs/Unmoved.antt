@@ -253,10 +253,8 @@ abbrev pub AreWithinStep : List Line → Type 0
 AreWithinStep journal = AllByRecursion IsWithinStep journal
 
 pub inner_aside : (line : Line) (d : ℕ) → IsAside d line → IsWithinStep line
-inner_aside (lines.Born e kind parent ns blocks) d aside = aside
-inner_aside (lines.Heard e of) d aside = aside
-inner_aside (lines.Got x y) d aside = aside
-inner_aside _ d aside = tt
+inner_aside (lines.Sent x y r) d aside = tt
+inner_aside _ d aside = search
 
 pub inner_all : (ls : List Line) (d : ℕ) → AreAside d ls → AreWithinStep ls
 inner_all [] d aside = tt

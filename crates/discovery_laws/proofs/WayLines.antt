@@ -5,8 +5,6 @@ use Rattle.std.specs.List.{AllByRecursion}
 use Rattle.std.proofs.lemmas.Bool.{eqb-true, eqb-false}
 use Rattle.std.proofs.lemmas.List.Elements.{filter-append}
 use Rattle.xm_num.specs.declared.Enclave.{Enclave}
-use Rattle.xm_num.specs.declared.Kind.{Kind}
-use Rattle.xm_num.specs.declared.Block.{Block}
 use Rattle.xm_num.specs.Rows.{less}
 use Rattle.xemem_language.specs.declared.command.Command.{Command}
 use Rattle.xemem_language.specs.declared.command.Command.TheVariants as commands
@@ -19,9 +17,9 @@ use Rattle.enclave_rules.specs.View.{View}
 use Rattle.enclave_rules.specs.Core.{host}
 use Rattle.enclave_rules.specs.Ways.{place_among}
 use Rattle.enclave_rules.specs.Sending.{knows_way, drop_lines}
-use Rattle.enclave_rules.specs.Steps.{is_stray, query_of, here_of, register_of, told_lines, child_lines, adopt_lines, birth_lines, host_lines, told_askers, body_lines, record_lines}
+use Rattle.enclave_rules.specs.Steps.{is_stray, here_of, register_of, adopt_lines, birth_lines, host_lines, told_askers, body_lines, record_lines}
 use Rattle.global_model.specs.Facts.{Facts, after_line, after_lines, no_facts}
-use Rattle.global_model.specs.Parts.{Death, Learning, Lacks}
+use Rattle.global_model.specs.Parts.{Part, Death, Learning, Lacks}
 use Rattle.global_model.specs.Place.{IsPlaced}
 use Rattle.global_model.specs.Due.{journal_of}
 use Rattle.global_model.specs.Pauses.{Step, Written, Hosts, Bears, Takes, Handles, Asks, asked_lines, written_by, written_in, MayCome, AreSteps}
@@ -32,48 +30,33 @@ use Rattle.discovery_laws.specs.Known.{way_at}
 use Rattle.discovery_laws.proofs.Effects.{way_learns, asked_leaves, admitted_leaves, back_leaves, route_leaves}
 use Rattle.discovery_laws.proofs.Flights.{one_if}
 use Rattle.discovery_laws.proofs.Asking.{is_query_body, is_here_body}
-use Rattle.discovery_laws.proofs.Calm.{IsCalm, AreCalm, calm_alone}
+use Rattle.discovery_laws.proofs.Each.{each-append, each-weaker, each_birth, each_either, each_told}
+use Rattle.discovery_laws.proofs.Calm.{IsCalm, calm_alone}
 use Rattle.discovery_laws.proofs.Answered.{calm_asked, calm_body}
 
 -- ---- lines by which no way is learned and no death heard
 
-abbrev IsWayless : Line → Type 0
-IsWayless line = Lacks (Death ∷ Learning ∷ []) line
+abbrev way_parts : List Part
+way_parts = Death ∷ Learning ∷ []
 
-abbrev AreWayless : List Line → Type 0
-AreWayless journal = AllByRecursion IsWayless journal
-
-wayless-append : (ls ms : List Line) → AreWayless ls → AreWayless ms → AreWayless (ls ++ ms)
-wayless-append [] ms first more = more
-wayless-append (l ∷ ls) ms first more = (first.0, wayless-append ls ms first.1 more)
-
-wayless_either : (t : Bool) (ls ms : List Line) → AreWayless ls → AreWayless ms → AreWayless (cond t ls ms)
-wayless_either true ls ms left right = left
-wayless_either false ls ms left right = right
-
-calm_wayless : (line : Line) → IsCalm line → IsWayless line
-calm_wayless (lines.Way e over) calm = calm
-calm_wayless (lines.Heard e of) calm = calm
-calm_wayless line calm = tt
-
-all_wayless : (ls : List Line) → AreCalm ls → AreWayless ls
-all_wayless [] calm = tt
-all_wayless (l ∷ ls) calm = (calm_wayless l calm.0, all_wayless ls calm.1)
+calm_lacks : (line : Line) → IsCalm line → Lacks way_parts line
+calm_lacks (lines.Sent x y r) calm = tt
+calm_lacks _ calm = search
 
 -- ---- how often an enclave learned its way is told by whether it knows it
 
 record IsToldBy (G : Facts) (e : ℕ) (ls : List Line) : Type 0 where
   told : ways_in e ls + one_if (is_some (way_at G e)) ≡ one_if (is_some (way_at (after_lines G ls) e))
 
-wayless_line : (G : Facts) (e : ℕ) (line : Line) → IsWayless line → (is_way_line e line ≡ false) × (way_at (after_line G line) e ≡ way_at G e)
-wayless_line G e (lines.Way of over) none = absurd none
-wayless_line G e (lines.Heard of dead) none = absurd none
-wayless_line G e (lines.Do (commands.Pool blocks)) none = (refl, refl)
-wayless_line G e (lines.Asked of by) none = (refl, asked_leaves G of by e)
-wayless_line G e (lines.Back of d over) none = (refl, (back_leaves G of d over).way e)
-wayless_line G e (lines.Route of d over) none = (refl, (route_leaves G of d over).way e)
-wayless_line G e (lines.Admitted of) none = (refl, (admitted_leaves G of of of).way e)
-wayless_line G e line none = (refl, refl)
+way_stays : (G : Facts) (e : ℕ) (line : Line) → Lacks way_parts line → (is_way_line e line ≡ false) × (way_at (after_line G line) e ≡ way_at G e)
+way_stays G e (lines.Way of over) none = absurd none
+way_stays G e (lines.Heard of dead) none = absurd none
+way_stays G e (lines.Do (commands.Pool blocks)) none = (refl, refl)
+way_stays G e (lines.Asked of by) none = (refl, asked_leaves G of by e)
+way_stays G e (lines.Back of d over) none = (refl, (back_leaves G of d over).way e)
+way_stays G e (lines.Route of d over) none = (refl, (route_leaves G of d over).way e)
+way_stays G e (lines.Admitted of) none = (refl, (admitted_leaves G of of of).way e)
+way_stays G e line none = (refl, refl)
 
 told-append : (past : FactLaws) (G : Facts) (e : ℕ) (ls ms : List Line) → IsToldBy G e ls → IsToldBy (after_lines G ls) e ms → IsToldBy G e (ls ++ ms)
 told-append past G e ls ms first more = record {
@@ -85,11 +68,11 @@ told-append past G e ls ms first more = record {
       omega (arith, both, end, first.told, more.told);
 }
 
-wayless_told : (e : ℕ) (ls : List Line) (G : Facts) → AreWayless ls → IsToldBy G e ls
-wayless_told e [] G none = record { told = omega arith }
-wayless_told e (l ∷ ls) G none =
-    let one = wayless_line G e l none.0 in
-    let more = wayless_told e ls (after_line G l) none.1 in
+stays_told : (e : ℕ) (ls : List Line) (G : Facts) → AllByRecursion (Lacks way_parts) ls → IsToldBy G e ls
+stays_told e [] G none = record { told = omega arith }
+stays_told e (l ∷ ls) G none =
+    let one = way_stays G e l none.0 in
+    let more = stays_told e ls (after_line G l) none.1 in
     record {
       told =
           let count : ways_in e (l ∷ ls) ≡ ways_in e ls = ap (λ t. length (cond t (l ∷ filter (is_way_line e) ls) (filter (is_way_line e) ls))) one.0 in
@@ -118,67 +101,47 @@ unknown_way true o none = absurd (cc)
 unknown_way false None none = refl
 unknown_way false (Some x) none = absurd (cc)
 
-wayless_askers : (v : View) (rows : List (ℕ × Enclave)) → AreWayless (told_askers v rows)
-wayless_askers v [] = tt
-wayless_askers v (row ∷ rows) = (tt, wayless_askers v rows)
-
 module _ (laws : DiscoveryLaws) (G : Facts) (e : ℕ) (x y : Enclave) (r : Record) where
   abbrev v : View
   v = view_of G y
 
   here_told : (t : Bool) → knows_way v ≡ t → IsToldBy G e (lines.Got x y ∷ cond t (drop_lines v) (lines.Way y x
       ∷ told_askers v (less v.ways.askers (place_among v.core.parent x)) ++ lines.Sent y x (register_of y) ∷ []))
-  here_told true is = wayless_told e (lines.Got x y ∷ drop_lines v) G (tt, (tt, tt))
+  here_told true is = stays_told e (lines.Got x y ∷ drop_lines v) G (tt, (tt, tt))
   here_told false is =
       let others = told_askers v (less v.ways.askers (place_among v.core.parent x)) in
       let first : IsToldBy G e (lines.Got x y ∷ lines.Way y x ∷ [])
-      = told-append laws.past G e (lines.Got x y ∷ []) (lines.Way y x ∷ []) (wayless_told e (lines.Got x y ∷ []) G (tt, tt))
+      = told-append laws.past G e (lines.Got x y ∷ []) (lines.Way y x ∷ []) (stays_told e (lines.Got x y ∷ []) G (tt, tt))
       (way_told (after_line G (lines.Got x y)) e y x (unknown_way v.core.holder (way_at G y.0) is)) in
       told-append laws.past G e (lines.Got x y ∷ lines.Way y x ∷ []) (others ++ lines.Sent y x (register_of y) ∷ []) first
-      (wayless_told e (others ++ lines.Sent y x (register_of y) ∷ []) (after_lines G (lines.Got x y ∷ lines.Way y x ∷ []))
-      (wayless-append others (lines.Sent y x (register_of y) ∷ []) (wayless_askers v (less v.ways.askers (place_among v.core.parent x))) (tt, tt)))
+      (stays_told e (others ++ lines.Sent y x (register_of y) ∷ []) (after_lines G (lines.Got x y ∷ lines.Way y x ∷ []))
+      (each-append (Lacks way_parts) others (lines.Sent y x (register_of y) ∷ []) (each_told (Lacks way_parts) v (less v.ways.askers (place_among v.core.parent x)) (λ z. tt)) (tt, tt)))
 
   body_told : (body : Body) → r.body ≡ body → IsToldBy G e (lines.Got x y ∷ body_lines v x r body)
-  body_told bodies.Query is = wayless_told e (lines.Got x y ∷ body_lines v x r bodies.Query) G
-      (tt, wayless_either (knows_way v) (lines.Sent y x (here_of y) ∷ []) (lines.Asked y x ∷ []) (tt, tt) (tt, tt))
+  body_told bodies.Query is = stays_told e (lines.Got x y ∷ body_lines v x r bodies.Query) G
+      (tt, each_either (Lacks way_parts) (knows_way v) (lines.Sent y x (here_of y) ∷ []) (lines.Asked y x ∷ []) (tt, tt) (tt, tt))
   body_told bodies.Here is = here_told (knows_way v) refl
-  body_told body is = wayless_told e (lines.Got x y ∷ body_lines v x r body) G
-      (tt, all_wayless (body_lines v x r body) (calm_body v x r (ap (λ b. is_query_body b || is_here_body b) is) body refl))
+  body_told body is = stays_told e (lines.Got x y ∷ body_lines v x r body) G
+      (tt, each-weaker IsCalm (Lacks way_parts) calm_lacks (body_lines v x r body) (calm_body v x r (ap (λ b. is_query_body b || is_here_body b) is) body refl))
 
   record_told : IsToldBy G e (lines.Got x y ∷ record_lines v x r)
   record_told = by (is_stray v r)
     where
       by : (t : Bool) → IsToldBy G e (lines.Got x y ∷ cond t (drop_lines v) (body_lines v x r r.body))
-      by true = wayless_told e (lines.Got x y ∷ drop_lines v) G (tt, (tt, tt))
+      by true = stays_told e (lines.Got x y ∷ drop_lines v) G (tt, (tt, tt))
       by false = body_told r.body refl
-
--- ---- births
-
-wayless_told_lines : (child : Enclave) (heard : List Enclave) → AreWayless (told_lines child heard)
-wayless_told_lines child [] = tt
-wayless_told_lines child (d ∷ heard) = (tt, wayless_told_lines child heard)
-
-wayless_birth : (child : Enclave) (kind : Kind) (parent : Enclave) (blocks : List Block) (ns : Bool) (heard : List Enclave) (v : View)
-    → AreWayless (birth_lines child kind parent blocks ns heard ++ adopt_lines v child)
-wayless_birth child kind parent blocks ns heard v = (
-  tt,
-  wayless-append (told_lines child heard ++ child_lines child parent ns) (adopt_lines v child)
-      (wayless-append (told_lines child heard) (child_lines child parent ns) (wayless_told_lines child heard)
-      (wayless_either ns (lines.Admitted child ∷ []) (lines.Sent child parent (query_of child) ∷ []) (tt, tt) (tt, tt)))
-      (wayless_either (knows_way v) [] (lines.Sent v.me child (query_of v.me) ∷ []) tt (tt, tt)),
-)
 
 -- ---- steps
 
 step_told : (laws : DiscoveryLaws) (G : Facts) (e : ℕ) (step : Step) → MayCome G step → IsToldBy G e (written_by G step)
-step_told laws G e (Written line) may = wayless_told e (line ∷ []) G (calm_wayless line (calm_alone G line may.1), tt)
-step_told laws G e (Hosts ns blocks) may = wayless_told e (host_lines blocks ns) G (tt, wayless_either ns (lines.Admitted host ∷ []) [] (tt, tt) tt)
+step_told laws G e (Written line) may = stays_told e (line ∷ []) G (calm_lacks line (calm_alone G line may.1), tt)
+step_told laws G e (Hosts ns blocks) may = stays_told e (host_lines blocks ns) G (tt, each_either (Lacks way_parts) ns (lines.Admitted host ∷ []) [] (tt, tt) tt)
 step_told laws G e (Bears child kind parent ns blocks) may =
-    wayless_told e (birth_lines child kind parent blocks ns (G.heard parent.0) ++ adopt_lines (view_of G parent) child) G
-    (wayless_birth child kind parent blocks ns (G.heard parent.0) (view_of G parent))
+    stays_told e (birth_lines child kind parent blocks ns (G.heard parent.0) ++ adopt_lines (view_of G parent) child) G
+    (tt, each_birth (Lacks way_parts) child parent ns (G.heard parent.0) (view_of G parent) (λ d. tt) tt (λ a b. tt))
 step_told laws G e (Asks of p call) may =
-    wayless_told e (asked_lines (view_of G of) p call) G (all_wayless (asked_lines (view_of G of) p call) (calm_asked (view_of G of) p call))
-step_told laws G e (Takes x y n) may = wayless_told e (lines.Took x y n ∷ []) G (tt, tt)
+    stays_told e (asked_lines (view_of G of) p call) G (each-weaker IsCalm (Lacks way_parts) calm_lacks (asked_lines (view_of G of) p call) (calm_asked (view_of G of) p call))
+step_told laws G e (Takes x y n) may = stays_told e (lines.Took x y n ∷ []) G (tt, tt)
 step_told laws G e (Handles x y r) may = record_told laws G e x y r
 
 steps_told : (laws : DiscoveryLaws) (e : ℕ) (steps : List Step) (G : Facts) → AreSteps G steps → IsToldBy G e (written_in G steps)

@@ -20,6 +20,7 @@ use Rattle.global_model.specs.Due.{acts_of, first_waiting, journal_from, journal
 use Rattle.global_model.specs.Facts.{Facts, after_lines, facts_at}
 use Rattle.global_model.specs.Flow.{IsFlowing}
 use Rattle.global_model.specs.Journals.{Follows, command_at, deliveries_in, onto}
+use Rattle.global_model.specs.Parts.{Delivery, Lacks}
 use Rattle.global_model.specs.Place.{IsPlacedAfter, IsPlaced}
 use Rattle.global_model.specs.Refusals.{refusal_of}
 use Rattle.global_model.specs.Rest.{IsAtRest, IsRested, IsSettling, RestAt, lines_since}
@@ -30,39 +31,38 @@ use Rattle.global_model.proofs.Sound.{IsSound, sound_line}
 use Rattle.global_model.proofs.Commands.{IsReadyAfter, IsAptRun, ready_start, run_step}
 use Rattle.global_model.proofs.Tells.{MayTell, tells_bytes, tells_routes, tells_states}
 use Rattle.global_model.proofs.Pasts.{Follows-append, facts_at-onto}
-use Rattle.global_model.proofs.Settles.{IsInner, IsSettled, deliveries-append, inner_deliver, settle_flows, settled_before, settled_by}
+use Rattle.global_model.proofs.Settles.{brackets, IsSettled, deliveries-append, inner_deliver, knows_any, no_brackets, none_written, settle_flows, settled_before, settled_by}
 use Rattle.global_model.proofs.Waiting.{none_rests, rests_none}
 use Rattle.xm_num.specs.declared.Segid.{Segid}
 use Rattle.enclave_rules.specs.Hand.{Hand}
 use Rattle.enclave_rules.specs.Names.{segid_of}
 use Rattle.enclave_rules.specs.Segments.{make_acts, name_rows, remove_acts}
-use Rattle.global_model.proofs.Writes.{EachIs, KnowsNear, MayWrite, each-append, each_either, writes_make, writes_remove}
+use Rattle.global_model.proofs.Writes.{EachIs, each-append, each_either, writes_make, writes_remove}
 
--- ---- inner lines
+-- ---- lines that begin no command and end no settle
 
-rests_line : (past : List Line) (line : Line) → IsInner line → RestAt past line
+rests_line : (past : List Line) (line : Line) → Lacks brackets line → RestAt past line
 rests_line past (lines.Settled made) inner = absurd inner
-rests_line past (lines.Waiting made) inner = absurd inner
-rests_line past _ inner = tt
+rests_line past _ inner = search
 
-rests_inner : (ls past : List Line) → EachIs IsInner ls → Follows RestAt past ls
+rests_inner : (ls past : List Line) → EachIs (Lacks brackets) ls → Follows RestAt past ls
 rests_inner [] past inner = tt
 rests_inner (l ∷ ls) past inner = (rests_line past l inner.0, rests_inner ls (l ∷ past) inner.1)
 
 -- they leave the command at hand, and stand on the lines since it
-since_line : (line : Line) (past : List Line) → IsInner line → lines_since (line ∷ past) ≡ line ∷ lines_since past
+since_line : (line : Line) (past : List Line) → Lacks brackets line → lines_since (line ∷ past) ≡ line ∷ lines_since past
 since_line (lines.Do command) past inner = absurd inner
 since_line _ past inner = refl
 
-command_line : (line : Line) (past : List Line) → IsInner line → command_at (line ∷ past) ≡ command_at past
+command_line : (line : Line) (past : List Line) → Lacks brackets line → command_at (line ∷ past) ≡ command_at past
 command_line (lines.Do command) past inner = absurd inner
 command_line _ past inner = refl
 
-command_inner : (ls past : List Line) → EachIs IsInner ls → command_at (onto ls past) ≡ command_at past
+command_inner : (ls past : List Line) → EachIs (Lacks brackets) ls → command_at (onto ls past) ≡ command_at past
 command_inner [] past inner = refl
 command_inner (l ∷ ls) past inner = command_inner ls (l ∷ past) inner.1 ∙ command_line l past inner.0
 
-since_inner : (ls past : List Line) → EachIs IsInner ls
+since_inner : (ls past : List Line) → EachIs (Lacks brackets) ls
     → deliveries_in (lines_since (onto ls past)) ≡ deliveries_in ls + deliveries_in (lines_since past)
 since_inner [] past inner = omega arith
 since_inner (l ∷ ls) past inner =
@@ -70,28 +70,28 @@ since_inner (l ∷ ls) past inner =
     let here : deliveries_in (lines_since (l ∷ past)) ≡ deliveries_in (l ∷ lines_since past) = ap deliveries_in (since_line l past inner.0) in
     omega (arith, more, here, deliveries-append (l ∷ []) (lines_since past), deliveries-append (l ∷ []) ls)
 
--- ---- the lines of a command but a settle are inner ones
+-- ---- so are the lines of a command but a settle
 
-inner_map : {A : Type 0} (f : A → Line) (xs : List A) → ((x : A) → IsInner (f x)) → EachIs IsInner (map f xs)
+inner_map : {A : Type 0} (f : A → Line) (xs : List A) → ((x : A) → Lacks brackets (f x)) → EachIs (Lacks brackets) (map f xs)
 inner_map f [] each = tt
 inner_map f (x ∷ xs) each = (each x, inner_map f xs each)
 
-inner_host : (ns : Bool) → EachIs IsInner (if ns then lines.Admitted host ∷ [] else [])
-inner_host ns = each_either IsInner ns (lines.Admitted host ∷ []) [] (tt, tt) tt
+inner_host : (ns : Bool) → EachIs (Lacks brackets) (if ns then lines.Admitted host ∷ [] else [])
+inner_host ns = each_either (Lacks brackets) ns (lines.Admitted host ∷ []) [] (tt, tt) tt
 
-inner_adopt : (v : View) (child : Enclave) → EachIs IsInner (adopt_lines v child)
-inner_adopt v child = each_either IsInner (knows_way v) [] (lines.Sent v.me child (query_of v.me) ∷ []) tt (tt, tt)
+inner_adopt : (v : View) (child : Enclave) → EachIs (Lacks brackets) (adopt_lines v child)
+inner_adopt v child = each_either (Lacks brackets) (knows_way v) [] (lines.Sent v.me child (query_of v.me) ∷ []) tt (tt, tt)
 
-inner_birth : (child parent : Enclave) (ns : Bool) (heard : List Enclave) → EachIs IsInner (told_lines child heard ++ child_lines child parent ns)
+inner_birth : (child parent : Enclave) (ns : Bool) (heard : List Enclave) → EachIs (Lacks brackets) (told_lines child heard ++ child_lines child parent ns)
 inner_birth child parent ns heard =
-    each-append IsInner (told_lines child heard) (child_lines child parent ns) (inner_map (λ d. lines.Told child d) heard (λ d. tt))
-    (each_either IsInner ns (lines.Admitted child ∷ []) (lines.Sent child parent (query_of child) ∷ []) (tt, tt) (tt, tt))
+    each-append (Lacks brackets) (told_lines child heard) (child_lines child parent ns) (inner_map (λ d. lines.Told child d) heard (λ d. tt))
+    (each_either (Lacks brackets) ns (lines.Admitted child ∷ []) (lines.Sent child parent (query_of child) ∷ []) (tt, tt) (tt, tt))
 
-inner_touched : (e : Enclave) (p : Pid) (page : Vpn) (mapping : Option Mapping) → EachIs IsInner (touched_lines e p page mapping)
+inner_touched : (e : Enclave) (p : Pid) (page : Vpn) (mapping : Option Mapping) → EachIs (Lacks brackets) (touched_lines e p page mapping)
 inner_touched e p page None = tt
 inner_touched e p page (Some found) = (tt, tt)
 
-inner_tells : MayTell IsInner
+inner_tells : MayTell (Lacks brackets)
 inner_tells = record {
   bytes = λ x y at bytes some most. tt;
   own = λ e. tt;
@@ -103,29 +103,13 @@ inner_tells = record {
   held = λ b e. tt;
 }
 
-inner_writes : (v : View) → MayWrite IsInner (λ x. Unit {0}) (λ r. Unit {0}) v
-inner_writes v = record {
-  dropped = tt;
-  admitted = tt;
-  asked = λ x near. tt;
-  way = λ x near. tt;
-  back = λ d x near. tt;
-  route = λ d x near. tt;
-  drew = λ held e call segid range. tt;
-  named = λ call segid range. tt;
-  unnamed = λ held segid range. tt;
-  answered = λ p call segid range. tt;
-  sent = λ x r near good. tt;
-}
+inner_make : (hand : Hand) (v : View) (p : Pid) → EachIs (Lacks brackets) (make_acts hand v p)
+inner_make hand v p = no_brackets (make_acts hand v p)
+    (writes_make (Lacks (Delivery ∷ brackets)) (λ x. Unit {0}) (λ r. Unit {0}) v (none_written v) (knows_any v) (λ m valid. tt) (λ p call. tt) hand p)
 
-inner_knows : (v : View) → KnowsNear (λ x. Unit {0}) v
-inner_knows v = record { way = λ x is. tt; askers = λ k d lt. tt; backs = λ k d lt. tt; routes = λ k d lt. tt }
-
-inner_make : (hand : Hand) (v : View) (p : Pid) → EachIs IsInner (make_acts hand v p)
-inner_make hand v p = writes_make IsInner (λ x. Unit {0}) (λ r. Unit {0}) v (inner_writes v) (inner_knows v) (λ m valid. tt) (λ p call. tt) hand p
-
-inner_remove : (v : View) (segid : Segid) → EachIs IsInner (remove_acts v segid)
-inner_remove v segid = writes_remove IsInner (λ x. Unit {0}) (λ r. Unit {0}) v (inner_writes v) segid tt (inner_knows v) (λ m valid. tt)
+inner_remove : (v : View) (segid : Segid) → EachIs (Lacks brackets) (remove_acts v segid)
+inner_remove v segid = no_brackets (remove_acts v segid)
+    (writes_remove (Lacks (Delivery ∷ brackets)) (λ x. Unit {0}) (λ r. Unit {0}) v (none_written v) segid tt (knows_any v) (λ m valid. tt))
 
 -- ---- a settle
 
@@ -182,7 +166,7 @@ rests_acts past (commands.Boot kind parent blocks ns) sound none =
     let G = facts_at (lines.Do (commands.Boot kind parent blocks ns) ∷ past) in
     rests_inner (acts_of G (commands.Boot kind parent blocks ns)) _ (
       tt,
-      each-append IsInner (told_lines (next_enclave G) (G.heard parent.0) ++ child_lines (next_enclave G) parent ns) (adopt_lines (view_of G parent) (next_enclave G))
+      each-append (Lacks brackets) (told_lines (next_enclave G) (G.heard parent.0) ++ child_lines (next_enclave G) parent ns) (adopt_lines (view_of G parent) (next_enclave G))
           (inner_birth (next_enclave G) parent ns (G.heard parent.0)) (inner_adopt (view_of G parent) (next_enclave G)),
     )
 rests_acts past (commands.Proc e uid gid) sound none = (tt, tt)
@@ -191,8 +175,8 @@ rests_acts past (commands.Touch e p addr want) sound none = rests_inner _ _ (inn
 rests_acts past (commands.Deliver x y count) sound none = rests_inner _ _ (inner_deliver (facts_at (lines.Do (commands.Deliver x y count) ∷ past)) x y count)
 rests_acts past (commands.Settle most) sound none = rests_settle past most sound none
 rests_acts past (commands.ShowRoutes e) sound none =
-    rests_inner (route_lines (view_of (facts_at past) e)) (lines.Do (commands.ShowRoutes e) ∷ past) (tells_routes IsInner inner_tells (view_of (facts_at past) e))
-rests_acts past (commands.ShowLink x y) sound none = rests_inner _ _ (tells_bytes IsInner inner_tells x y _ 0 (waiting_in (facts_at past) x.0 y.0))
+    rests_inner (route_lines (view_of (facts_at past) e)) (lines.Do (commands.ShowRoutes e) ∷ past) (tells_routes (Lacks brackets) inner_tells (view_of (facts_at past) e))
+rests_acts past (commands.ShowLink x y) sound none = rests_inner _ _ (tells_bytes (Lacks brackets) inner_tells x y _ 0 (waiting_in (facts_at past) x.0 y.0))
 rests_acts past (commands.Make e p addr size mode) sound none =
     let H = facts_at (lines.Do (commands.Make e p addr size mode) ∷ past) in
     rests_inner (make_acts H.hand (view_of H e) p) _ (inner_make H.hand (view_of H e) p)
@@ -203,7 +187,7 @@ rests_acts past commands.ShowNames sound none =
     let G = facts_at past in
     rests_inner (name_rows (G.names G.holder.0).pairs) _ (inner_map (λ (row : ℕ × Enclave). lines.Name (segid_of row.0) row.1) (G.names G.holder.0).pairs (λ row. tt))
 rests_acts past commands.ShowPool sound none =
-    let G = facts_at past in rests_inner _ _ (tells_states IsInner inner_tells 0 (map G.block (range_with_len 0 G.pool)))
+    let G = facts_at past in rests_inner _ _ (tells_states (Lacks brackets) inner_tells 0 (map G.block (range_with_len 0 G.pool)))
 rests_acts past _ sound none = tt
 
 rests_step : (past : List Line) (c : Command) → IsSound (facts_at (lines.Do c ∷ past)) → NothingArrives (facts_at past) → Follows RestAt past (step_lines (facts_at past) c)

@@ -1,5 +1,6 @@
 -- A settle: its deliveries are those of `deliver` commands, and how it ends.
 use Rattle.std.proofs.Common.{◌≡◌, ◌+◌, ◌<◌, ◌≤◌, ℕ, zero, suc, min, List, [], ◌∷◌, ◌++◌, length, Bool, true, false, cond, eqb, leb, is_some, filter, Option, None, Some, refl, sym, ap, ◌∙◌, subst, arith, append_assoc, length-append}
+use Rattle.std.specs.Prelude.{◌==◌, ◌||◌}
 use Rattle.std.specs.Option.{option_map_or}
 use Rattle.std.proofs.lemmas.Bool.{le-leb, lt-ltb, ne_eqb}
 use Rattle.std.proofs.lemmas.List.Elements.{filter-append}
@@ -13,19 +14,18 @@ use Rattle.global_model.specs.Facts.{Facts, after_line, after_lines, facts_after
 use Rattle.global_model.specs.Channels.{is_neighbour, was_born, waiting_in, arriving}
 use Rattle.enclave_rules.specs.View.{View}
 use Rattle.global_model.specs.Views.{view_of}
-use Rattle.enclave_rules.specs.Steps.{record_lines, handled_lines}
+use Rattle.enclave_rules.specs.Steps.{handled_lines}
 use Rattle.global_model.specs.Refusals.{refusal_of}
 use Rattle.xemem_language.specs.Ranges.{IsInRange}
 use Rattle.global_model.specs.Place.{may_stand, IsPlacedAfter, IsPlaced}
 use Rattle.global_model.specs.Due.{got_lines, deliver_lines, next_rest, first_waiting, settle_end, settle_from, command_lines, journal_of, rest_of_record}
 use Rattle.global_model.specs.Journals.{is_delivery, deliveries_in}
-use Rattle.global_model.specs.Parts.{Opening, Closing, Delivery, Lacks}
+use Rattle.global_model.specs.Parts.{Part, Opening, Closing, Delivery, IsNot, Lacks, part_number, part_of, plays}
 use Rattle.global_model.specs.Flow.{IsTree, IsFlowing}
 use Rattle.global_model.specs.Rest.{IsAtRest, EndsSettle}
 use Rattle.global_model.proofs.Pasts.{after_lines-append, facts_by-more}
 use Rattle.global_model.proofs.Tree.{AllLive, live_lines, near-turned, near_born, tree_lives}
-use Rattle.global_model.proofs.Rows.{AllRows}
-use Rattle.global_model.proofs.Writes.{EachIs, each-append, each_either, writes_record}
+use Rattle.global_model.proofs.Writes.{EachIs, KnowsNear, MayWrite, each-append, each_either, writes_record}
 use Rattle.global_model.proofs.Plain.{each-weaker}
 use Rattle.global_model.specs.Apt.{NothingArrives}
 use Rattle.global_model.proofs.Sound.{IsSound, sound_line, sound_flowing}
@@ -39,54 +39,57 @@ use Rattle.global_model.proofs.Commands.{runs_after, sound_after}
 pub deliveries-append : (ls ms : List Line) → deliveries_in (ls ++ ms) ≡ deliveries_in ls + deliveries_in ms
 deliveries-append ls ms = ap length (filter-append is_delivery ls ms) ∙ length-append (filter is_delivery ls) (filter is_delivery ms)
 
--- the line neither begins a command nor ends a settle
-abbrev pub IsInner : Line → Type 0
-IsInner line = Lacks (Opening ∷ Closing ∷ []) line
+-- what begins a command, and what ends a settle
+abbrev pub brackets : List Part
+brackets = Opening ∷ Closing ∷ []
 
--- nor is it a delivery
-abbrev IsOther : Line → Type 0
-IsOther line = Lacks (Opening ∷ Closing ∷ Delivery ∷ []) line
+lacks_rest : (part : Part) (parts : List Part) (line : Line) → Lacks (part ∷ parts) line → Lacks parts line
+lacks_rest part parts line = by (part_number part == part_number (part_of line)) (plays parts (part_of line))
+  where
+    by : (first rest : Bool) → IsNot (first || rest) → IsNot rest
+    by true rest none = absurd none
+    by false rest none = none
 
-other_inner : (line : Line) → IsOther line → IsInner line
-other_inner (lines.Took x y count) other = absurd other
-other_inner (lines.End x y torn) other = absurd other
-other_inner _ other = other
+pub no_brackets : (ls : List Line) → EachIs (Lacks (Delivery ∷ brackets)) ls → EachIs (Lacks brackets) ls
+no_brackets ls none = each-weaker (Lacks (Delivery ∷ brackets)) (Lacks brackets) (lacks_rest Delivery brackets) ls none
 
-no_delivery : (line : Line) → IsOther line → is_delivery line ≡ false
-no_delivery (lines.Took x y count) other = absurd other
-no_delivery (lines.End x y torn) other = absurd other
-no_delivery _ other = refl
+no_delivery : (line : Line) → Lacks (Delivery ∷ brackets) line → is_delivery line ≡ false
+no_delivery (lines.Took x y count) none = absurd none
+no_delivery _ none = search
 
-no_deliveries : (ls : List Line) → EachIs IsOther ls → deliveries_in ls ≡ 0
+no_deliveries : (ls : List Line) → EachIs (Lacks (Delivery ∷ brackets)) ls → deliveries_in ls ≡ 0
 no_deliveries [] each = refl
 no_deliveries (l ∷ ls) each = rw (no_delivery l each.0) (no_deliveries ls each.1)
 
-others_record : (v : View) (from : Enclave) (r : Record) → EachIs IsOther (record_lines v from r)
-others_record v from r =
-    let all : (rows : List (ℕ × Enclave)) → AllRows (λ x. Unit {0}) rows = λ rows k d lt. tt in
-    writes_record IsOther (λ x. Unit {0}) (λ r. Unit {0}) v
-    (record {
-      dropped = tt;
-      admitted = tt;
-      asked = λ x near. tt;
-      way = λ x near. tt;
-      back = λ d x near. tt;
-      route = λ d x near. tt;
-      drew = λ held e call segid range. tt;
-      named = λ call segid range. tt;
-      unnamed = λ held segid range. tt;
-      answered = λ p call segid range. tt;
-      sent = λ x r near good. tt;
-    })
-    from r (record { way = λ x is. tt; askers = all v.ways.askers; backs = all v.ways.backs; routes = all v.ways.routes }) tt
-    (record { here = tt; register = tt; admit = tt; made = λ m valid. tt; passed = tt })
+-- what an enclave may write for a record or a call is no delivery, and none of these
+pub none_written : (v : View) → MayWrite (Lacks (Delivery ∷ brackets)) (λ x. Unit {0}) (λ r. Unit {0}) v
+none_written v = record {
+  dropped = tt;
+  admitted = tt;
+  asked = λ x near. tt;
+  way = λ x near. tt;
+  back = λ d x near. tt;
+  route = λ d x near. tt;
+  drew = λ held e call segid range. tt;
+  named = λ call segid range. tt;
+  unnamed = λ held segid range. tt;
+  answered = λ p call segid range. tt;
+  sent = λ x r near good. tt;
+}
 
-others_got : (G : Facts) (x y : Enclave) (rs : List Record) → EachIs IsOther (got_lines G x y rs)
-others_got G x y [] = tt
-others_got G x y (r ∷ rs) =
-    let own = handled_lines (view_of G y) x r in
-    each-append IsOther own (got_lines (after_lines G own) x y rs) (tt, others_record (view_of G y) x r)
-    (others_got (after_lines G own) x y rs)
+pub knows_any : (v : View) → KnowsNear (λ x. Unit {0}) v
+knows_any v = record { way = λ x is. tt; askers = λ k d lt. tt; backs = λ k d lt. tt; routes = λ k d lt. tt }
+
+none_got : (G : Facts) (x y : Enclave) (rs : List Record) → EachIs (Lacks (Delivery ∷ brackets)) (got_lines G x y rs)
+none_got G x y [] = tt
+none_got G x y (r ∷ rs) =
+    let v = view_of G y in
+    let own = handled_lines v x r in
+    each-append (Lacks (Delivery ∷ brackets)) own (got_lines (after_lines G own) x y rs) (
+      tt,
+      writes_record (Lacks (Delivery ∷ brackets)) (λ x. Unit {0}) (λ r. Unit {0}) v (none_written v) x r (knows_any v) tt
+          (record { here = tt; register = tt; admit = tt; made = λ m valid. tt; passed = tt }),
+    ) (none_got (after_lines G own) x y rs)
 
 -- a delivery of what waits is one
 one_delivery : (G : Facts) (x y : Enclave) (count : ℕ) → 0 < length (waiting_in G x.0 y.0)
@@ -96,16 +99,16 @@ one_delivery G x y count some =
     let n = min count waiting in
     let more : eqb waiting 0 ≡ false = ne_eqb waiting 0 (λ none. omega (arith, none, some)) in
     let H = after_line G (lines.Took x y n) in
-    rw more (ap suc (no_deliveries (got_lines H x y (arriving (H.channel x.0 y.0))) (others_got H x y (arriving (H.channel x.0 y.0)))))
+    rw more (ap suc (no_deliveries (got_lines H x y (arriving (H.channel x.0 y.0))) (none_got H x y (arriving (H.channel x.0 y.0)))))
 
--- the lines of a delivery are inner ones
-pub inner_deliver : (G : Facts) (x y : Enclave) (count : ℕ) → EachIs IsInner (deliver_lines G x y count)
+-- no line of a delivery begins a command or ends a settle
+pub inner_deliver : (G : Facts) (x y : Enclave) (count : ℕ) → EachIs (Lacks brackets) (deliver_lines G x y count)
 inner_deliver G x y count =
     let n = min count (length (waiting_in G x.0 y.0)) in
     let H = after_line G (lines.Took x y n) in
     let rs = arriving (H.channel x.0 y.0) in
-    each_either IsInner (eqb (length (waiting_in G x.0 y.0)) 0) (lines.Idle x y ∷ []) (lines.Took x y n ∷ got_lines H x y rs) (tt, tt)
-    (tt, each-weaker IsOther IsInner other_inner (got_lines H x y rs) (others_got H x y rs))
+    each_either (Lacks brackets) (eqb (length (waiting_in G x.0 y.0)) 0) (lines.Idle x y ∷ []) (lines.Took x y n ∷ got_lines H x y rs) (tt, tt)
+    (tt, no_brackets (got_lines H x y rs) (none_got H x y rs))
 
 -- ---- how a settle ends
 
@@ -113,7 +116,7 @@ inner_deliver G x y count =
 pub record IsSettled (left made : ℕ) (G : Facts) : Type 0 where
   pub before : List Line
   pub is : settle_from left made G ≡ before ++ settle_end (after_lines G before) (made + deliveries_in before) ∷ []
-  pub inner : EachIs IsInner before
+  pub inner : EachIs (Lacks brackets) before
   pub few : deliveries_in before ≤ left
   pub all : is_some (first_waiting (after_lines G before)) ≡ true → deliveries_in before ≡ left
 
@@ -148,7 +151,7 @@ settled_by (suc left) made G live = by (first_waiting G) refl (settled_by left (
           is = ap (settle_at left made G) is ∙ ap (λ ls. own ++ ls) more.is ∙ sym
               (append_assoc own more.before (settle_end (after_lines H more.before) (made + 1 + deliveries_in more.before) ∷ [])) ∙ ap
               (λ line. before ++ line ∷ []) end;
-          inner = each-append IsInner own more.before
+          inner = each-append (Lacks brackets) own more.before
               (inner_deliver G channel.0 channel.1 (next_rest G channel.0 channel.1)) more.inner;
           few = omega (arith, count, more.few);
           all = λ some. let left_is : deliveries_in more.before ≡ left = more.all
