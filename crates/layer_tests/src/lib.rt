@@ -17,6 +17,8 @@ mod names;
 #[cfg(test)]
 mod numbers;
 #[cfg(test)]
+mod permits;
+#[cfg(test)]
 mod records;
 #[cfg(test)]
 mod spaces;
