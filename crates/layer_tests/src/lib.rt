@@ -18,6 +18,7 @@ mod names;
 mod numbers;
 #[cfg(test)]
 mod pairs;
+mod permits;
 #[cfg(test)]
 mod records;
 #[cfg(test)]
