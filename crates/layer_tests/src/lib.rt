@@ -18,6 +18,7 @@ mod names;
 mod numbers;
 #[cfg(test)]
 mod pairs;
+#[cfg(test)]
 mod permits;
 #[cfg(test)]
 mod records;
