@@ -1,6 +1,8 @@
 pub mod QueueLemmas
 pub mod PairLemmas
 pub mod FrameLemmas
+pub mod FreeLemmas
+pub mod OwnerLemmas
 pub mod KeptLemmas
 pub mod LowestLemmas
 pub mod TableLemmas
