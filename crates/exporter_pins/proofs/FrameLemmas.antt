@@ -5,12 +5,14 @@ use Rattle.std.specs.List.{All, AllByRecursion}
 use Rattle.std.specs.Ordering.{nat_cmp}
 use Rattle.std.specs.declared.cmp.Ordering.TheVariants.{Less, Equal, Greater}
 use Rattle.std.proofs.lemmas.Bool.{or_cases, or_left, or_right, and_from, eqb-true, ne_eqb, eq-eqb, ltb-true, cases_eq, false_from_ne_true}
+use Rattle.std.proofs.lemmas.List.{length-map}
 use Rattle.std.proofs.lemmas.List.Elements.{All-head, All-tail}
+use Rattle.std.proofs.lemmas.List.Folds.{fold-map}
 use Rattle.std.proofs.lemmas.List.Sums.{sum_by-cons, length-filter, count_by-le-length}
 use Rattle.std.proofs.lemmas.Map.Keys.{sorted_head, sorted_tail}
 use Rattle.xm_num.specs.declared.Frame.{Frame}
 use Rattle.exporter_pins.specs.Holdings.{AreAscendingFrames, has_frame}
-use Rattle.exporter_pins.specs.Layout.{Queue, IsQueued, times, frame_times}
+use Rattle.exporter_pins.specs.Layout.{Queue, IsQueued, times, numbers, frame_times}
 
 pub less_from : (a b : ℕ) → nat_cmp a b ≡ Less → a < b
 less_from a b is = by (ltb a b) (eqb a b) refl is
@@ -20,7 +22,7 @@ less_from a b is = by (ltb a b) (eqb a b) refl is
     by false true less is = cc
     by false false less is = cc
 
-above : (a k : ℕ) (fs : List Frame) → AllByRecursion (λ y. nat_cmp a y ≡ Less) (map (λ frame. frame.0) fs) → has_frame fs k ≡ true → a < k
+pub above : (a k : ℕ) (fs : List Frame) → AllByRecursion (λ y. nat_cmp a y ≡ Less) (map (λ frame. frame.0) fs) → has_frame fs k ≡ true → a < k
 above a k [] all here = cc
 above a k (f ∷ fs) all here = elim (or_cases (f.0 == k) (has_frame fs k) here) [
   | inl same ↦ omega (arith, less_from a f.0 all.0, eqb-true f.0 k same)
@@ -28,10 +30,10 @@ above a k (f ∷ fs) all here = elim (or_cases (f.0 == k) (has_frame fs k) here)
 ]
 
 -- a frame is listed once
-none_later : (f : Frame) (fs : List Frame) → AreAscendingFrames (f ∷ fs) → has_frame fs f.0 ≡ false
+pub none_later : (f : Frame) (fs : List Frame) → AreAscendingFrames (f ∷ fs) → has_frame fs f.0 ≡ false
 none_later f fs ascends = false_from_ne_true (has_frame fs f.0) (λ here. omega (arith, above f.0 f.0 fs (sorted_head nat_cmp f.0 (map (λ frame. frame.0) fs) ascends) here))
 
-tail : (f : Frame) (fs : List Frame) → AreAscendingFrames (f ∷ fs) → AreAscendingFrames fs
+pub tail : (f : Frame) (fs : List Frame) → AreAscendingFrames (f ∷ fs) → AreAscendingFrames fs
 tail f fs ascends = sorted_tail nat_cmp f.0 (map (λ frame. frame.0) fs) ascends
 
 pub times_once : (fs : List Frame) (k : ℕ) → AreAscendingFrames fs → frame_times fs k ≡ cond (has_frame fs k) 1 0
@@ -122,7 +124,7 @@ queued_same F G fs queue same q = record {
 }
 
 -- what the queue has is a free frame
-least_of : (x k : ℕ) (items : List ℕ) → All (λ y. x ≤ y) items → 0 < times items k → x ≤ k
+pub least_of : (x k : ℕ) (items : List ℕ) → All (λ y. x ≤ y) items → 0 < times items k → x ≤ k
 least_of x k [] all some = omega arith
 least_of x k (y ∷ ys) all some = elim (cases_eq y k) [
   | inl same ↦ omega (arith, All-head (λ y. x ≤ y) y ys all)
@@ -178,3 +180,10 @@ module _ (F G : ℕ → Bool) (x : ℕ) (differ : Differ F G x) (fs : List Frame
     counted = omega (arith, q.counted, length_more F G x differ fs ascends here);
     queued = λ k. omega (arith, each k, q.queued k, counts k here);
   }
+
+-- the numbers of frames
+pub times_numbers : (fs : List Frame) (k : ℕ) → times (numbers fs) k ≡ frame_times fs k
+times_numbers fs k = fold-map (λ a x. a + cond (x == k) 1 0) (λ (frame : Frame). frame.0) 0 fs
+
+pub length_numbers : (fs : List Frame) → length (numbers fs) ≡ length fs
+length_numbers fs = length-map fs (λ frame. frame.0)

@@ -13,7 +13,6 @@ use Rattle.xm_num.specs.declared.Frame.{Frame}
 use Rattle.xm_num.specs.RowLaws.{RowLaws}
 use Rattle.xm_num.specs.Rows.{at, put, less, IsAscending}
 use Rattle.exporter_pins.specs.Holdings.{AreAscendingFrames, has_frame, is_free_frame, own_all, owned_by_others}
-use Rattle.number_pairs.specs.Pairs.{has_pair}
 use Rattle.exporter_pins.specs.Layout.{Queue, FrameUse, IsQueued, IsIndexed, times, frame_times, cover_at, has_cover, is_owner, free_in}
 use Rattle.exporter_pins.proofs.FrameLemmas.{Differ, queued_new, queued_same, queued_is, queued_less, queued_more, queued_room, taken_is, length_filter_le, less_from}
 
@@ -168,30 +167,28 @@ module _ (laws : RowLaws ℕ) where
       none_after e (d ∷ es) ascends k same = laws.before d es k (sorted_tail nat_cmp e.0 (keys_of (d ∷ es)) ascends) (omega (arith, less_from e.0 d.0 (sorted_head nat_cmp e.0 (keys_of (d ∷ es)) ascends).0))
 
   pub kept_new : (frames : List Frame) (queue : Queue) → AreAscendingFrames frames → ((k : ℕ) → times queue.items k ≡ frame_times frames k) → length queue.items ≡ length frames → length frames ≤ queue.room
-      → IsIndexed (record { frames = frames; owners = []; covers = [] }) queue []
+      → IsIndexed (record { frames = frames; owners = []; covers = [] }) queue
   kept_new frames queue ascends each long room = record {
     ascending = ascends;
     rows = no_rows;
     free = queued_new (is_free_frame [] (has_cover [])) frames queue ascends (λ k. rw (laws.none k) refl) each long room;
     owned = λ k some. absurd (let bad : IsSome {T = ℕ} None = rw (laws.none k) at some in (cc));
     covered = λ k some. absurd (let none : cover_at [] k ≡ 0 = rw (laws.none k) refl in omega arith);
-    indexed = λ pid k. rw (laws.none k) refl;
   }
 
-  module _ (u : FrameUse) (old : Queue) (pairs : List (ℕ × ℕ)) (kept : IsIndexed u old pairs) where
+  module _ (u : FrameUse) (old : Queue) (kept : IsIndexed u old) where
     abbrev Free : ℕ → Bool
     Free = is_free_frame u.owners (has_cover u.covers)
 
-    -- the queue has the same, and the pairs
-    pub kept_same : (new : Queue) (pairs' : List (ℕ × ℕ)) → length new.items ≡ length old.items → ((k : ℕ) → times new.items k ≡ times old.items k) → old.room ≤ new.room → ((p k : ℕ) → has_pair pairs' p k ≡ has_pair pairs p k)
-        → IsIndexed u new pairs'
-    kept_same new pairs' long each room same = record {
+    -- the queue has the same
+    pub kept_same : (new : Queue) → length new.items ≡ length old.items → ((k : ℕ) → times new.items k ≡ times old.items k) → old.room ≤ new.room
+        → IsIndexed u new
+    kept_same new long each room = record {
       ascending = kept.ascending;
       rows = kept.rows;
       free = record { room = omega (arith, kept.free.room); counted = long ∙ kept.free.counted; queued = λ k. each k ∙ kept.free.queued k };
       owned = kept.owned;
       covered = kept.covered;
-      indexed = λ pid k. same pid k ∙ kept.indexed pid k;
     }
 
     -- there is room for what was in the queue
@@ -221,13 +218,9 @@ module _ (laws : RowLaws ℕ) where
       pub fresh : (new : Queue) → ((k : ℕ) → times old.items k ≡ cond (x == k) 1 0 + times new.items k) → at u.owners x ≡ None
       fresh new each = (free_parts u.owners (has_cover u.covers) x (popped new each).1).0
 
-      pub no_pair : (new : Queue) → ((k : ℕ) → times old.items k ≡ cond (x == k) 1 0 + times new.items k) → (p : ℕ) → has_pair pairs p x ≡ false
-      no_pair new each p = kept.indexed p x ∙ rw (fresh new each) refl
-
-      pub kept_given : (new : Queue) (pairs' : List (ℕ × ℕ)) → length new.items + 1 ≡ length old.items → ((k : ℕ) → times old.items k ≡ cond (x == k) 1 0 + times new.items k) → new.room ≡ old.room
-          → ((p k : ℕ) → has_pair pairs' p k ≡ ((pid == p) && (x == k) || has_pair pairs p k))
-          → IsIndexed (record { frames = u.frames; owners = given; covers = u.covers }) new pairs'
-      kept_given new pairs' long each room more =
+      pub kept_given : (new : Queue) → length new.items + 1 ≡ length old.items → ((k : ℕ) → times old.items k ≡ cond (x == k) 1 0 + times new.items k) → new.room ≡ old.room
+          → IsIndexed (record { frames = u.frames; owners = given; covers = u.covers }) new
+      kept_given new long each room =
           let was = popped new each in
           record {
             ascending = kept.ascending;
@@ -238,19 +231,7 @@ module _ (laws : RowLaws ℕ) where
               | inr other ↦ kept.owned k (rw (at_other k other) at some)
             ];
             covered = kept.covered;
-            indexed = λ p k. more p k ∙ elim (cases_eq k x) [
-              | inl same ↦ rw (same, at_given, no_pair new each p, eq-eqb x x refl) (by (pid == p))
-              | inr other ↦ rw (at_other k other, ne_eqb x k (λ same. other (sym same)), kept.indexed p k) (none (pid == p) (is_owner p (at u.owners k)))
-            ];
           }
-        where
-          by : (t : Bool) → (t && true || false) ≡ t
-          by true = refl
-          by false = refl
-
-          none : (s t : Bool) → (s && false || t) ≡ t
-          none true t = refl
-          none false t = refl
 
       pub taken : (new : Queue) → ((k : ℕ) → times old.items k ≡ cond (x == k) 1 0 + times new.items k) → All (λ y. x ≤ y) old.items
           → free_in u ≡ (record { 0 = x }) ∷ free_in (record { frames = u.frames; owners = given; covers = u.covers })
@@ -278,9 +259,9 @@ module _ (laws : RowLaws ℕ) where
       pub free_room : cover_at u.covers x ≡ 0 → length old.items < old.room
       free_room none = queued_room Freed Free x (uncovered none) u.frames kept.ascending old old listed kept.free
 
-      kept_freed : (new : Queue) (pairs' : List (ℕ × ℕ)) → IsQueued u.frames Freed new → ((p k : ℕ) → has_pair pairs' p k ≡ (not ((pid == p) && (x == k)) && has_pair pairs p k))
-          → IsIndexed (record { frames = u.frames; owners = freed; covers = u.covers }) new pairs'
-      kept_freed new pairs' queued fewer =
+      kept_freed : (new : Queue) → IsQueued u.frames Freed new
+          → IsIndexed (record { frames = u.frames; owners = freed; covers = u.covers }) new
+      kept_freed new queued =
           record {
             ascending = kept.ascending;
             rows = laws.less_ascends u.owners x kept.rows;
@@ -290,23 +271,11 @@ module _ (laws : RowLaws ℕ) where
               | inr other ↦ kept.owned k (rw (at_rest k other) at some)
             ];
             covered = kept.covered;
-            indexed = λ p k. fewer p k ∙ elim (cases_eq k x) [
-              | inl same ↦ rw (same, at_freed, kept.indexed p x, has, eq-eqb x x refl) (by (pid == p))
-              | inr other ↦ rw (at_rest k other, ne_eqb x k (λ same. other (sym same)), kept.indexed p k) (all (pid == p) (is_owner p (at u.owners k)))
-            ];
           }
-        where
-          by : (t : Bool) → (not (t && true) && t) ≡ false
-          by true = refl
-          by false = refl
 
-          all : (s t : Bool) → (not (s && false) && t) ≡ t
-          all true t = refl
-          all false t = refl
-
-      pub kept_freed_covered : (pairs' : List (ℕ × ℕ)) → (cover_at u.covers x ≡ 0 → ⊥) → ((p k : ℕ) → has_pair pairs' p k ≡ (not ((pid == p) && (x == k)) && has_pair pairs p k))
-          → IsIndexed (record { frames = u.frames; owners = freed; covers = u.covers }) old pairs'
-      kept_freed_covered pairs' some fewer = kept_freed old pairs' (queued_same Free Freed u.frames old same kept.free) fewer
+      pub kept_freed_covered : (cover_at u.covers x ≡ 0 → ⊥)
+          → IsIndexed (record { frames = u.frames; owners = freed; covers = u.covers }) old
+      kept_freed_covered some = kept_freed old (queued_same Free Freed u.frames old same kept.free)
         where
           covers : has_cover u.covers x ≡ true
           covers = rw (ne_eqb (cover_at u.covers x) 0 some) refl
@@ -317,21 +286,19 @@ module _ (laws : RowLaws ℕ) where
             | inr other ↦ rw (at_rest k other) refl
           ]
 
-      pub kept_freed_queued : (new : Queue) (pairs' : List (ℕ × ℕ)) → cover_at u.covers x ≡ 0 → length new.items ≡ length old.items + 1 → ((k : ℕ) → times new.items k ≡ cond (x == k) 1 0 + times old.items k) → old.room ≤ new.room
-          → ((p k : ℕ) → has_pair pairs' p k ≡ (not ((pid == p) && (x == k)) && has_pair pairs p k))
-          → IsIndexed (record { frames = u.frames; owners = freed; covers = u.covers }) new pairs'
-      kept_freed_queued new pairs' none long each room fewer = kept_freed new pairs' (queued_more Freed Free x (uncovered none) u.frames kept.ascending old new long each room listed kept.free) fewer
+      pub kept_freed_queued : (new : Queue) → cover_at u.covers x ≡ 0 → length new.items ≡ length old.items + 1 → ((k : ℕ) → times new.items k ≡ cond (x == k) 1 0 + times old.items k) → old.room ≤ new.room
+          → IsIndexed (record { frames = u.frames; owners = freed; covers = u.covers }) new
+      kept_freed_queued new none long each room = kept_freed new (queued_more Freed Free x (uncovered none) u.frames kept.ascending old new long each room listed kept.free)
 
     -- other covers, and the same frames are free
     pub kept_covers : (covers : List (ℕ × ℕ)) → ((k : ℕ) → Free k ≡ is_free_frame u.owners (has_cover covers) k) → ((k : ℕ) → 0 < cover_at covers k → has_frame u.frames k ≡ true)
-        → IsIndexed (record { frames = u.frames; owners = u.owners; covers = covers }) old pairs
+        → IsIndexed (record { frames = u.frames; owners = u.owners; covers = covers }) old
     kept_covers covers same within = record {
       ascending = kept.ascending;
       rows = kept.rows;
       free = queued_same Free (is_free_frame u.owners (has_cover covers)) u.frames old same kept.free;
       owned = kept.owned;
       covered = within;
-      indexed = kept.indexed;
     }
 
     -- covers that differ at one frame
@@ -343,7 +310,7 @@ module _ (laws : RowLaws ℕ) where
       ]
 
       -- of a frame that a process has
-      pub kept_owned : IsSome (at u.owners x) → IsIndexed (record { frames = u.frames; owners = u.owners; covers = covers }) old pairs
+      pub kept_owned : IsSome (at u.owners x) → IsIndexed (record { frames = u.frames; owners = u.owners; covers = covers }) old
       kept_owned some = kept_covers covers same within
         where
           same : (k : ℕ) → Free k ≡ is_free_frame u.owners (has_cover covers) k
@@ -353,7 +320,7 @@ module _ (laws : RowLaws ℕ) where
           ]
 
       -- of a frame that stays covered
-      pub kept_still : 0 < cover_at u.covers x → 0 < cover_at covers x → IsIndexed (record { frames = u.frames; owners = u.owners; covers = covers }) old pairs
+      pub kept_still : 0 < cover_at u.covers x → 0 < cover_at covers x → IsIndexed (record { frames = u.frames; owners = u.owners; covers = covers }) old
       kept_still was still = kept_covers covers same within
         where
           test : (n : ℕ) → 0 < n → not (n == 0) ≡ true
@@ -378,14 +345,13 @@ module _ (laws : RowLaws ℕ) where
         uncovered_room = queued_room (is_free_frame u.owners (has_cover covers)) Free x uncovers u.frames kept.ascending old old listed kept.free
 
         pub kept_uncovered : (new : Queue) → length new.items ≡ length old.items + 1 → ((k : ℕ) → times new.items k ≡ cond (x == k) 1 0 + times old.items k) → old.room ≤ new.room
-            → IsIndexed (record { frames = u.frames; owners = u.owners; covers = covers }) new pairs
+            → IsIndexed (record { frames = u.frames; owners = u.owners; covers = covers }) new
         kept_uncovered new long each room = record {
           ascending = kept.ascending;
           rows = kept.rows;
           free = queued_more (is_free_frame u.owners (has_cover covers)) Free x uncovers u.frames kept.ascending old new long each room listed kept.free;
           owned = kept.owned;
           covered = within;
-          indexed = kept.indexed;
         }
 
   -- frames that were free had no process

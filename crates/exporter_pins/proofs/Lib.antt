@@ -1,5 +1,7 @@
 pub mod QueueLemmas
 pub mod FrameLemmas
+pub mod FreeLemmas
+pub mod OwnerLemmas
 pub mod KeptLemmas
 pub mod LowestLemmas
 pub mod TableLemmas

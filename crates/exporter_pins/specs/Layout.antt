@@ -1,5 +1,5 @@
 -- What is kept beside the frames and the exports, and how it goes with them.
-use Rattle.std.specs.Prelude.{◌≡◌, ◌<◌, ◌≤◌, ℕ, nat_lt, nat_le, ◌==◌, Bool, true, false, not, ◌&&◌, List, length, Option, None, Some, IsSome, is_some, if◌then◌else◌}
+use Rattle.std.specs.Prelude.{◌≡◌, ◌<◌, ◌≤◌, ℕ, nat_lt, nat_le, ◌==◌, Bool, true, false, not, ◌&&◌, ◌/◌, List, [], ◌∷◌, length, map, get_or, Option, None, Some, IsSome, is_some, if◌then◌else◌}
 use Rattle.std.specs.List.{count_by, sum_by, filter}
 use Rattle.std.specs.Map.{lookup, values_of}
 use Rattle.std.specs.Option.{unwrap_or}
@@ -21,6 +21,10 @@ pub record Names : Type 0 where
 -- how often the number stands in the list
 abbrev pub times : List ℕ → ℕ → ℕ
 times xs k = count_by (λ x. x == k) xs
+
+-- the numbers of the frames
+abbrev pub numbers : List Frame → List ℕ
+numbers frames = map (λ frame. frame.0) frames
 
 -- what has that name
 abbrev pub name_at : List (ℕ × ℕ) → ℕ → Option ℕ
@@ -47,6 +51,43 @@ abbrev pub is_owner : ℕ → Option ℕ → Bool
 is_owner pid None = false
 is_owner pid (Some owner) = owner == pid
 
+-- the process that has the frame at that place
+abbrev pub owner_at : List (Option ℕ) → ℕ → Option ℕ
+owner_at slots i = get_or slots i None
+
+-- the rows, and one before them where there is an owner
+abbrev pub with_row : ℕ → Option ℕ → List (ℕ × ℕ) → List (ℕ × ℕ)
+with_row k None rows = rows
+with_row k (Some pid) rows = (k, pid) ∷ rows
+
+-- the process that has each frame, by the frames' numbers, from what stands at the frames' places
+abbrev pub owner_rows : List Frame → List (Option ℕ) → List (ℕ × ℕ)
+owner_rows [] slots = []
+owner_rows (f ∷ frames) [] = []
+owner_rows (f ∷ frames) (owner ∷ slots) = with_row f.0 owner (owner_rows frames slots)
+
+-- all frames, and the process that has each
+pub record OwnerTable : Type 0 where
+  pub frames : List Frame
+  pub rows : List (ℕ × ℕ)
+
+-- the process has a frame at a place of that group of 64
+pub record HasPlace (slots : List (Option ℕ)) (pid group : ℕ) : Type 0 where
+  pub place : ℕ
+  pub within : place / 64 ≡ group
+  pub here : owner_at slots place ≡ Some pid
+
+-- the pairs are the processes and the groups in which they have frames
+pub record AreGrouped (slots : List (Option ℕ)) (groups : List (ℕ × ℕ)) : Type 0 where
+  pub listed : (i pid : ℕ) → owner_at slots i ≡ Some pid → has_pair groups pid (i / 64) ≡ true
+  pub exact : (pid group : ℕ) → has_pair groups pid group ≡ true → HasPlace slots pid group
+
+-- each frame has a place, and what process has which groups goes with that
+pub record AreOwned (frames : List Frame) (slots : List (Option ℕ)) (groups : List (ℕ × ℕ)) : Type 0 where
+  pub ascending : AreAscendingFrames frames
+  pub long : length slots ≡ length frames
+  pub grouped : AreGrouped slots groups
+
 -- the free ones of these frames
 abbrev pub free_in : FrameUse → List Frame
 free_in u = free_among u.frames u.owners (has_cover u.covers)
@@ -57,14 +98,13 @@ pub record IsQueued (frames : List Frame) (free : ℕ → Bool) (queue : Queue) 
   pub counted : length queue.items ≡ length (filter (λ frame. free frame.0) frames)
   pub queued : (k : ℕ) → times queue.items k ≡ (if has_frame frames k && free k then 1 else 0)
 
--- what is kept with the frames: the free ones in a queue, and those of each process as pairs
-pub record IsIndexed (u : FrameUse) (queue : Queue) (pairs : List (ℕ × ℕ)) : Type 0 where
+-- what is kept with the frames: the free ones in a queue
+pub record IsIndexed (u : FrameUse) (queue : Queue) : Type 0 where
   pub ascending : AreAscendingFrames u.frames
   pub rows : IsAscending u.owners
   pub free : IsQueued u.frames (is_free_frame u.owners (has_cover u.covers)) queue
   pub owned : (k : ℕ) → IsSome (at u.owners k) → has_frame u.frames k ≡ true
   pub covered : (k : ℕ) → 0 < cover_at u.covers k → has_frame u.frames k ≡ true
-  pub indexed : (pid k : ℕ) → has_pair pairs pid k ≡ is_owner pid (at u.owners k)
 
 -- how often exports have the frame
 abbrev pub cover_sum : List (ℕ × Export) → ℕ → ℕ

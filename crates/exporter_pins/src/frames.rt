@@ -3,12 +3,11 @@ ghost use Rattle.std.specs.Prelude.{◌≡◌, ℕ, ◌+◌, ◌<◌, ◌≤◌,
 ghost use Rattle.xm_num.specs.Rows as rows;
 ghost use Rattle.exporter_pins.specs.Holdings.{AreAscendingFrames, has_frame, own_all, owned_by_others};
 ghost use Rattle.exporter_pins.specs.Layout.{free_in, cover_at, has_cover, times, frame_times, is_owner};
-ghost use Rattle.number_pairs.specs.Pairs.{has_pair};
 
 use crate::ExportFault;
-use crate::queue::LowestFirst;
+use crate::free::FreeFrames;
+use crate::owners::Owners;
 use crate::rows::Rows;
-use number_pairs::Pairs;
 use std::alloc::{AllocError, Global};
 use std::marker::Model;
 use xm_num::laws::row_laws;
@@ -18,13 +17,10 @@ use xm_num::{Frame, FrameList, Pid};
 #[derive(Drop)]
 pub struct FrameTable {
     alloc: Global,
-    frames: FrameList,
-    owners: Rows<u32>,
-    // The frames of each process.
-    owned: Pairs,
+    owners: Owners,
     // How many exports have each frame that some have.
     covers: Rows<u64>,
-    free: LowestFirst,
+    free: FreeFrames,
 }
 
 impl Model for FrameTable {
@@ -32,9 +28,9 @@ impl Model for FrameTable {
 
     ghost Value = { FrameUse };
 
-    ghost view = { λ t. record { frames = t.frames; owners = t.owners; covers = t.covers } };
+    ghost view = { λ t. record { frames = t.owners.frames; owners = t.owners.rows; covers = t.covers } };
 
-    ghost invariant = { λ t. IsIndexed (record { frames = t.frames; owners = t.owners; covers = t.covers }) t.free t.owned };
+    ghost invariant = { λ t. IsIndexed (record { frames = t.owners.frames; owners = t.owners.rows; covers = t.covers }) t.free };
 }
 
 // How many exports have the frame.
@@ -44,60 +40,18 @@ fn cover(covers: &Rows<u64>, number: u32) -> u64
     covers.get(number).unwrap_or(0)
 }
 
-// Gives a frame that no process has to a process. For want of memory nothing changes.
-fn give(owners: &mut Rows<u32>, owned: &mut Pairs, number: u32, pid: u32) -> Result<(), AllocError>
-    requires { has_pair owned.old pid number ≡ false }
-    ensures ok { OnOk result (owners.new ≡ rows.put owners.old number pid) }
-    ensures ok_pairs { OnOk result ((p k : ℕ) → has_pair owned.new p k ≡ ((pid == p) && (number == k) || has_pair owned.old p k)) }
-    ensures err { OnErr result (owners.new ≡ owners.old) }
-    ensures err_pairs { OnErr result ((p k : ℕ) → has_pair owned.new p k ≡ has_pair owned.old p k) }
-{
-    owned.insert(pid, number)?;
-    if let Err(error) = owners.insert(number, pid) {
-        owned.remove(pid, number);
-        return Err(error);
-    }
-    Ok(())
-}
-
-// All frames, listed, and in a queue.
-fn queue_all(
-    frames: &[Frame],
-    list: &mut FrameList,
-    queue: &mut LowestFirst,
-) -> Result<(), AllocError>
-    requires room { length frames.now ≤ queue.old.room }
-    requires none { list.old ≡ [] }
-    requires empty { queue.old.items ≡ [] }
-    ensures list { OnOk result (list.new ≡ frames.now) }
-    ensures len { OnOk result (length queue.new.items ≡ length frames.now) }
-    ensures times { OnOk result ((k : ℕ) → times queue.new.items k ≡ frame_times frames.now k) }
-    ensures room { OnOk result (queue.old.room ≤ queue.new.room) }
-{
-    for frame in frames {
-        list.push(*frame)?;
-        queue.push(frame.0);
-    }
-    Ok(())
-}
-
 impl FrameTable {
     // The frames, all of them free.
     pub fn new(alloc: Global, frames: &[Frame]) -> Result<FrameTable, AllocError>
         requires { AreAscendingFrames frames.now }
         ensures { IfOk result (λ table. table ≡ record { frames = frames.now; owners = []; covers = [] }) }
     {
-        let mut list = FrameList::new(alloc);
-        let mut free = LowestFirst::with_room(alloc, frames.len())?;
-        queue_all(frames, &mut list, &mut free)?;
         row_laws::<u32>();
         Ok(FrameTable {
             alloc,
-            frames: list,
-            owners: Rows::new(alloc),
-            owned: Pairs::new(alloc),
+            owners: Owners::new(alloc, frames)?,
             covers: Rows::new(alloc),
-            free,
+            free: FreeFrames::new(alloc, frames)?,
         })
     }
 
@@ -140,7 +94,7 @@ impl FrameTable {
         let Some(number) = self.free.pop() else {
             return Err(AllocError);
         };
-        if let Err(error) = give(&mut self.owners, &mut self.owned, number, pid.0) {
+        if let Err(error) = self.owners.insert(number, pid.0) {
             self.free.push(number);
             return Err(error);
         }
@@ -157,8 +111,7 @@ impl FrameTable {
         ensures was_ascending { rows.IsAscending self.old.owners }
     {
         row_laws::<u32>();
-        self.owners.remove(frame.0);
-        self.owned.remove(pid.0, frame.0);
+        self.owners.remove(frame.0, pid.0);
         if cover(&self.covers, frame.0) == 0 {
             self.free.push(frame.0);
         }
@@ -294,7 +247,7 @@ impl FrameTable {
         ensures covers { self.new.covers ≡ self.old.covers }
     {
         row_laws::<u32>();
-        while let Some(number) = self.owned.next(pid.0, None) {
+        while let Some(number) = self.owners.next_of(pid.0) {
             self.free(pid, Frame(number));
         }
     }

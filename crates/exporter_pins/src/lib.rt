@@ -12,7 +12,9 @@ ghost use Rattle.exporter_pins.specs.Holdings.{Export};
 
 mod exported;
 mod frames;
+mod free;
 mod names;
+mod owners;
 mod queue;
 mod row;
 mod rows;

@@ -1,5 +1,5 @@
 // Numbers of which the lowest comes first.
-ghost use Rattle.std.specs.Prelude.{◌≡◌, ℕ, ◌+◌, ◌<◌, ◌≤◌, ◌==◌, ◌↔◌, [], length, IsSome, IfSome, IfNone, IfOk, All, if◌then◌else◌};
+ghost use Rattle.std.specs.Prelude.{◌≡◌, ℕ, ◌+◌, ◌<◌, ◌≤◌, ◌==◌, ◌↔◌, ◌^◌, [], length, IsSome, IfSome, IfNone, IfOk, All, if◌then◌else◌};
 ghost use Rattle.exporter_pins.specs.Layout.{times};
 
 use std::alloc::{AllocError, Global};
@@ -39,9 +39,10 @@ impl LowestFirst {
 
     // How many items there are.
     pub fn len(&self) -> usize
-        ensures { result ≡ length self.now.items }
+        ensures count { result ≡ length self.now.items }
+        ensures small { result < 2 ^ 63 }
     {
-        self.heap.len()
+        self.heap.as_slice().len()
     }
 
     // Adds an item, for which there is room.
@@ -52,6 +53,16 @@ impl LowestFirst {
         ensures room { self.old.room ≤ self.new.room }
     {
         let _ = self.heap.push(Reverse(item));
+    }
+
+    // The lowest item.
+    pub fn lowest(&self) -> Option<u32>
+        ensures here { IfSome result (λ item. 0 < times self.now.items item) }
+        ensures least { IfSome result (λ item. All (λ x. item ≤ x) self.now.items) }
+        ensures none { IfNone result (self.now.items ≡ []) }
+    {
+        let Reverse(item) = self.heap.peek()?;
+        Some(*item)
     }
 
     // Takes out the lowest item.

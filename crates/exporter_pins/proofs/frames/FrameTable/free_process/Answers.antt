@@ -1,18 +1,18 @@
-use Rattle.std.proofs.Common.{◌≡◌, refl, ◌<◌, length, sym, ◌∙◌, Some}
+use Rattle.std.proofs.Common.{◌≡◌, ◌<◌, length, sym, ◌∙◌, Some}
 use Rattle.xm_num.specs.Rows.{at}
 use Rattle.exporter_pins.specs.Holdings.{owned_by_others}
-use Rattle.exporter_pins.proofs.KeptLemmas.{owner_is, others_less, others_all, length_less}
+use Rattle.exporter_pins.proofs.KeptLemmas.{others_less, others_all, length_less}
 use Rattle.exporter_pins.proofs.frames.FrameTable.free_process.Goals as goal
 
 pub loop-number-smaller : goal.loop-number-smaller
 loop-number-smaller c =
-    let has : at c.loop-number.self.owners c.in-Some.number ≡ Some c.args.pid.0 = rw (← c.self.view_is) (owner_is c.args.pid.0 _ (sym (c.self.invariant.indexed c.args.pid.0 c.in-Some.number) ∙ c.in-Some.ensures.here)) in
+    let has : at c.loop-number.self.owners c.in-Some.number ≡ Some c.args.pid.0 = rw (← c.self.view_is) c.in-Some.ensures.here in
     let fewer : length c.free.new.self.owners < length c.loop-number.self.owners = rw c.free.ensures.owners (length_less c.args.pid.0 c.loop-number.self.owners c.in-Some.number has) in
     fewer
 
 pub loop-number-preserved : goal.loop-number-preserved
 loop-number-preserved c =
-    let has : at c.loop-number.self.owners c.in-Some.number ≡ Some c.args.pid.0 = rw (← c.self.view_is) (owner_is c.args.pid.0 _ (sym (c.self.invariant.indexed c.args.pid.0 c.in-Some.number) ∙ c.in-Some.ensures.here)) in
+    let has : at c.loop-number.self.owners c.in-Some.number ≡ Some c.args.pid.0 = rw (← c.self.view_is) c.in-Some.ensures.here in
     record {
       owners = rw c.free.ensures.owners (others_less c.args.pid.0 c.loop-number.self.owners c.in-Some.number has) ∙ c.loop-number.invariant.owners;
       frames = c.free.ensures.frames ∙ c.loop-number.invariant.frames;
@@ -22,5 +22,5 @@ loop-number-preserved c =
 pub returns-clause-owners : goal.returns-clause-owners
 returns-clause-owners c =
     let all : owned_by_others c.args.pid.0 c.loop-number.self.owners ≡ c.loop-number.self.owners =
-    rw (← c.self.view_is) (others_all c.row_laws.ensures c.args.pid.0 c.self.inside.owners c.self.invariant.rows (λ k. sym (c.self.invariant.indexed c.args.pid.0 k) ∙ c.in_default.ensures.none k refl)) in
+    rw (← c.self.view_is) (others_all c.row_laws.ensures c.args.pid.0 c.self.inside.owners.rows c.self.invariant.rows c.in_default.ensures.none) in
     sym all ∙ c.loop-number.invariant.owners
