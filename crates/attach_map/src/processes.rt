@@ -12,6 +12,11 @@ use std::marker::Model;
 use xm_num::laws::row_laws;
 use xm_num::{CallNo, Frame, Vpn};
 
+// The place of a process that none before it left: numbers are drawn one by one, from 1 on.
+fn first_place(pid: u32) -> usize {
+    pid.wrapping_sub(1) as usize
+}
+
 // Processes in the order of their numbers. They can't be let go: `close` ends them.
 pub struct Processes<A: AddressSpace> {
     map: IndexMap<u32, Process<A>>,
@@ -44,7 +49,10 @@ impl<A: AddressSpace> Processes<A> {
         ensures value { option_copied result ≡ rows.at self.now pid }
         ensures ascending { rows.IsAscending self.now }
     {
-        self.map.get(&pid)
+        match self.map.get_index(first_place(pid)) {
+            Some((number, process)) if *number == pid => Some(process),
+            _ => self.map.get(&pid),
+        }
     }
 
     // Puts a process behind the others. For want of memory it is closed, and they stay as they were.

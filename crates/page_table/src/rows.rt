@@ -1,5 +1,5 @@
 // A table as rows: what stands at each number, in ascending order.
-ghost use Rattle.std.specs.Prelude.{◌≡◌, ◌+◌, ◌^◌, ◌<◌, ◌≤◌, [], OnOk, OnErr};
+ghost use Rattle.std.specs.Prelude.{◌≡◌, ◌+◌, ◌^◌, ◌<◌, ◌≤◌, [], true, None, OnOk, OnErr};
 ghost use Rattle.xm_num.specs.Rows as spec;
 ghost use Rattle.page_table.specs.Spaces.{AreWithin, IsFirstGap};
 
@@ -67,12 +67,27 @@ impl<V: Copy> Rows<V> {
         let _ = self.items.remove(&number);
     }
 
+    // Whether every number that has a row is below that one. The last row tells without a search, and pages are mostly mapped
+    // behind all others.
+    fn are_below(&self, number: u32) -> bool
+        ensures none { result ≡ true → spec.next_from self.now number ≡ None }
+        ensures ascending { spec.IsAscending self.now }
+    {
+        match self.items.last_key_value() {
+            Some((last, _)) => *last < number,
+            None => true,
+        }
+    }
+
     // The lowest number from `low` on and below `high` that has a row.
     pub fn lowest_in(&self, low: u32, high: u32) -> Option<u32>
         requires { low ≤ high }
         ensures lowest { result ≡ spec.lowest_in self.now low high }
         ensures ascending { spec.IsAscending self.now }
     {
+        if self.are_below(low) {
+            return None;
+        }
         let (number, _) = self.items.range(low..high).next()?;
         Some(*number)
     }
@@ -82,6 +97,9 @@ impl<V: Copy> Rows<V> {
         ensures next { result ≡ spec.next_from self.now low }
         ensures ascending { spec.IsAscending self.now }
     {
+        if self.are_below(low) {
+            return None;
+        }
         let (number, _) = self.items.range(low..).next()?;
         Some(*number)
     }

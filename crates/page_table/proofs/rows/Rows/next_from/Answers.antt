@@ -1,4 +1,4 @@
-use Rattle.std.proofs.Common.{ℕ, ◌∙◌}
+use Rattle.std.proofs.Common.{ℕ, sym, ◌∙◌}
 use Rattle.std.specs.Prelude.{nat_le}
 use Rattle.xm_num.specs.Rows.{next_from}
 use Rattle.page_table.proofs.FirstLemmas.{is_from, no_key, first_key}
@@ -15,3 +15,6 @@ unfolding next_from
 returns-clause-next g c =
     rw (← c.self.view_is)
     (first_key _ (λ (k : ℕ). nat_le c.args.low k) (is_from c.args.low) c.self.inside.items.entries c.range.result c.next.new.self _ (c.range.ensures.between tt) c.in_ok-number.ensures.steps)
+
+pub returns-then-are_below-clause-next : goal.returns-then-are_below-clause-next
+returns-then-are_below-clause-next g c = sym (c.are_below.ensures.none c.if-are_below.true)
