@@ -1,0 +1,3 @@
+pub mod Tables
+pub mod NameLemmas
+pub mod RowLemmas

@@ -49,19 +49,19 @@ is_named rows segid = list_any (λ row. is_of segid row.1) rows
 unfoldable pub is_holder : {V : Type 0} → Holding V → ℤ → ℕ → Bool
 is_holder rows segid to = list_any (λ row. (row.0.0 == to) && is_of segid row.1) rows
 
--- of the enclaves not below `from` it is the least that has a row of the segid
-pub record IsNextHolder {V : Type 0} (rows : Holding V) (segid : ℤ) (from to : ℕ) : Type 0 where
-  pub from : from ≤ to
+-- of the enclaves from `low` on it is the least that has a row of the segid
+pub record IsNextHolder {V : Type 0} (rows : Holding V) (segid : ℤ) (low to : ℕ) : Type 0 where
+  pub from : low ≤ to
   pub here : is_holder rows segid to ≡ true
-  pub least : (e : ℕ) → from ≤ e → is_holder rows segid e ≡ true → to ≤ e
+  pub least : (e : ℕ) → low ≤ e → is_holder rows segid e ≡ true → to ≤ e
 
 -- it is the least call by which the enclave holds something
 pub record IsLeastCall {V : Type 0} (rows : Holding V) (to call : ℕ) : Type 0 where
   pub here : IsSome (held rows to call)
   pub least : (c : ℕ) → IsSome (held rows to c) → call ≤ c
 
--- of the rows whose names aren't below this one it is the least
-pub record IsNextRow {V : Type 0} (rows : Holding V) (from name : ℕ × ℕ) (h : Held V) : Type 0 where
-  pub from : IsLeBy name_order from name
+-- of the rows from the name `low` on it is the least
+pub record IsNextRow {V : Type 0} (rows : Holding V) (low name : ℕ × ℕ) (h : Held V) : Type 0 where
+  pub from : IsLeBy name_order low name
   pub here : held rows name.0 name.1 ≡ Some h
-  pub least : (e c : ℕ) → IsLeBy name_order from (e, c) → IsSome (held rows e c) → IsLeBy name_order name (e, c)
+  pub least : (e c : ℕ) → IsLeBy name_order low (e, c) → IsSome (held rows e c) → IsLeBy name_order name (e, c)

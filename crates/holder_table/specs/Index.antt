@@ -20,11 +20,11 @@ abbrev pub is_held_of : {V : Type 0} → ℤ → Option (Held V) → Bool
 is_held_of segid None = false
 is_held_of segid (Some h) = is_of segid h
 
--- of the enclaves not below `from` it is the least that has a name at the segid
-pub record IsNextIndexed (keys : List (ℤ × (ℕ × ℕ))) (segid : ℤ) (from to : ℕ) : Type 0 where
-  pub from : from ≤ to
+-- of the enclaves from `low` on it is the least that has a name at the segid
+pub record IsNextIndexed (keys : List (ℤ × (ℕ × ℕ))) (segid : ℤ) (low to : ℕ) : Type 0 where
+  pub from : low ≤ to
   pub here : (call : ℕ) × (is_indexed keys segid to call ≡ true)
-  pub least : (e c : ℕ) → from ≤ e → is_indexed keys segid e c ≡ true → to ≤ e
+  pub least : (e c : ℕ) → low ≤ e → is_indexed keys segid e c ≡ true → to ≤ e
 
 -- the names ascend, and each stands in the index at the segid of its row and nowhere else
 pub record AreKept {V : Type 0} (rows : Holding V) (keys : List (ℤ × (ℕ × ℕ))) : Type 0 where

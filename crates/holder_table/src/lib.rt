@@ -13,7 +13,6 @@ mod index;
 pub mod laws;
 
 use index::Index;
-use laws::holder_laws;
 use std::alloc::{AllocError, Global};
 use std::collections::BTreeMap;
 use std::marker::Model;
@@ -55,7 +54,6 @@ impl<V: Copy> Holders<V> {
     pub fn new(alloc: Global) -> Holders<V>
         ensures { result ≡ [] }
     {
-        holder_laws::<V>();
         Holders {
             rows: BTreeMap::new(alloc),
             index: Index::new(alloc),
@@ -75,7 +73,6 @@ impl<V: Copy> Holders<V> {
         ensures err { OnErr result (self.new ≡ self.old) }
         ensures was_ascending { IsAscending self.old }
     {
-        holder_laws::<V>();
         self.index.insert(segid, to, call)?;
         if let Err(error) = self.rows.insert((to.0, call.0), Held { segid, value }) {
             self.index.remove(segid, to, call);
@@ -105,7 +102,6 @@ impl<V: Copy> Holders<V> {
         ensures rows { self.new ≡ without_held self.old to.0 call.0 }
         ensures was_ascending { IsAscending self.old }
     {
-        holder_laws::<V>();
         let Some(held) = self.rows.remove(&(to.0, call.0)) else {
             return false;
         };
@@ -118,7 +114,6 @@ impl<V: Copy> Holders<V> {
         ensures least { IfSome result (λ to. IsNextHolder self.now segid.0 from.0 to.0) }
         ensures none { IfNone result ((e : ℕ) → from.0 ≤ e → is_holder self.now segid.0 e ≡ false) }
     {
-        holder_laws::<V>();
         self.index.next(segid, from)
     }
 
@@ -126,7 +121,6 @@ impl<V: Copy> Holders<V> {
     pub fn is_named(&self, segid: Segid) -> bool
         ensures { result ≡ spec.is_named self.now segid.0 }
     {
-        holder_laws::<V>();
         self.next_holder(segid, Enclave(0)).is_some()
     }
 
@@ -157,7 +151,6 @@ impl<V: Copy> Holders<V> {
         ensures rows { self.new ≡ without_enclave self.old gone.0 }
         ensures was_ascending { IsAscending self.old }
     {
-        holder_laws::<V>();
         while let Some(call) = self.lowest(gone) {
             let _ = self.remove(gone, call);
         }
