@@ -1,3 +1,5 @@
-pub mod Tables
+pub mod HolderLemmas
+pub mod IndexLemmas
 pub mod NameLemmas
 pub mod RowLemmas
+pub mod Tables

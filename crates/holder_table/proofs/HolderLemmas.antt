@@ -1,0 +1,182 @@
+-- Rows and their index: what a change leaves, and which row or enclave comes first.
+use Rattle.std.proofs.Common.{◌≡◌, ◌≤◌, ℕ, ℤ, Bool, true, false, not, ◌&&◌, ◌||◌, List, [], ◌∷◌, None, Some, refl, sym, ap, ◌∙◌, subst, true≢false, arith, eq-eqb}
+use Rattle.std.specs.Prelude.{◌==◌, ⊤, Option, IsSome, IfSome, slice_get, if◌then◌else◌}
+use Rattle.std.specs.List.{list_any}
+use Rattle.std.specs.Ordering.{int_eq}
+use Rattle.std.specs.BTreeMap.{BTreeMap, get}
+use Rattle.std.specs.BTreeMap.Range.{IsLeBy, IsRangeOf}
+use Rattle.std.specs.declared.ops.Bound.TheVariants.{Included, Unbounded}
+use Rattle.std.proofs.lemmas.Bool.{and_parts, and_from, eqb-true, false_from_ne_true}
+use Rattle.xm_num.specs.declared.Segid.{Segid}
+use Rattle.holder_table.specs.declared.Held.{Held}
+use Rattle.holder_table.specs.Holding.{Holding, IsAscending, IsLeastCall, IsNextHolder, IsNextRow, name_order, held, is_holder, is_named, is_of, with_held, without_enclave, without_held}
+use Rattle.holder_table.specs.Index.{AreKept, IsNextIndexed, is_held_of, is_indexed}
+use Rattle.holder_table.proofs.NameLemmas.{up_to_enclave, up_to_call, from_enclave}
+use Rattle.holder_table.proofs.RowLemmas.{held_with, held_without, held_of_others, with_ascends, without_ascends, others_ascend, same_rows, found, seen}
+
+-- what stands under one name, where a test tells whether that is the name
+module _ (x t : Bool) where
+  put_there : (was : Bool) → (t ≡ true → was ≡ false) → (b : Bool) → b ≡ (if t then x else was) → (x && t || was) ≡ b
+  put_there was none b is = by x t none ∙ sym is
+    where
+      by : (x t : Bool) → (t ≡ true → was ≡ false) → (x && t || was) ≡ (if t then x else was)
+      by true true none = refl
+      by true false none = refl
+      by false true none = none refl
+      by false false none = refl
+
+  taken_there : (was : Bool) → (t ≡ true → was ≡ x) → (not (x && t) && was) ≡ (if t then false else was)
+  taken_there was its = by x t its
+    where
+      by : (x t : Bool) → (t ≡ true → was ≡ x) → (not (x && t) && was) ≡ (if t then false else was)
+      by true true its = refl
+      by true false its = refl
+      by false true its = its refl
+      by false false its = refl
+
+module _ {V : Type 0} (rows : Holding V) (keys : List (Segid × (ℕ × ℕ))) (kept : AreKept rows keys) where
+  at_name : (to call e c : ℕ) (was : Option (Held V)) → held rows to call ≡ was → ((to == e) && (call == c)) ≡ true → held rows e c ≡ was
+  at_name to call e c was there is =
+      let parts = and_parts (to == e) (call == c) is in
+      let enclave : e ≡ to = sym (eqb-true to e parts.0) in
+      let number : c ≡ call = sym (eqb-true call c parts.1) in
+      ap (λ q. held rows q c) enclave ∙ ap (held rows to) number ∙ there
+
+  pub kept_with : (to call : ℕ) (h : Held V) (new : List (Segid × (ℕ × ℕ))) → held rows to call ≡ None
+      → ((s : Segid) (e c : ℕ) → is_indexed new s e c ≡ (int_eq h.segid.0 s.0 && ((to == e) && (call == c)) || is_indexed keys s e c))
+      → AreKept (with_held rows to call h) new
+  kept_with to call h new none changed = record { ascending = with_ascends rows to call h kept.ascending; indexed = indexed }
+    where
+      indexed : (s : Segid) (e c : ℕ) → is_indexed new s e c ≡ is_held_of s.0 (held (with_held rows to call h) e c)
+      indexed s e c =
+          changed s e c
+          ∙ ap (λ b. int_eq h.segid.0 s.0 && ((to == e) && (call == c)) || b) (kept.indexed s e c)
+          ∙ put_there (int_eq h.segid.0 s.0) ((to == e) && (call == c)) (is_held_of s.0 (held rows e c)) (λ is. ap (is_held_of s.0) (at_name to call e c None none is))
+              (is_held_of s.0 (held (with_held rows to call h) e c)) (ap (is_held_of s.0) (held_with rows to call e c h) ∙ by ((to == e) && (call == c)) (held rows e c))
+        where
+          by : (t : Bool) (was : Option (Held V)) → is_held_of s.0 (if t then Some h else was) ≡ (if t then int_eq h.segid.0 s.0 else is_held_of s.0 was)
+          by true was = refl
+          by false was = refl
+
+  pub kept_without : (to call : ℕ) (h : Held V) (new : List (Segid × (ℕ × ℕ))) → held rows to call ≡ Some h
+      → ((s : Segid) (e c : ℕ) → is_indexed new s e c ≡ (not (int_eq h.segid.0 s.0 && ((to == e) && (call == c))) && is_indexed keys s e c))
+      → AreKept (without_held rows to call) new
+  kept_without to call h new there changed = record { ascending = without_ascends rows to call kept.ascending; indexed = indexed }
+    where
+      indexed : (s : Segid) (e c : ℕ) → is_indexed new s e c ≡ is_held_of s.0 (held (without_held rows to call) e c)
+      indexed s e c =
+          changed s e c
+          ∙ ap (λ b. not (int_eq h.segid.0 s.0 && ((to == e) && (call == c))) && b) (kept.indexed s e c)
+          ∙ taken_there (int_eq h.segid.0 s.0) ((to == e) && (call == c)) (is_held_of s.0 (held rows e c)) (λ is. ap (is_held_of s.0) (at_name to call e c (Some h) there is))
+          ∙ by ((to == e) && (call == c)) (held rows e c)
+          ∙ sym (ap (is_held_of s.0) (held_without rows to call e c kept.ascending))
+        where
+          by : (t : Bool) (was : Option (Held V)) → (if t then false else is_held_of s.0 was) ≡ is_held_of s.0 (if t then None else was)
+          by true was = refl
+          by false was = refl
+
+  holds : (segid : ℤ) (e c : ℕ) → is_held_of segid (held rows e c) ≡ true → is_holder rows segid e ≡ true
+  unfolding is_holder
+  holds segid e c is = by (held rows e c) refl is
+    where
+      by : (was : Option (Held V)) → held rows e c ≡ was → is_held_of segid was ≡ true → list_any (λ row. (row.0.0 == e) && is_of segid row.1) rows ≡ true
+      by None there is = cc
+      by (Some h) there is = found (λ row. (row.0.0 == e) && is_of segid row.1) rows e c h there (and_from (e == e) (is_of segid h) (eq-eqb e e refl) is)
+
+  held_by : (segid : ℤ) (e : ℕ) → is_holder rows segid e ≡ true → (c : ℕ) × (is_held_of segid (held rows e c) ≡ true)
+  unfolding is_holder
+  held_by segid e is =
+      let one = seen (λ row. (row.0.0 == e) && is_of segid row.1) rows kept.ascending is in
+      let parts = and_parts (one.0 == e) (is_of segid one.2) one.4 in
+      let same : e ≡ one.0 = sym (eqb-true one.0 e parts.0) in
+      (one.1, ap (λ q. is_held_of segid (held rows q one.1)) same ∙ ap (is_held_of segid) one.3 ∙ parts.1)
+
+  pub next_held : (segid : Segid) (low to : ℕ) → IsNextIndexed keys segid low to → IsNextHolder rows segid.0 low to
+  next_held segid low to next = record {
+    from = next.from;
+    here = holds segid.0 to next.here.0 (sym (kept.indexed segid to next.here.0) ∙ next.here.1);
+    least = λ e up is. let one = held_by segid.0 e is in next.least e one.0 up (kept.indexed segid e one.0 ∙ one.1);
+  }
+
+  pub none_held : (segid : Segid) (low : ℕ) → ((e c : ℕ) → low ≤ e → is_indexed keys segid e c ≡ false) → (e : ℕ) → low ≤ e → is_holder rows segid.0 e ≡ false
+  none_held segid low none e up =
+      false_from_ne_true (is_holder rows segid.0 e) (λ is. let one = held_by segid.0 e is in true≢false (sym (kept.indexed segid e one.0 ∙ one.1) ∙ none e one.0 up))
+
+  pub named_by : (segid : ℤ) (e : ℕ) → is_holder rows segid e ≡ true → is_named rows segid ≡ true
+  unfolding is_holder is_named
+  named_by segid e is =
+      let one = seen (λ row. (row.0.0 == e) && is_of segid row.1) rows kept.ascending is in
+      found (λ row. is_of segid row.1) rows one.0 one.1 one.2 one.3 (and_parts (one.0 == e) (is_of segid one.2) one.4).1
+
+  pub named_by_none : (segid : ℤ) → ((e : ℕ) → 0 ≤ e → is_holder rows segid e ≡ false) → is_named rows segid ≡ false
+  unfolding is_named
+  named_by_none segid none =
+      false_from_ne_true (list_any (λ row. is_of segid row.1) rows) (λ is.
+          let one = seen (λ row. is_of segid row.1) rows kept.ascending is in
+          true≢false (sym (holds segid one.0 one.1 (ap (is_held_of segid) one.3 ∙ one.4)) ∙ none one.0 (omega arith)))
+
+-- which row comes first
+module _ {V : Type 0} (m : BTreeMap (ℕ × ℕ) (Held V)) (low : ℕ × ℕ) (r : List ((ℕ × ℕ) × Held V)) (range : IsRangeOf name_order (Included low) Unbounded m r) where
+  pub no_next : r ≡ [] → (e c : ℕ) → IsLeBy name_order low (e, c) → held m.entries e c ≡ None
+  unfolding held
+  no_next none e c up = range.5 none (e, c) (up, tt)
+
+  pub next_row : (row : (ℕ × ℕ) × Held V) (left : List ((ℕ × ℕ) × Held V)) → r ≡ row ∷ left → IsNextRow m.entries low row.0 row.1
+  unfolding held
+  next_row row left is =
+      let Here : List ((ℕ × ℕ) × Held V) → Type 0 = λ r. IfSome (slice_get r 0) (λ row. (IsLeBy name_order low row.0 × ⊤) × (get name_order m row.0 ≡ Some row.1)) in
+      let here = subst Here is range.1 in
+      record {
+        from = here.0.0;
+        here = here.1;
+        least = λ e c up some.
+            let After : List ((ℕ × ℕ) × Held V) → Type 0 = λ r. IfSome (slice_get r 0) (λ row. IsLeBy name_order row.0 (e, c)) in
+            subst After is (range.2 (e, c) (up, tt) some);
+      }
+
+module _ {V : Type 0} (rows : Holding V) (to : ℕ) where
+  pub no_lowest : ((e c : ℕ) → IsLeBy name_order (to, 0) (e, c) → held rows e c ≡ None) → (c : ℕ) → held rows to c ≡ None
+  no_lowest none c = none to c (from_enclave to to c (omega arith))
+
+  module _ (name : ℕ × ℕ) (h : Held V) (next : IsNextRow rows (to, 0) name h) where
+    pub lowest : name.0 ≡ to → IsLeastCall rows to name.1
+    lowest same = record {
+      here =
+          let there : held rows to name.1 ≡ Some h = ap (λ q. held rows q name.1) (sym same) ∙ next.here in
+          rw there refl;
+      least = λ c some. up_to_call name (to, c) same (next.least to c (from_enclave to to c (omega arith)) some);
+    }
+
+    pub other_lowest : (name.0 ≡ to → ⊥) → (c : ℕ) → held rows to c ≡ None
+    other_lowest other c = by (held rows to c) refl
+      where
+        by : (was : Option (Held V)) → held rows to c ≡ was → was ≡ None
+        by None there = refl
+        by (Some was) there =
+            let some : IsSome (held rows to c) = rw there refl in
+            let up = up_to_enclave name (to, c) (next.least to c (from_enclave to to c (omega arith)) some) in
+            let down = up_to_enclave (to, 0) name next.from in
+            absurd (other (omega (arith, up, down)))
+
+-- an enclave is forgotten row by row
+module _ {V : Type 0} (rows : Holding V) (gone : ℕ) (ascends : IsAscending rows) where
+  pub forgets_one : (call : ℕ) → without_enclave (without_held rows gone call) gone ≡ without_enclave rows gone
+  forgets_one call =
+      same_rows (without_enclave (without_held rows gone call) gone) (without_enclave rows gone)
+      (others_ascend (without_held rows gone call) gone (without_ascends rows gone call ascends)) (others_ascend rows gone ascends)
+      (λ e c.
+          held_of_others (without_held rows gone call) gone e c
+          ∙ ap (λ x. if gone == e then None else x) (held_without rows gone call e c ascends)
+          ∙ by (gone == e) (call == c) (held rows e c)
+          ∙ sym (held_of_others rows gone e c))
+    where
+      by : (s t : Bool) (was : Option (Held V)) → (if s then None else (if s && t then None else was)) ≡ (if s then None else was)
+      by true t was = refl
+      by false t was = refl
+
+  pub forgotten : ((c : ℕ) → held rows gone c ≡ None) → without_enclave rows gone ≡ rows
+  forgotten none = same_rows (without_enclave rows gone) rows (others_ascend rows gone ascends) ascends (λ e c. held_of_others rows gone e c ∙ by e c (gone == e) refl)
+    where
+      by : (e c : ℕ) (s : Bool) → (gone == e) ≡ s → (if s then None else held rows e c) ≡ held rows e c
+      by e c true same = sym (none c) ∙ ap (λ q. held rows q c) (eqb-true gone e same)
+      by e c false other = refl
