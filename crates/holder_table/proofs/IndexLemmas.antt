@@ -1,5 +1,5 @@
 -- The index of names by segids: what a change leaves, and which key comes first from one on.
-use Rattle.std.proofs.Common.{◌≡◌, ◌≤◌, ℕ, ℤ, Bool, true, false, cond, not, ◌&&◌, ◌||◌, List, [], ◌∷◌, refl, sym, ap, ◌∙◌, subst, true≢false, arith}
+use Rattle.std.proofs.Common.{◌≡◌, ◌≤◌, ℕ, ℤ, Bool, true, false, cond, not, ◌&&◌, ◌||◌, List, [], ◌∷◌, refl, sym, ap, ◌∙◌, subst, true≢false}
 use Rattle.std.specs.Prelude.{◌==◌, ⊤, IsTrue, slice_get, IfSome}
 use Rattle.std.specs.List.{list_any}
 use Rattle.std.specs.Ordering.{int_cmp, int_eq, is_eq, is_gt, ordering_then, ordering_reverse}
@@ -85,10 +85,10 @@ module _ (s : BTreeSet (Segid × (ℕ × ℕ))) (segid : Segid) (low : ℕ) (r :
     pub none_there : int_eq k.0.0 segid.0 ≡ false → (e c : ℕ) → low ≤ e → is_indexed s.keys segid e c ≡ false
     none_there other e c up =
         false_from_ne_true (is_indexed s.keys segid e c) (λ has.
-            let same = level k.0.0 segid.0
-                (first_up (int_cmp k.0.0 segid.0) (name_order k.1 (e, c)) (after e c up has))
-                (first_up (int_cmp segid.0 k.0.0) (name_order (low, 0) k.1) first.0.0) in
-            true≢false (sym same ∙ other))
+        let same = level k.0.0 segid.0
+        (first_up (int_cmp k.0.0 segid.0) (name_order k.1 (e, c)) (after e c up has))
+        (first_up (int_cmp segid.0 k.0.0) (name_order (low, 0) k.1) first.0.0) in
+        true≢false (sym same ∙ other))
 
     -- the first key has the segid
     pub next_there : int_eq k.0.0 segid.0 ≡ true → IsNextIndexed s.keys segid low k.1.0

@@ -1,5 +1,5 @@
 -- Laws of rows that say who holds what, for proofs that need several of them.
-use Rattle.std.specs.Prelude.{◌≡◌, ◌<◌, ◌==◌, ◌&&◌, ℕ, List, [], length, Bool, true, None, Some, IsSome, if◌then◌else◌}
+use Rattle.std.specs.Prelude.{◌≡◌, ◌==◌, ◌&&◌, ℕ, [], Bool, true, None, Some, if◌then◌else◌}
 use Rattle.std.specs.List.{list_any}
 use Rattle.holder_table.specs.declared.Held.{Held}
 use Rattle.holder_table.specs.Holding.{Holding, IsAscending, held, with_held, without_held, without_enclave}

@@ -49,6 +49,7 @@ impl<V> Model for Holders<V> {
     ghost invariant = { λ h. AreKept h.rows.entries h.index };
 }
 
+#[tactic(auto, unfolding(crate::specs::Holding::held, crate::specs::Holding::with_held, crate::specs::Holding::without_held))]
 impl<V: Copy> Holders<V> {
     /// Nobody holds anything.
     pub fn new(alloc: Global) -> Holders<V>
@@ -113,6 +114,7 @@ impl<V: Copy> Holders<V> {
     pub fn next_holder(&self, segid: Segid, from: Enclave) -> Option<Enclave>
         ensures least { IfSome result (λ to. IsNextHolder self.now segid.0 from.0 to.0) }
         ensures none { IfNone result ((e : ℕ) → from.0 ≤ e → is_holder self.now segid.0 e ≡ false) }
+        ensures ascending { IsAscending self.now }
     {
         self.index.next(segid, from)
     }
@@ -128,6 +130,7 @@ impl<V: Copy> Holders<V> {
     pub fn lowest(&self, to: Enclave) -> Option<CallNo>
         ensures least { IfSome result (λ call. IsLeastCall self.now to.0 call.0) }
         ensures none { IfNone result ((c : ℕ) → held self.now to.0 c ≡ None) }
+        ensures ascending { IsAscending self.now }
     {
         let (enclave, call, _) = self.next(to, CallNo(0))?;
         if enclave != to {
@@ -140,6 +143,7 @@ impl<V: Copy> Holders<V> {
     pub fn next(&self, to: Enclave, from: CallNo) -> Option<(Enclave, CallNo, Held<V>)>
         ensures least { IfSome result (λ row. IsNextRow self.now (to.0, from.0) (row.0.0, row.1.0) row.2) }
         ensures none { IfNone result ((e c : ℕ) → IsLeBy name_order (to.0, from.0) (e, c) → held self.now e c ≡ None) }
+        ensures ascending { IsAscending self.now }
     {
         let (name, held) = self.rows.range((to.0, from.0)..).next()?;
         let (enclave, call) = *name;
