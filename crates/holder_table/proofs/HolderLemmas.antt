@@ -15,25 +15,18 @@ use Rattle.holder_table.specs.Holding.{Holding, IsAscending, IsLeastCall, IsNext
 use Rattle.holder_table.specs.Index.{AreKept, IsNextIndexed, is_held_of, is_indexed}
 use Rattle.holder_table.proofs.RowLemmas.{held_with, held_without, held_of_others, with_ascends, without_ascends, others_ascend, same_rows, found, seen, fewer}
 
--- what stands under one name, where a test tells whether that is the name
-module _ (x t : Bool) where
-  put_there : (was : Bool) → (t ≡ true → was ≡ false) → (b : Bool) → b ≡ (if t then x else was) → (x && t || was) ≡ b
-  put_there was none b is = by x t none ∙ sym is
-    where
-      by : (x t : Bool) → (t ≡ true → was ≡ false) → (x && t || was) ≡ (if t then x else was)
-      by true true none = refl
-      by true false none = refl
-      by false true none = none refl
-      by false false none = refl
+-- whether a key stands in the index after a change, where the test tells whether its name is the changed one
+put_there : (x t was : Bool) → (t ≡ true → was ≡ false) → (x && t || was) ≡ (if t then x else was)
+put_there true true was none = refl
+put_there true false was none = refl
+put_there false true was none = none refl
+put_there false false was none = refl
 
-  taken_there : (was : Bool) → (t ≡ true → was ≡ x) → (not (x && t) && was) ≡ (if t then false else was)
-  taken_there was its = by x t its
-    where
-      by : (x t : Bool) → (t ≡ true → was ≡ x) → (not (x && t) && was) ≡ (if t then false else was)
-      by true true its = refl
-      by true false its = refl
-      by false true its = its refl
-      by false false its = refl
+taken_there : (x t was : Bool) → (t ≡ true → was ≡ x) → (not (x && t) && was) ≡ (if t then false else was)
+taken_there true true was its = refl
+taken_there true false was its = refl
+taken_there false true was its = its refl
+taken_there false false was its = refl
 
 module _ {V : Type 0} (rows : Holding V) (ascends : IsAscending rows) where
   holds : (segid : ℤ) (e c : ℕ) → is_held_of segid (held rows e c) ≡ true → is_holder rows segid e ≡ true
@@ -87,9 +80,10 @@ module _ {V : Type 0} (rows : Holding V) (keys : List (Segid × (ℕ × ℕ))) (
           changed s e c
           ∙ ap (λ b. int_eq h.segid.0 s.0 && ((to == e) && (call == c)) || b) (kept.indexed s e c)
           ∙ put_there (int_eq h.segid.0 s.0) ((to == e) && (call == c)) (is_held_of s.0 (held rows e c)) (λ is. ap (is_held_of s.0) (at_name to call e c None none is))
-          (is_held_of s.0 (held (with_held rows to call h) e c)) (ap (is_held_of s.0) (held_with rows to call e c h) ∙ by ((to == e) && (call == c)) (held rows e c))
+          ∙ by ((to == e) && (call == c)) (held rows e c)
+          ∙ sym (ap (is_held_of s.0) (held_with rows to call e c h))
         where
-          by : (t : Bool) (was : Option (Held V)) → is_held_of s.0 (if t then Some h else was) ≡ (if t then int_eq h.segid.0 s.0 else is_held_of s.0 was)
+          by : (t : Bool) (was : Option (Held V)) → (if t then int_eq h.segid.0 s.0 else is_held_of s.0 was) ≡ is_held_of s.0 (if t then Some h else was)
           by true was = refl
           by false was = refl
 
