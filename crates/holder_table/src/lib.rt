@@ -49,7 +49,6 @@ impl<V> Model for Holders<V> {
     ghost invariant = { λ h. AreKept h.rows.entries h.index };
 }
 
-#[tactic(auto, unfolding(crate::specs::Holding::held, crate::specs::Holding::with_held, crate::specs::Holding::without_held))]
 impl<V: Copy> Holders<V> {
     /// Nobody holds anything.
     pub fn new(alloc: Global) -> Holders<V>
