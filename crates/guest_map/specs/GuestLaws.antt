@@ -1,12 +1,11 @@
 -- What changes leave of a guest's names, for proofs that need several of these laws.
-use Rattle.std.specs.Prelude.{◌≡◌, ◌-◌, ◌≤◌, ◌==◌, ◌&&◌, ◌↔◌, ℕ, List, length, slice_get, true, false, None, Some, if◌then◌else◌}
-use Rattle.std.specs.List.{list_any}
+use Rattle.std.specs.Prelude.{◌≡◌, ◌-◌, ◌↔◌, ℕ, List, length, slice_get, true, false, None, Some, if◌then◌else◌}
 use Rattle.xm_num.specs.declared.Block.{Block}
 use Rattle.xm_num.specs.declared.Enclave.{Enclave}
 use Rattle.xm_num.specs.declared.Frame.{Frame}
 use Rattle.xm_num.specs.Rows.{at}
 use Rattle.xm_num.specs.RowLaws.{RowLaws}
-use Rattle.guest_map.specs.Guests.{Entry, GuestState, IsGuest, own_machine, entry_machine, to_machine, own_memory, next_entry, with_entry, without_entry, without_owner, has_guest, has_found, is_of, is_found_of}
+use Rattle.guest_map.specs.Guests.{Entry, GuestState, IsGuest, own_machine, entry_machine, to_machine, own_memory, next_entry, with_entry, without_entry, without_owner, has_guest, has_found, entry_having, is_found_of}
 
 pub record GuestLaws : Type 0 where
   pub rows : RowLaws Entry
@@ -25,7 +24,7 @@ pub record GuestLaws : Type 0 where
   pub dropped : (s : GuestState) (call g : ℕ) → IsGuest s
       → to_machine (without_entry call s) g ≡ (if has_found (at s.entries call) g then None else to_machine s g)
   pub dropped_owner : (s : GuestState) (owner : Enclave) (g : ℕ) → IsGuest s
-      → to_machine (without_owner owner s) g ≡ (if list_any (λ row. is_of owner row.1 && has_guest row.1 g) s.entries then None else to_machine s g)
+      → to_machine (without_owner owner s) g ≡ (if is_found_of owner (entry_having s.entries g) then None else to_machine s g)
   -- which entries are left of an owner's
   pub left : (s : GuestState) (owner : Enclave) (call : ℕ) → IsGuest s
       → at (without_owner owner s).entries call ≡ (if is_found_of owner (at s.entries call) then None else at s.entries call)

@@ -35,9 +35,13 @@ has_guest e g = nat_le e.first g && nat_lt g (e.first + length e.frames)
 abbrev pub entry_machine : Entry → ℕ → Option Frame
 entry_machine e g = if has_guest e g then slice_get e.frames (g - e.first) else None
 
--- the frame that an admitted guest frame names, by the entry that has it
+-- the entry that has the guest frame
+abbrev pub entry_having : List (ℕ × Entry) → ℕ → Option Entry
+entry_having entries g = option_map (λ row. row.1) (find (λ row. has_guest row.1 g) entries)
+
+-- the frame that an admitted guest frame names
 abbrev pub admitted_machine : List (ℕ × Entry) → ℕ → Option Frame
-admitted_machine entries g = option_and_then (λ row. entry_machine row.1 g) (find (λ row. has_guest row.1 g) entries)
+admitted_machine entries g = option_and_then (λ e. entry_machine e g) (entry_having entries g)
 
 -- the frame that a guest frame names, where it is own or admitted
 abbrev pub to_machine : GuestState → ℕ → Option Frame
