@@ -1,5 +1,5 @@
 -- That a guest stays one, and what its guest frames name after a change.
-use Rattle.std.proofs.Common.{◌≡◌, ◌↔◌, ◌+◌, ◌-◌, ◌*◌, ◌/◌, ◌<◌, ◌≤◌, ℕ, Bool, true, false, cond, not, ◌&&◌, List, [], length, Option, None, Some, refl, sym, ap, ◌∙◌, ◌⊎◌, inl, inr, arith}
+use Rattle.std.proofs.Common.{◌≡◌, ◌↔◌, ◌+◌, ◌-◌, ◌*◌, ◌/◌, ◌<◌, ◌≤◌, ℕ, Bool, true, false, cond, not, List, [], length, Option, None, Some, refl, sym, ap, ◌∙◌, ◌⊎◌, inl, inr, arith}
 use Rattle.std.specs.Prelude.{◌==◌, nat_le, nat_lt, slice_get, IfSome, option_and_then}
 use Rattle.std.specs.List.Sorted.{IsStrictlySortedBy}
 use Rattle.std.specs.Option.{option_or}
@@ -13,7 +13,7 @@ use Rattle.xm_num.specs.RowLaws.{RowLaws}
 use Rattle.xm_num.specs.Rows.{at, put, less, IsAscending}
 use Rattle.guest_map.specs.Guests.{Entry, GuestState, IsDrawn, IsGuest, own_memory, own_machine, has_guest, entry_machine, entry_having, admitted_machine, to_machine, next_entry, with_entry, without_entry, without_owner, is_of, has_found, is_found_of}
 use Rattle.guest_map.specs.GuestLaws.{GuestLaws}
-use Rattle.guest_map.proofs.FindLemmas.{Search, IsFirst, IsMissing, search_rows, filter_at, filter_ascends}
+use Rattle.guest_map.proofs.FindLemmas.{Search, search_rows, filter_at, filter_ascends}
 use Rattle.guest_map.proofs.FindLemmas.Search.{First, Missing}
 
 pub has_parts : (e : Entry) (g : ℕ) → has_guest e g ≡ true → (e.first ≤ g) × (g < e.first + length e.frames)

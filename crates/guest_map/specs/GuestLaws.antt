@@ -1,5 +1,5 @@
 -- What changes leave of a guest's names, for proofs that need several of these laws.
-use Rattle.std.specs.Prelude.{◌≡◌, ◌-◌, ◌↔◌, ℕ, List, length, slice_get, true, false, None, Some, if◌then◌else◌}
+use Rattle.std.specs.Prelude.{◌≡◌, ◌-◌, ◌↔◌, ℕ, List, slice_get, true, false, None, Some, if◌then◌else◌}
 use Rattle.xm_num.specs.declared.Block.{Block}
 use Rattle.xm_num.specs.declared.Enclave.{Enclave}
 use Rattle.xm_num.specs.declared.Frame.{Frame}

@@ -155,7 +155,8 @@ impl GuestMap {
 
     /// The least call for which something of the owner's is admitted.
     pub fn lowest_of(&self, owner: Enclave) -> Option<CallNo>
-        ensures { result ≡ option_map spec.call_numbered (spec.lowest_call_of owner self.now) }
+        ensures call { result ≡ option_map spec.call_numbered (spec.lowest_call_of owner self.now) }
+        ensures guest { spec.IsGuest self.now }
     {
         row_laws::<EntryRow>();
         let call = self.by_owner.next(u32::from(owner.0), None)?;

@@ -1,4 +1,3 @@
-use Rattle.std.proofs.Common.{rules}
 use Rattle.guest_map.proofs.LastLemmas.{next_is}
 use Rattle.guest_map.proofs.lasts.Lasts.next_from.Goals as goal
 
