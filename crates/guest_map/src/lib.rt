@@ -4,7 +4,7 @@
 //! gets fresh guest frames, which are drawn upwards and never used again.
 #![tactic(auto)]
 
-ghost use Rattle.std.specs.Prelude.{◌≡◌, ◌+◌, ◌<◌, ◌≤◌, ◌^◌, length, None, is_some, option_map, IfOk, OnOk, OnErr};
+ghost use Rattle.std.specs.Prelude.{◌≡◌, ◌+◌, ◌-◌, ◌<◌, ◌≤◌, ◌^◌, length, None, is_some, option_map, IfOk, OnOk, OnErr};
 ghost use Rattle.xm_num.specs.Rows.{at};
 ghost use Rattle.guest_map.specs.Guests as spec;
 
@@ -76,6 +76,14 @@ impl GuestMap {
             lasts: Lasts::new(alloc),
             by_owner: Pairs::new(alloc),
         })
+    }
+
+    /// How many fresh guest frames are left.
+    pub fn room(&self) -> u32
+        ensures left { self.now.next_fresh + result ≡ 2 ^ 32 - 1 }
+        ensures guest { spec.IsGuest self.now }
+    {
+        u32::MAX - self.next_fresh
     }
 
     // Keeps what a call admitted, and draws its guest frames. For want of memory nothing changes.
