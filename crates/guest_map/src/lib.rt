@@ -25,8 +25,8 @@ use xm_num::{Block, BlockList, CallNo, Enclave, Frame};
 
 /// What a guest names the frames of the machine.
 ///
-/// Contracts see it as a `GuestState`. A look-up takes time logarithmic in the entries, and a change that too, and what it
-/// has or had.
+/// Contracts see it as a `GuestState`. A look-up takes time logarithmic in the entries. To admit or to drop one takes that,
+/// and time that goes with its frames.
 #[derive(Drop)]
 pub struct GuestMap {
     alloc: Global,
@@ -90,7 +90,6 @@ impl GuestMap {
     fn keep(&mut self, call: u32, entry: EntryRow) -> Result<(), AllocError>
         requires fresh { at self.old.entries call ≡ None }
         requires next { entry.first ≡ self.old.next_fresh }
-        requires room { entry.first + length entry.frames < 2 ^ 32 }
         ensures after { OnOk result (self.new ≡ spec.with_entry call entry.owner entry.frames self.old) }
         ensures err { OnErr result (self.new ≡ self.old) }
     {
