@@ -13,6 +13,8 @@ mod channels;
 #[cfg(test)]
 mod edges;
 #[cfg(test)]
+mod guests;
+#[cfg(test)]
 mod holders;
 #[cfg(test)]
 mod names;

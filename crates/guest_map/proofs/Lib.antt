@@ -1,0 +1,4 @@
+pub mod FindLemmas
+pub mod GuestLemmas
+pub mod KeptLemmas
+pub mod LastLemmas

@@ -1,0 +1,3 @@
+pub mod Guests
+pub mod GuestLaws
+pub mod Index
