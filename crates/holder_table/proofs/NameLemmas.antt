@@ -26,22 +26,13 @@ names_exact = exact_pairs nat_cmp nat_cmp exact_unsigned exact_unsigned
 pub same_name : (a b : ℕ × ℕ) → is_at (name_order a) b ≡ ((a.0 == b.0) && (a.1 == b.1))
 same_name a b = both (nat_cmp a.0 b.0) (nat_cmp a.1 b.1) ∙ rw (unsigned_tied a.0 b.0, unsigned_tied a.1 b.1) refl
 
--- what comes no later has no greater enclave, and where that is the same no greater call
+-- what comes no later has no greater enclave
 pub up_to_enclave : (a b : ℕ × ℕ) → IsLeBy name_order a b → a.0 ≤ b.0
 up_to_enclave a b up = elim (cases_order a.0 b.0) [
   | inl same ↦ omega arith
   | inr (inl less) ↦ omega arith
   | inr (inr more) ↦
       let bad : true ≡ false = ap (λ o. is_gt (ordering_then o (nat_cmp a.1 b.1))) (nat_cmp_is a.0 b.0 Greater more) ∙ up in absurd (true≢false bad)
-]
-
-pub up_to_call : (a b : ℕ × ℕ) → a.0 ≡ b.0 → IsLeBy name_order a b → a.1 ≤ b.1
-up_to_call a b same up = elim (cases_order a.1 b.1) [
-  | inl is ↦ omega arith
-  | inr (inl less) ↦ omega arith
-  | inr (inr more) ↦
-      let one : is_gt (nat_cmp a.1 b.1) ≡ false = ap (λ o. is_gt (ordering_then o (nat_cmp a.1 b.1))) (nat_cmp_is a.0 b.0 Equal same) ∙ up in
-      let bad : true ≡ false = ap is_gt (nat_cmp_is a.1 b.1 Greater more) ∙ one in absurd (true≢false bad)
 ]
 
 -- an enclave's names begin with the call 0
