@@ -14,13 +14,16 @@ use std::alloc::{AllocError, Global};
 use xm_num::laws::row_laws;
 use xm_num::{Access, Frame, Page, Vpn};
 
-/// A space whose pages stand in one ordered table. A look-up takes time logarithmic in the pages that are mapped, a
-/// change of `n` pages `n` times that. `first_gap` goes over the mapped pages between the lowest page at which a gap could
-/// begin, as far as is known, and the gap.
+/// A space whose pages stand in one ordered table. A look-up takes time logarithmic in the pages that are mapped, and a
+/// change of `n` pages `n` times that. `first_gap` begins where no gap of its length is known to be below, and goes over the
+/// mapped pages from there to the gap. `map` does the same behind the pages that it maps, and remembers where it came to;
+/// `unmap` and `disown` take one step more for each length, up to the longest that was mapped, that fits into the gap they
+/// leave.
 pub struct PageTable {
     pages: Rows<Page>,
     // How many pages the range of each right has that is out, by its first page.
     rights: Rows<u32>,
+    // Below which page there is no gap, for each length. `map` raises its own, and whatever unmaps lowers them.
     hints: Hints,
     ghost within: { AreWithin pages },
     ghost held: { AreHeld pages rights },
