@@ -258,6 +258,62 @@ const GAPS: &[Step] = &[
     Step::NextMapped(4161, Some(Vpn(16_777_215))),
 ];
 
+// Holes of one page among wider ranges: each gap is the lowest again after something else was mapped and unmapped.
+const HOLES: &[Step] = &[
+    Step::OwnMany(1, 9),
+    Step::Map(10, &[Frame(7), Frame(8)], Access::ReadOnly, Ok(())),
+    Step::FirstGap(1, Some(Vpn(12))),
+    Step::FirstGap(2, Some(Vpn(12))),
+    Step::Unmap,
+    Step::FirstGap(2, Some(Vpn(10))),
+    Step::Disown(3, 1),
+    Step::Disown(5, 1),
+    Step::FirstGap(1, Some(Vpn(3))),
+    Step::FirstGap(2, Some(Vpn(10))),
+    Step::Map(10, &[Frame(7), Frame(8)], Access::ReadOnly, Ok(())),
+    Step::FirstGap(1, Some(Vpn(3))),
+    Step::FirstGap(2, Some(Vpn(12))),
+    Step::Unmap,
+    Step::Map(3, &[Frame(7)], Access::ReadWrite, Ok(())),
+    Step::FirstGap(1, Some(Vpn(5))),
+    Step::FirstGap(2, Some(Vpn(10))),
+    Step::Disown(4, 1),
+    Step::FirstGap(1, Some(Vpn(4))),
+    Step::FirstGap(2, Some(Vpn(4))),
+    Step::FirstGap(3, Some(Vpn(10))),
+    Step::Unmap,
+    Step::FirstGap(3, Some(Vpn(3))),
+    Step::Map(4, &[Frame(7), Frame(8)], Access::ReadOnly, Ok(())),
+    Step::FirstGap(1, Some(Vpn(3))),
+    Step::FirstGap(2, Some(Vpn(10))),
+    Step::Own(3, &[Frame(5)], Ok(())),
+    Step::FirstGap(1, Some(Vpn(10))),
+    Step::Disown(1, 3),
+    Step::FirstGap(3, Some(Vpn(1))),
+    Step::FirstGap(4, Some(Vpn(10))),
+    Step::FirstGap(16_777_206, Some(Vpn(10))),
+    Step::FirstGap(16_777_207, None),
+    Step::Unmap,
+    Step::FirstGap(5, Some(Vpn(1))),
+];
+
+// The last range that the space has room for, and the same room found again.
+const FULL: &[Step] = &[
+    Step::OwnMany(1, 2),
+    Step::OwnMany(16_777_213, 2),
+    Step::Map(16_777_215, &[Frame(7)], Access::ReadOnly, Ok(())),
+    Step::FirstGap(1, Some(Vpn(3))),
+    Step::FirstGap(16_777_210, Some(Vpn(3))),
+    Step::FirstGap(16_777_211, None),
+    Step::Unmap,
+    Step::FirstGap(1, Some(Vpn(3))),
+    Step::Disown(16_777_213, 2),
+    Step::FirstGap(16_777_213, Some(Vpn(3))),
+    Step::FirstGap(16_777_214, None),
+    Step::Disown(1, 2),
+    Step::FirstGap(16_777_215, Some(Vpn(1))),
+];
+
 // What is printed of a fault.
 const PRINTED: &[Step] = &[
     Step::Printed(MapFault::Taken(Vpn(16)), "page 16 is mapped already"),
@@ -270,6 +326,8 @@ fn pages_of_a_page_table(rt: HostRuntime) -> Result<(), AllocError> {
         ("ranges", RANGES),
         ("apart", APART),
         ("gaps", GAPS),
+        ("holes", HOLES),
+        ("full", FULL),
         ("printed", PRINTED),
     ];
     for (name, steps) in tables {

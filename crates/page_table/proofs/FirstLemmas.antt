@@ -21,7 +21,7 @@ is_le_is a b =
       ]
     ]
 
-at_most : (a b : ℕ) → is_lt (nat_cmp a b) ≡ false → b ≤ a
+pub at_most : (a b : ℕ) → is_lt (nat_cmp a b) ≡ false → b ≤ a
 at_most a b not_less =
     elim (cases_Bool (ltb a b)) [
       | inl less ↦

@@ -4,6 +4,7 @@
 //! and each range has a right, which is made when the range is mapped and spent when it is unmapped.
 #![tactic(auto)]
 
+mod hints;
 mod rows;
 mod space;
 mod table;

@@ -2,6 +2,7 @@
 ghost use Rattle.std.specs.Prelude.{◌≡◌, ◌+◌, ◌^◌, ◌<◌, ◌≤◌, [], true, None, OnOk, OnErr};
 ghost use Rattle.xm_num.specs.Rows as spec;
 ghost use Rattle.page_table.specs.Spaces.{AreWithin, IsFirstGap};
+ghost use Rattle.page_table.specs.Hints.{IsHint, IsStart};
 
 use std::alloc::{AllocError, Global};
 use std::collections::BTreeMap;
@@ -9,7 +10,7 @@ use std::marker::Model;
 use xm_num::laws::row_laws;
 
 // The number after the last page.
-const END: u32 = 1 << 24;
+pub const END: u32 = 1 << 24;
 
 // A value for each number that has one. Contracts see it as rows.
 #[derive(Drop)]
@@ -104,15 +105,27 @@ impl<V: Copy> Rows<V> {
         Some(*number)
     }
 
-    // The lowest number from which `n` numbers within 1 to 16,777,215 have no row.
-    pub fn first_gap(&self, n: u32) -> Option<u32>
+    // The number behind the last one below `number` that has a row, or 1.
+    pub fn behind_last(&self, number: u32) -> u32
+        requires { AreWithin self.now }
+        ensures { IsStart self.now number result }
+    {
+        match self.items.range(..number).next_back() {
+            Some((last, _)) => *last + 1,
+            None => 1,
+        }
+    }
+
+    // The lowest number from which `n` numbers within 1 to 16,777,215 have no row. The search begins at the hint.
+    pub fn first_gap(&self, n: u32, hint: u32) -> Option<u32>
         requires some { 1 ≤ n }
         requires within { AreWithin self.now }
+        requires hint { IsHint self.now n hint }
         ensures { IsFirstGap self.now n result }
     {
         row_laws::<V>();
-        let mut first = 1;
-        for number in self.items.keys() {
+        let mut first = hint;
+        for (number, _) in self.items.range(hint..) {
             if *number - first >= n {
                 return Some(first);
             }

@@ -5,21 +5,29 @@ ghost use Rattle.xm_num.specs.RowLaws.{RowLaws};
 ghost use Rattle.xm_num.specs.declared.Page.{Page};
 ghost use Rattle.page_table.specs.Spaces.{page_of, AreWithin};
 ghost use Rattle.page_table.specs.Held.{AreHeld};
+ghost use Rattle.page_table.specs.Hints.{AreHints};
 
-use crate::rows::Rows;
+use crate::hints::Hints;
+use crate::rows::{END, Rows};
 use crate::space::{AddressSpace, MapFault, MapRight};
 use std::alloc::{AllocError, Global};
 use xm_num::laws::row_laws;
 use xm_num::{Access, Frame, Page, Vpn};
 
-/// A space whose pages stand in one ordered table. A look-up takes time logarithmic in the pages that are mapped, a
-/// change of `n` pages `n` times that, and `first_gap` may go over all mapped pages.
+/// A space whose pages stand in one ordered table. A look-up takes time logarithmic in the pages that are mapped, and a
+/// change of `n` pages `n` times that. `first_gap` begins where no gap of its length is known to be below, and goes over the
+/// mapped pages from there to the gap. `map` does the same behind the pages that it maps, and remembers where it came to;
+/// `unmap` and `disown` take one step more for each length, up to the longest that was mapped, that fits into the gap they
+/// leave.
 pub struct PageTable {
     pages: Rows<Page>,
     // How many pages the range of each right has that is out, by its first page.
     rights: Rows<u32>,
+    // Below which page there is no gap, for each length. `map` raises its own, and whatever unmaps lowers them.
+    hints: Hints,
     ghost within: { AreWithin pages },
     ghost held: { AreHeld pages rights },
+    ghost hinted: { AreHints pages hints },
 }
 
 // The laws of a table's rows.
@@ -79,6 +87,7 @@ fn map_all(
     ensures now_ascending { spec.IsAscending pages.new }
     ensures now_within { AreWithin pages.new }
     ensures held { (out : List (ℕ × ℕ)) → AreHeld pages.old out → AreHeld pages.new out }
+    ensures hinted { (hints : List ℕ) → AreHints pages.old hints → AreHints pages.new hints }
 {
     table_laws();
     let n = frames.len() as u32;
@@ -91,6 +100,36 @@ fn map_all(
     Ok(())
 }
 
+// Unmaps `n` pages from `first` on, and lowers the hints that this makes too high: those for as many pages as the gap has
+// that is there now, or for fewer.
+fn unmap_all(pages: &mut Rows<Page>, hints: &mut Hints, first: u32, n: u32)
+    requires fits { first + n < 2 ^ 32 }
+    requires was_within { AreWithin pages.old }
+    requires were_hinted { AreHints pages.old hints.old }
+    ensures rows { pages.new ≡ spec.less_all pages.old first n }
+    ensures ascending { spec.IsAscending pages.new }
+    ensures was_ascending { spec.IsAscending pages.old }
+    ensures within { AreWithin pages.new }
+    ensures hinted { AreHints pages.new hints.new }
+{
+    row_laws::<Page>();
+    pages.remove_all(first, n);
+    let low = pages.behind_last(first);
+    let high = pages.next_from(first + n).unwrap_or(END);
+    hints.lower(high - low, low);
+}
+
+// Raises the hint for `n` pages to their first gap, or behind all pages where they have none. For want of memory it stays.
+fn raise_hint(pages: &Rows<Page>, hints: &mut Hints, n: u32)
+    requires some { 1 ≤ n }
+    requires within { AreWithin pages.now }
+    requires were_hinted { AreHints pages.now hints.old }
+    ensures hinted { AreHints pages.now hints.new }
+{
+    let first = pages.first_gap(n, hints.get(n)).unwrap_or(END);
+    let _ = hints.put(n, first);
+}
+
 impl AddressSpace for PageTable {
     ghost pages = { λ table. table.pages };
 
@@ -101,6 +140,7 @@ impl AddressSpace for PageTable {
         Ok(PageTable {
             pages: Rows::new(alloc),
             rights: Rows::new(alloc),
+            hints: Hints::new(alloc),
         })
     }
 
@@ -110,7 +150,7 @@ impl AddressSpace for PageTable {
 
     fn disown(&mut self, at: Vpn, n: u32) {
         table_laws();
-        self.pages.remove_all(at.0, n);
+        unmap_all(&mut self.pages, &mut self.hints, at.0, n);
     }
 
     fn map(&mut self, at: Vpn, frames: &[Frame], access: Access) -> Result<MapRight, MapFault> {
@@ -121,6 +161,7 @@ impl AddressSpace for PageTable {
             self.pages.remove_all(at.0, count);
             return Err(MapFault::Memory);
         };
+        raise_hint(&self.pages, &mut self.hints, count);
         Ok(MapRight::make(at, count))
     }
 
@@ -129,7 +170,7 @@ impl AddressSpace for PageTable {
     fn unmap(&mut self, right: MapRight) {
         table_laws();
         let (first, n) = right.spend();
-        self.pages.remove_all(first.0, n);
+        unmap_all(&mut self.pages, &mut self.hints, first.0, n);
         self.rights.remove(first.0);
     }
 
@@ -145,7 +186,7 @@ impl AddressSpace for PageTable {
     }
 
     fn first_gap(&self, n: u32) -> Option<Vpn> {
-        self.pages.first_gap(n).map(Vpn)
+        self.pages.first_gap(n, self.hints.get(n)).map(Vpn)
     }
 
     fn next_mapped(&self, from: Vpn) -> Option<Vpn> {
@@ -156,6 +197,7 @@ impl AddressSpace for PageTable {
         let PageTable {
             pages: _,
             rights: _,
+            hints: _,
         } = self;
     }
 }

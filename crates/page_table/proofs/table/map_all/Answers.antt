@@ -4,6 +4,7 @@ use Rattle.page_table.specs.Spaces.{page_of}
 use Rattle.page_table.proofs.Runs.{run_back}
 use Rattle.page_table.proofs.Within.{within_put_all}
 use Rattle.page_table.proofs.Held.{held_put_all}
+use Rattle.page_table.proofs.Hinted.{hints_put_all}
 use Rattle.page_table.proofs.table.map_all.Goals as goal
 
 pub returns-clause-back : goal.returns-clause-back
@@ -26,3 +27,9 @@ returns-clause-held c out held =
     let pages = map (page_of c.args.access c.args.own) c.args.frames.now in
     let size = length-map c.args.frames.now (page_of c.args.access c.args.own) in
     rw c.in-Ok.ensures.ok (held_put_all c.table_laws.ensures.pages c.table_laws.ensures.rights c.args.pages.now out c.args.first.0 pages (rw size (sym c.in_default.ensures.lowest)) held)
+
+pub returns-clause-hinted : goal.returns-clause-hinted
+returns-clause-hinted c hints hinted =
+    let pages = map (page_of c.args.access c.args.own) c.args.frames.now in
+    let size = length-map c.args.frames.now (page_of c.args.access c.args.own) in
+    rw c.in-Ok.ensures.ok (hints_put_all c.table_laws.ensures.pages c.args.pages.now hints c.args.first.0 pages (rw size (sym c.in_default.ensures.lowest)) hinted)

@@ -4,7 +4,8 @@ use Rattle.page_table.proofs.table.PageTableAddressSpace.disown.Goals as goal
 pub invariant_of-self : goal.invariant_of-self
 invariant_of-self c =
     record {
-      within = c.remove_all.ensures.within c.args.self.now.within;
-      held = rw c.remove_all.ensures.rows
-          (held_less_all c.table_laws.ensures.pages c.table_laws.ensures.rights c.args.self.now.pages c.args.self.now.rights c.args.at.0 c.args.n c.remove_all.ensures.was_ascending c.requires c.args.self.now.held);
+      within = c.unmap_all.ensures.within;
+      held = rw c.unmap_all.ensures.rows
+          (held_less_all c.table_laws.ensures.pages c.table_laws.ensures.rights c.args.self.now.pages c.args.self.now.rights c.args.at.0 c.args.n c.unmap_all.ensures.was_ascending c.requires c.args.self.now.held);
+      hinted = c.unmap_all.ensures.hinted;
     }

@@ -15,10 +15,11 @@ returns-clause-taken c v = let known = c.in_ok-map_all.ensures.taken v in (λ e.
 pub returns-clause-fresh : goal.returns-clause-fresh
 returns-clause-fresh c = no_right c.table_laws.ensures.pages c.table_laws.ensures.rights c.args.self.now.pages c.args.self.now.rights c.args.at.0 (length c.args.frames.now) c.in_ok-map_all.ensures.free c.requires.some c.args.self.now.held
 
-pub invariant_of-self-in-Ok : goal.invariant_of-self-in-Ok
-invariant_of-self-in-Ok c =
+pub invariant_of-self-2 : goal.invariant_of-self-2
+invariant_of-self-2 c =
     record {
       within = c.in_ok-map_all.ensures.now_within;
       held = rw (c.in_ok-map_all.ensures.ok, c.in-Ok.ensures.ok)
           (held_map c.table_laws.ensures.pages c.table_laws.ensures.rights c.args.self.now.pages c.args.self.now.rights c.args.at.0 c.args.access c.args.frames.now c.in_ok-map_all.ensures.free c.requires.some c.args.self.now.held);
+      hinted = c.raise_hint.ensures.hinted;
     }
