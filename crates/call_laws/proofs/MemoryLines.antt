@@ -5,7 +5,7 @@ use Rattle.std.proofs.lemmas.Bool.{eqb-true}
 use Rattle.xm_num.specs.declared.CallNo.{CallNo}
 use Rattle.xm_num.specs.declared.Frame.{Frame}
 use Rattle.xm_num.specs.declared.Pid.{Pid}
-use Rattle.xm_num.specs.Rows.{at, put, less, IsAscending}
+use Rattle.xm_num.specs.Rows.{at, put, IsAscending}
 use Rattle.xm_num.specs.RowLaws.{RowLaws}
 use Rattle.xemem_language.specs.declared.line.Line.{Line}
 use Rattle.xemem_language.specs.declared.line.Line.TheVariants as lines

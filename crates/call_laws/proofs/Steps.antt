@@ -1,5 +1,5 @@
 -- Each step of a journal is lawful.
-use Rattle.std.proofs.Common.{List, [], ◌∷◌, ◌++◌, Bool, cond, refl, ap, ◌∙◌, arith}
+use Rattle.std.proofs.Common.{List, [], ◌∷◌, ◌++◌, Bool, cond, ap, ◌∙◌, arith}
 use Rattle.std.proofs.lemmas.Bool.{le-ltb}
 use Rattle.xm_num.specs.declared.Block.{Block}
 use Rattle.xm_num.specs.declared.Enclave.{Enclave}

@@ -29,8 +29,8 @@ pub record IsPair (C : ℕ → ℕ → CallCell) (s e : ℕ) : Type 0 where
 abbrev pub waits_as_make : Option Waiting → Bool
 waits_as_make row = option_map_or (λ w. is_make w.what) row false
 
--- A make waits exactly where its cell does. Live segments are exactly those of the calls whose cells are near, and names those of the
--- calls whose cells are far. Segids were drawn upwards, each for one call.
+-- A make waits exactly where its cell does. Live segments are exactly those of the makes whose cells are near, and names those of the
+-- makes whose cells are far. Segids were drawn upwards, each for one make.
 pub record AreCellsTrue (past : List Line) : Type 0 where
   pub waits : (e k : ℕ) → waits_as_make (at ((facts_at past).memory e).waiting k) ≡ (cells past e k).waits
   pub near : (e k s : ℕ) → IsLiveAt (facts_at past) e k s → (cells past e k).near ≡ true
