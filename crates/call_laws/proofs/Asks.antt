@@ -2,7 +2,7 @@
 use Rattle.std.proofs.Common.{◌≡◌, ◌+◌, ℕ, List, [], ◌∷◌, Bool, true, false, cond, not, ◌&&◌, eqb, Option, None, Some, is_some, refl, sym, ap, ◌∙◌, subst, inl, inr, arith}
 use Rattle.std.specs.List.{AllByRecursion, find}
 use Rattle.std.specs.Option.{option_map_or}
-use Rattle.std.proofs.lemmas.Bool.{and_parts, eqb-true, eq-eqb, cases_Bool}
+use Rattle.std.proofs.lemmas.Bool.{and_from, and_parts, eqb-true, eq-eqb, cases_Bool}
 use Rattle.xm_num.specs.declared.Enclave.{Enclave}
 use Rattle.xm_num.specs.declared.Pid.{Pid}
 use Rattle.xm_num.specs.declared.Segid.{Segid}
@@ -25,18 +25,17 @@ use Rattle.enclave_rules.specs.Exports.{segid_number}
 use Rattle.enclave_rules.specs.Hand.{Hand}
 use Rattle.enclave_rules.specs.Names.{can_draw, next_segid}
 use Rattle.enclave_rules.specs.View.{View, own_lines}
-use Rattle.enclave_rules.specs.Segments.{asking_lines, drew_line, issue_line, make_acts, make_of, name_request, named_lines, remove_acts, unname_lines, unname_record}
+use Rattle.enclave_rules.specs.Segments.{asking_lines, drew_line, is_make, issue_line, make_acts, make_of, name_request, named_lines, remove_acts, unname_lines, unname_record}
 use Rattle.enclave_rules.specs.Sending.{Server, drop_lines, made_lines}
 use Rattle.global_model.specs.Facts.{Facts, facts_at, runs}
 use Rattle.global_model.specs.Refusals.{Condition, conditions_of, first_cause, has_segment, refusal_of}
 use Rattle.global_model.specs.Views.{view_of}
 use Rattle.discovery_laws.specs.Known.{holds, in_flight}
-use Rattle.call_laws.specs.Cells.{as_drawn, as_issued, as_near, cells}
+use Rattle.call_laws.specs.Cells.{as_drawn, as_issued, as_near, cells, is_cell, issued_in, makes}
 use Rattle.call_laws.specs.Flights.{FitsBy, IsFit, IsNowhere, IsSingle, is_of, is_of_by}
 use Rattle.call_laws.specs.Laws.{CallRows}
 use Rattle.call_laws.proofs.Rows.{IsFound, all_more, found_has}
-use Rattle.call_laws.proofs.CellLines.{drawn_has, is_cell_itself}
-use Rattle.call_laws.proofs.Exports.{HandsMake}
+use Rattle.call_laws.proofs.CellLines.{drawn_has, is_cell_itself, unissued}
 use Rattle.call_laws.proofs.ExportLines.{IsLive, IsLiveRow}
 use Rattle.call_laws.proofs.SentLines.{IsEnded, Tells, TellsBy}
 use Rattle.call_laws.proofs.Requests.{RequestsOnce, all-behind, tested_none}
@@ -116,7 +115,7 @@ removed_has G command e p segid asks allowed = by command asks allowed
 -- ---- a make
 
 module _ (rows : CallRows) (past : List Line) (e : Enclave) (p : Pid) (hand : Hand) (tied : IsTied past) (running : runs (facts_at past) e.0 p.0 ≡ true)
-    (hand_is : HandsMake (facts_at past).hand) where
+    (making : makes (facts_at past).hand ≡ true) where
   abbrev pub k : ℕ
   k = ((facts_at past).memory e.0).issued + 1
 
@@ -126,8 +125,11 @@ module _ (rows : CallRows) (past : List Line) (e : Enclave) (p : Pid) (hand : Ha
   abbrev pub issued : List Line
   issued = issue_line (view_of (facts_at past) e) p ∷ past
 
+  fresh : issued_in past e.0 k ≡ false
+  fresh = tied.fresh e.0 k (omega arith)
+
   pub new : (cells past e.0 k).issued ≡ false
-  new = (tied.memory e.0).fresh k (omega arith)
+  new = unissued past e.0 k fresh
 
   -- no record of it is under way
   nowhere : IsNowhere (facts_at past) e.0 k
@@ -161,7 +163,7 @@ module _ (rows : CallRows) (past : List Line) (e : Enclave) (p : Pid) (hand : Ha
       by r _ tells = refl
 
   pub cell_issued : cells issued e.0 k ≡ as_issued p.0 (cells past e.0 k)
-  cell_issued = ap (λ t. cond t (as_issued p.0 (cells past e.0 k)) (cells past e.0 k)) (is_cell_itself e.0 k)
+  cell_issued = ap (λ t. cond t (as_issued p.0 (cells past e.0 k)) (cells past e.0 k)) (and_from (makes (facts_at past).hand) (is_cell e.0 k e.0 k) making (is_cell_itself e.0 k))
 
   -- the segid is drawn at once where the enclave holds the name server
   abbrev pub drawn : List Line
@@ -174,9 +176,9 @@ module _ (rows : CallRows) (past : List Line) (e : Enclave) (p : Pid) (hand : Ha
   runs_drawn : runs (facts_at drawn) e.0 p.0 ≡ true
   runs_drawn = rw (eq-eqb e.0 e.0 refl) running
 
-  may_be_named : (w : Waiting) → at (own_lines hand (own_lines hand v (issue_line v p ∷ [])) (drew_line v e k ∷ [])).memory.waiting k ≡ Some w
+  may_be_named : (w : Waiting) → at (own_lines hand (own_lines hand v (issue_line v p ∷ [])) (drew_line v e k ∷ [])).memory.waiting k ≡ Some w → is_make w.what ≡ true
       → IsNameable drawn e k (next_segid v.names) w
-  may_be_named w found =
+  may_be_named w found is_one =
       let w0 : Waiting = record { call = record { 0 = k }; pid = p; living = true; what = pendings.Make } in
       let put : at (own_lines hand (own_lines hand v (issue_line v p ∷ [])) (drew_line v e k ∷ [])).memory.waiting k ≡ Some w0
       = rows.waiting.put_at ((facts_at past).memory e.0).waiting k k w0 ∙ rw (eq-eqb k k refl) refl in
@@ -212,7 +214,7 @@ module _ (rows : CallRows) (past : List Line) (e : Enclave) (p : Pid) (hand : Ha
   pub goes_make : GoesOn past (make_acts hand v p)
   goes_make =
       goes_first rows past (issue_line v p) (asking_lines hand (own_lines hand v (issue_line v p ∷ [])) k)
-      (record { legal = new; next = (running, refl); served = tt; sends = tt; once = nowhere; gives = hand_is }) tt (by v.core.holder refl)
+      (record { legal = fresh; next = (running, refl, making); served = tt; sends = tt; once = nowhere; gives = tt }) tt (by v.core.holder refl)
     where
       v1 : View
       v1 = own_lines hand v (issue_line v p ∷ [])

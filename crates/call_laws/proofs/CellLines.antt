@@ -1,11 +1,12 @@
 -- What the lines of calls leave of cells.
-use Rattle.std.proofs.Common.{◌≡◌, ◌+◌, ◌≤◌, ℕ, List, ◌∷◌, Bool, true, false, cond, ◌&&◌, eqb, Option, None, Some, inl, inr, refl, sym, ap, ◌∙◌, subst, arith}
+use Rattle.std.proofs.Common.{◌≡◌, ◌+◌, ◌≤◌, ℕ, List, [], ◌∷◌, Bool, true, false, cond, ◌&&◌, eqb, Option, None, Some, inl, inr, refl, sym, ap, ◌∙◌, subst, arith}
 use Rattle.std.specs.Option.{option_map_or}
-use Rattle.std.proofs.lemmas.Bool.{and_parts, eqb-true, eq-eqb, cases_Bool}
+use Rattle.std.proofs.lemmas.Bool.{and_parts, and_right, or_parts, eqb-true, eq-eqb, cases_Bool}
 use Rattle.xemem_language.specs.declared.line.Line.{Line}
 use Rattle.xemem_language.specs.declared.line.Line.TheVariants as lines
 use Rattle.enclave_rules.specs.Exports.{segid_number}
-use Rattle.call_laws.specs.Cells.{CallCell, cells, no_call, is_cell, has_drawn, drawn_in, as_issued, as_drawn, as_near, as_answered, as_forgotten}
+use Rattle.global_model.specs.Facts.{facts_at}
+use Rattle.call_laws.specs.Cells.{CallCell, cells, makes, no_call, is_cell, has_drawn, drawn_in, issued_in, as_issued, as_drawn, as_near, as_answered, as_forgotten}
 use Rattle.call_laws.specs.Legal.{CallAt, MayDraw}
 
 -- ---- which cell a line changes
@@ -43,7 +44,40 @@ drawn_is s c = by c.drew
 pub drawn_has : (s : ℕ) (c : CallCell) → c.drew ≡ Some s → has_drawn s c ≡ true
 drawn_has s c is = ap (λ drew. option_map_or (λ own. eqb own s) drew false) is ∙ eq-eqb s s refl
 
--- ---- a call that wasn't issued has nothing
+-- ---- a call that wasn't issued is no make that was
+
+pub same_issued : (change : CallCell → CallCell) → ((c : CallCell) → (change c).issued ≡ c.issued) → (t : Bool) (c : CallCell) → c.issued ≡ false → (cond t (change c) c).issued ≡ false
+same_issued change same true c none = same c ∙ none
+same_issued change same false c none = none
+
+unissued_line : (past : List Line) (line : Line) (e k : ℕ) → (issued_in past e k ≡ false → (cells past e k).issued ≡ false) → issued_in (line ∷ past) e k ≡ false
+    → (cells (line ∷ past) e k).issued ≡ false
+unissued_line past (lines.Issue of p call) e k old none =
+    let both = or_parts (is_cell e k of.0 call.0) (issued_in past e k) none in
+    by (makes (facts_at past).hand && is_cell e k of.0 call.0) (and_right (makes (facts_at past).hand) (is_cell e k of.0 call.0) both.0) (old both.1)
+  where
+    by : (t : Bool) → t ≡ false → (cells past e k).issued ≡ false → (cond t (as_issued p.0 (cells past e k)) (cells past e k)).issued ≡ false
+    by true is was = cc
+    by false is was = was
+unissued_line past (lines.Drew of call segid) e k old none = same_issued (as_drawn (segid_number segid)) (λ c. refl) (is_cell e k of.0 call.0) (cells past e k) (old none)
+unissued_line past (lines.Named of call segid) e k old none = same_issued (as_near true) (λ c. refl) (is_cell e k of.0 call.0) (cells past e k) (old none)
+unissued_line past (lines.AnswerSegid of p call segid) e k old none = same_issued as_answered (λ c. refl) (is_cell e k of.0 call.0) (cells past e k) (old none)
+unissued_line past (lines.Remove of segid) e k old none =
+    same_issued (as_near false) (λ c. refl) (eqb e of.0 && has_drawn (segid_number segid) (cells past e k)) (cells past e k) (old none)
+unissued_line past (lines.Unnamed segid) e k old none = same_issued as_forgotten (λ c. refl) (has_drawn (segid_number segid) (cells past e k)) (cells past e k) (old none)
+unissued_line past _ e k old none = old none
+
+pub unissued : (past : List Line) (e k : ℕ) → issued_in past e k ≡ false → (cells past e k).issued ≡ false
+unissued [] e k none = refl
+unissued (line ∷ past) e k none = unissued_line past line e k (unissued past e k) none
+
+-- the cell that an issue of a new call changes
+pub new_cell : (past : List Line) (of call : ℕ) → issued_in past of call ≡ false → (e k : ℕ) (made : Bool) → (made && is_cell e k of call) ≡ true → (cells past e k).issued ≡ false
+new_cell past of call none e k made is =
+    let same = same_call e k of call (and_parts made (is_cell e k of call) is).1 in
+    (λ i. (cells past (same.enclave i) (sym same.call_is i)).issued) ∙ unissued past of call none
+
+-- ---- a make that wasn't issued has nothing
 
 abbrev pub IsBlank : CallCell → Type 0
 IsBlank c = c.issued ≡ false → c ≡ no_call
@@ -56,8 +90,11 @@ blank_waits c blank waits = elim (cases_Bool c.issued) [
 
 pub blank_line : (past : List Line) (line : Line) → CallAt past line → ((e k : ℕ) → IsBlank (cells past e k)) → (e k : ℕ)
     → IsBlank (cells (line ∷ past) e k)
-blank_line past (lines.Issue of p call) legal blank e k =
-    cell_at (λ e k c. IsBlank c) (as_issued p.0) (cells past) of.0 call.0 e k (λ none. absurd (cc)) (λ other. blank e k)
+blank_line past (lines.Issue of p call) legal blank e k = by (makes (facts_at past).hand && is_cell e k of.0 call.0)
+  where
+    by : (t : Bool) → IsBlank (cond t (as_issued p.0 (cells past e k)) (cells past e k))
+    by true none = cc
+    by false none = blank e k none
 blank_line past (lines.Drew of call segid) legal blank e k =
     cell_at (λ e k c. IsBlank c) (as_drawn (segid_number segid)) (cells past) of.0 call.0 e k
     (λ none. let clash : true ≡ false = sym legal.issued ∙ none in absurd (cc)) (λ other. blank e k)
@@ -122,7 +159,7 @@ drew_ones past of call s legal ones next count changed = record { some = λ e k 
 
 pub ones_line : (past : List Line) (line : Line) → CallAt past line → AreOnes past → AreOnes (line ∷ past)
 ones_line past (lines.Issue of p call) legal ones =
-    same_ones past (lines.Issue of p call) (λ e k. drew_kept (as_issued p.0) (λ c. refl) (is_cell e k of.0 call.0) (cells past e k)) refl ones
+    same_ones past (lines.Issue of p call) (λ e k. drew_kept (as_issued p.0) (λ c. refl) (makes (facts_at past).hand && is_cell e k of.0 call.0) (cells past e k)) refl ones
 ones_line past (lines.Drew of call segid) legal ones =
     drew_ones past of.0 call.0 (segid_number segid) legal ones (lines.Drew of call segid ∷ past) (omega arith)
     (λ e k. by (is_cell e k of.0 call.0) (cells past e k))

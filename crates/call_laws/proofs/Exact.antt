@@ -10,7 +10,7 @@ use Rattle.xemem_language.specs.declared.line.Line.TheVariants as lines
 use Rattle.name_server.specs.Names.{NamesState}
 use Rattle.enclave_rules.specs.Exports.{segid_number}
 use Rattle.global_model.specs.Facts.{at_number, facts_at}
-use Rattle.call_laws.specs.Cells.{CallCell, cells, drawn_in, is_cell, has_drawn, as_issued, as_drawn, as_near, as_answered, as_forgotten}
+use Rattle.call_laws.specs.Cells.{CallCell, cells, drawn_in, is_cell, has_drawn, as_issued, as_drawn, as_near, as_answered, as_forgotten, makes}
 use Rattle.call_laws.specs.Legal.{CallAt}
 use Rattle.call_laws.proofs.CellLines.{AreOnes, drawn_has, same_call}
 use Rattle.call_laws.proofs.NameLines.{IsServed, IsServer, IsStanding}
@@ -95,7 +95,7 @@ names_line_kept rows past (lines.Born child kind parent ns blocks) legal served 
     by true one = absurd (let none = server.before one in let some = ones.some e k s drew in let low = some.0 in let high = some.1 in omega (arith, none, low, high))
     by false one = old e k s drew far
 names_line_kept rows past (lines.Issue of p call) legal served ones server old e k s drew far =
-    same_names past (lines.Issue of p call) (λ e k. keeps_standing (as_issued p.0) (λ c. record { drew = refl; far = refl }) (is_cell e k of.0 call.0) (cells past e k)) refl refl old e k s drew far
+    same_names past (lines.Issue of p call) (λ e k. keeps_standing (as_issued p.0) (λ c. record { drew = refl; far = refl }) (makes (facts_at past).hand && is_cell e k of.0 call.0) (cells past e k)) refl refl old e k s drew far
 names_line_kept rows past (lines.Named of call segid) legal served ones server old e k s drew far =
     same_names past (lines.Named of call segid) (λ e k. keeps_standing (as_near true) (λ c. record { drew = refl; far = refl }) (is_cell e k of.0 call.0) (cells past e k)) refl refl old e k s drew far
 names_line_kept rows past (lines.AnswerSegid of p call segid) legal served ones server old e k s drew far =

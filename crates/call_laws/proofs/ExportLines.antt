@@ -14,7 +14,7 @@ use Rattle.exporter_pins.specs.Holdings.{Export, has_segid, live_export, live_wi
 use Rattle.enclave_rules.specs.Exports.{segid_number, region_export, with_asked, with_issued_export, without_live}
 use Rattle.enclave_rules.specs.Hand.{Hand, Nothing, Calls, Reads}
 use Rattle.global_model.specs.Facts.{facts_at}
-use Rattle.call_laws.specs.Cells.{CallCell, cells, is_cell, has_drawn, as_issued, as_drawn, as_near, as_answered, as_forgotten}
+use Rattle.call_laws.specs.Cells.{CallCell, cells, is_cell, has_drawn, as_issued, as_drawn, as_near, as_answered, as_forgotten, makes}
 use Rattle.call_laws.specs.Legal.{CallAt, MayDraw}
 use Rattle.call_laws.proofs.CellLines.{AreOnes, same_call, is_cell_itself, drawn_is}
 use Rattle.call_laws.proofs.Rows.{Ascends, all_less, all_more, all_none, all_put, ascends_less, ascends_put, found_has}
@@ -140,7 +140,7 @@ live_line past (lines.Issue e p call) legal ones old j =
 
     all : (j : ℕ) → IsExports (cells (lines.Issue e p call ∷ past) j) ((facts_at past).exports j)
     all j = rows_stay (cells past j) (cells (lines.Issue e p call ∷ past) j)
-        (λ k. live_cond (as_issued p.0) (λ c s live. record { near = live.near; drawn = live.drawn }) (is_cell j k e.0 call.0) (cells past j k)) ((facts_at past).exports j) (old j)
+        (λ k. live_cond (as_issued p.0) (λ c s live. record { near = live.near; drawn = live.drawn }) (makes (facts_at past).hand && is_cell j k e.0 call.0) (cells past j k)) ((facts_at past).exports j) (old j)
 live_line past (lines.Named e call segid) legal ones old j =
     rows_at D e.0 j (with_live call.0 (segid_number segid) ((facts_at past).exports e.0)) (facts_at past).exports
     (named_rows (D e.0) call (segid_number segid) ((facts_at past).exports e.0)

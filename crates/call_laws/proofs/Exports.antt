@@ -5,23 +5,23 @@ use Rattle.std.specs.BTreeMap.{insert_entry, is_at}
 use Rattle.std.specs.Map.{lookup, remove_entry}
 use Rattle.std.specs.Ordering.{nat_cmp, is_eq}
 use Rattle.std.specs.declared.cmp.Ordering.TheVariants.{Less, Equal, Greater}
-use Rattle.std.proofs.lemmas.Bool.{eqb-true, eqb-false, eq-eqb, ne_eqb, ltb-true, cases_Bool}
+use Rattle.std.proofs.lemmas.Bool.{and_right, eqb-true, eqb-false, eq-eqb, ne_eqb, ltb-true, cases_Bool}
 use Rattle.xm_num.specs.declared.CallNo.{CallNo}
 use Rattle.xm_num.specs.declared.Enclave.{Enclave}
 use Rattle.xm_num.specs.Rows.{at, less, put}
+use Rattle.xemem_language.specs.declared.call.Call.{Call}
 use Rattle.xemem_language.specs.declared.call.Call.TheVariants as calls
-use Rattle.xemem_language.specs.declared.call.ProcessCall.{ProcessCall}
 use Rattle.xemem_language.specs.declared.line.Line.{Line}
 use Rattle.xemem_language.specs.declared.line.Line.TheVariants as lines
 use Rattle.attach_map.specs.Attaching.{AttacherState, ProcessState}
 use Rattle.exporter_pins.specs.Holdings.{Export, has_segid, is_asked, live_export, live_with, with_live}
 use Rattle.enclave_rules.specs.Exports.{region_export, segid_number, with_asked, with_issued_export, without_live}
-use Rattle.enclave_rules.specs.Hand.{Hand, Calls}
+use Rattle.enclave_rules.specs.Hand.{Hand, Calls, Nothing, Reads}
 use Rattle.global_model.specs.Facts.{facts_at}
-use Rattle.call_laws.specs.Cells.{CallCell, cells, is_cell, has_drawn, as_issued, as_drawn, as_near, as_answered, as_forgotten}
+use Rattle.call_laws.specs.Cells.{CallCell, cells, is_cell, has_drawn, as_issued, as_drawn, as_near, as_answered, as_forgotten, is_making, makes}
 use Rattle.call_laws.specs.Legal.{CallAt}
 use Rattle.call_laws.proofs.Rows.{found_has, less_rows, put_rows}
-use Rattle.call_laws.proofs.CellLines.{AreOnes, IsBlank, drawn_has, same_call}
+use Rattle.call_laws.proofs.CellLines.{AreOnes, IsBlank, drawn_has, new_cell, same_call}
 use Rattle.call_laws.proofs.MemoryLines.{IssuesNext}
 use Rattle.call_laws.proofs.ExportLines.{AreLive, IsLive, IsLiveRow}
 
@@ -80,18 +80,8 @@ pub record IsExact (c : CallCell) (row : Option Export) : Type 0 where
 abbrev pub AreExact : List Line → Type 0
 AreExact past = (e k : ℕ) → IsExact (cells past e k) (at ((facts_at past).exports e) k)
 
--- a make is at hand
-pub record HandsMake (hand : Hand) : Type 0 where
-  pub asked : ProcessCall
-  pub addr : ℕ
-  pub size : ℕ
-  pub mode : ℕ
-  pub hand_is : hand ≡ Calls asked
-  pub call_is : asked.call ≡ calls.Make addr size mode
-
--- a make is issued while it is at hand, no segment is live when its segid is drawn, and none that waits is when one is removed
+-- no segment is live when its segid is drawn, and none that waits is when one is removed
 abbrev pub GivesAt : List Line → Line → Type 0
-GivesAt past (lines.Issue e p call) = HandsMake (facts_at past).hand
 GivesAt past (lines.Drew e call segid) = (cells past e.0 call.0).near ≡ false
 GivesAt past (lines.Remove e segid) = (e k : ℕ) → (cells past e k).near ≡ true → (cells past e k).waits ≡ false
 GivesAt past line = Unit {0}
@@ -107,22 +97,29 @@ exact_cond : (change : CallCell → CallCell) (row : Option Export) → ((c : Ca
 exact_cond change row keeps true c old = keeps c old
 exact_cond change row keeps false c old = old
 
-issued_rows : (hand : Hand) (p : ℕ) (call : CallNo) (m : AttacherState) (rows : List (ℕ × Export)) → HandsMake hand → is_some (at m.processes p) ≡ true → (k : ℕ)
-    → (P : Option Export → Type 0) → ((x : Export) → x.segid ≡ None → P (cond (eqb call.0 k) (Some x) (at rows k))) → P (at (with_issued_export hand p call m rows) k)
-issued_rows hand p call m rows make running k P holds =
-    subst (λ h. P (at (with_issued_export h p call m rows) k)) (sym make.hand_is)
-    (subst (λ c. P (at (with_asked p call c m rows) k)) (sym make.call_is) (by (at m.processes p) running))
+issued_rows : (hand : Hand) (p : ℕ) (call : CallNo) (m : AttacherState) (rows : List (ℕ × Export)) → is_some (at m.processes p) ≡ true → (k : ℕ) (P : Option Export → Type 0)
+    → (makes hand ≡ true → (x : Export) → x.segid ≡ None → P (cond (eqb call.0 k) (Some x) (at rows k))) → (makes hand ≡ false → P (at rows k))
+    → P (at (with_issued_export hand p call m rows) k)
+issued_rows Nothing p call m rows running k P making other = other refl
+issued_rows (Reads rec) p call m rows running k P making other = other refl
+issued_rows (Calls asked) p call m rows running k P making other = by asked.call making other
   where
-    by : (found : Option ProcessState) → is_some found ≡ true
-        → P (at (option_map_or (λ process. put rows call.0 (region_export p process make.addr make.size make.mode)) found rows) k)
-    by None is = cc
-    by (Some process) is =
-        subst P (sym (at_put rows call.0 k (region_export p process make.addr make.size make.mode))) (holds (region_export p process make.addr make.size make.mode) refl)
+    made : (addr size mode : ℕ) → ((x : Export) → x.segid ≡ None → P (cond (eqb call.0 k) (Some x) (at rows k))) → (found : Option ProcessState) → is_some found ≡ true
+        → P (at (option_map_or (λ process. put rows call.0 (region_export p process addr size mode)) found rows) k)
+    made addr size mode holds None is = cc
+    made addr size mode holds (Some process) is =
+        subst P (sym (at_put rows call.0 k (region_export p process addr size mode))) (holds (region_export p process addr size mode) refl)
 
-issue_exact : (past : List Line) (e : Enclave) (p : ℕ) (call : CallNo) (rows : List (ℕ × Export)) (t : Bool) (j k : ℕ) (x : Export) → x.segid ≡ None → t ≡ true
+    by : (asks : Call) → (is_making asks ≡ true → (x : Export) → x.segid ≡ None → P (cond (eqb call.0 k) (Some x) (at rows k))) → (is_making asks ≡ false → P (at rows k))
+        → P (at (with_asked p call asks m rows) k)
+    by (calls.Make addr size mode) making other = made addr size mode (making refl) (at m.processes p) running
+    by (calls.Alloc page n) making other = other refl
+    by (calls.Remove segid) making other = other refl
+
+issue_exact : (past : List Line) (e : Enclave) (p : ℕ) (call : CallNo) (rows : List (ℕ × Export)) (j k : ℕ) (x : Export) → x.segid ≡ None
     → (is_cell j k e.0 call.0 ≡ true → (cells past j k).near ≡ false) → eqb j e.0 ≡ true → IsExact (cells past j k) (at rows k)
     → IsExact (cond (is_cell j k e.0 call.0) (as_issued p (cells past j k)) (cells past j k)) (cond (eqb call.0 k) (Some x) (at rows k))
-issue_exact past e p call rows t j k x none is fresh here old = by (eqb j e.0) here (eqb call.0 k) refl fresh
+issue_exact past e p call rows j k x none fresh here old = by (eqb j e.0) here (eqb call.0 k) refl fresh
   where
     by : (u : Bool) → u ≡ true → (s : Bool) → eqb call.0 k ≡ s → ((u && s) ≡ true → (cells past j k).near ≡ false)
         → IsExact (cond (u && s) (as_issued p (cells past j k)) (cells past j k)) (cond s (Some x) (at rows k))
@@ -136,18 +133,25 @@ issue_exact past e p call rows t j k x none is fresh here old = by (eqb j e.0) h
 pub exact_line : (past : List Line) (line : Line) → CallAt past line → IssuesNext (facts_at past) line → GivesAt past line → ((e k : ℕ) → IsBlank (cells past e k)) → AreOnes past → AreLive past
     → AreExact past → AreExact (line ∷ past)
 exact_line past (lines.Issue e p call) legal next gives blank ones lives old j k =
-    exact_at (cells (lines.Issue e p call ∷ past) j) (with_issued_export (facts_at past).hand p.0 call ((facts_at past).memory e.0) ((facts_at past).exports e.0)) ((facts_at past).exports j) (eqb j e.0) k
-    (λ here. issued_rows (facts_at past).hand p.0 call ((facts_at past).memory e.0) ((facts_at past).exports e.0) gives next.0 k
-    (λ row. IsExact (cells (lines.Issue e p call ∷ past) j k) row)
-    (λ x none. issue_exact past e p.0 call ((facts_at past).exports e.0) true j k x none refl fresh here
-    (subst (λ n. IsExact (cells past j k) (at ((facts_at past).exports n) k)) (eqb-true j e.0 here) (old j k))))
-    (λ there. subst (λ t. IsExact (cond (t && eqb call.0 k) (as_issued p.0 (cells past j k)) (cells past j k)) (at ((facts_at past).exports j) k)) (sym there) (old j k))
+    exact_at (cells (lines.Issue e p call ∷ past) j) (with_issued_export (facts_at past).hand p.0 call ((facts_at past).memory e.0) rows) ((facts_at past).exports j) (eqb j e.0) k
+    (λ here. issued_rows (facts_at past).hand p.0 call ((facts_at past).memory e.0) rows next.0 k (λ row. IsExact (cells (lines.Issue e p call ∷ past) j k) row)
+    (λ making x none. subst (λ t. IsExact (changed (t && is_cell j k e.0 call.0)) (cond (eqb call.0 k) (Some x) (at rows k))) (sym making)
+    (issue_exact past e p.0 call rows j k x none fresh here (same here)))
+    (λ other. subst (λ t. IsExact (changed (t && is_cell j k e.0 call.0)) (at rows k)) (sym other) (same here)))
+    (λ there. subst (λ t. IsExact (changed t) (at ((facts_at past).exports j) k))
+    (sym (and_right (makes (facts_at past).hand) (is_cell j k e.0 call.0) (ap (λ t. t && eqb call.0 k) there))) (old j k))
   where
+    rows : List (ℕ × Export)
+    rows = (facts_at past).exports e.0
+
+    changed : Bool → CallCell
+    changed t = cond t (as_issued p.0 (cells past j k)) (cells past j k)
+
+    same : eqb j e.0 ≡ true → IsExact (cells past j k) (at rows k)
+    same here = subst (λ n. IsExact (cells past j k) (at ((facts_at past).exports n) k)) (eqb-true j e.0 here) (old j k)
+
     fresh : is_cell j k e.0 call.0 ≡ true → (cells past j k).near ≡ false
-    fresh is =
-        let same = same_call j k e.0 call.0 is in
-        let none : (cells past j k).issued ≡ false = (λ i. (cells past (same.enclave i) (sym same.call_is i)).issued) ∙ legal in
-        ap (λ c. c.near) (blank j k none)
+    fresh is = ap (λ c. c.near) (blank j k (new_cell past e.0 call.0 legal j k true is))
 exact_line past (lines.Named e call segid) legal next gives blank ones lives old j k =
     exact_at (cells (lines.Named e call segid ∷ past) j) (with_live call.0 (segid_number segid) ((facts_at past).exports e.0)) ((facts_at past).exports j) (eqb j e.0) k
     (λ here. named (at ((facts_at past).exports e.0) call.0) refl here)

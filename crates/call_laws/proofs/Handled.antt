@@ -1,5 +1,5 @@
 -- What an enclave makes of a record that it got is lawful.
-use Rattle.std.proofs.Common.{◌≡◌, ◌+◌, ℕ, List, [], ◌∷◌, ◌++◌, filter, Bool, true, false, cond, ◌&&◌, eqb, Option, None, Some, refl, sym, ap, ◌∙◌, subst, inl, inr}
+use Rattle.std.proofs.Common.{◌≡◌, ◌+◌, ℕ, List, [], ◌∷◌, ◌++◌, filter, Bool, true, false, cond, ◌&&◌, eqb, Option, None, Some, is_none, refl, sym, ap, ◌∙◌, subst, inl, inr}
 use Rattle.std.specs.List.{AllByRecursion}
 use Rattle.std.specs.Option.{option_map_or}
 use Rattle.std.proofs.lemmas.Bool.{and_parts, and_from, eqb-true, eq-eqb, or_parts}
@@ -13,12 +13,13 @@ use Rattle.xemem_language.specs.declared.line.Line.{Line}
 use Rattle.xemem_language.specs.declared.line.Line.TheVariants as lines
 use Rattle.attach_map.specs.declared.Pending.TheVariants as pendings
 use Rattle.attach_map.specs.declared.Waiting.{Waiting}
+use Rattle.exporter_pins.specs.Holdings.{is_asked, live_export}
 use Rattle.name_server.specs.Names.{NamesState, has_name}
 use Rattle.enclave_rules.specs.Exports.{segid_number, is_segid}
 use Rattle.enclave_rules.specs.Names.{can_draw, next_segid}
 use Rattle.enclave_rules.specs.View.{View}
 use Rattle.enclave_rules.specs.Ways.{place_among}
-use Rattle.enclave_rules.specs.Segments.{drew_line, name_lines, named_lines, named_record, takes_name, unname_lines}
+use Rattle.enclave_rules.specs.Segments.{drew_line, is_make, is_waiting_make, name_lines, named_lines, named_record, takes_name, unname_lines}
 use Rattle.enclave_rules.specs.Sending.{Server, To, drop_lines, made_lines, send_lines, knows_way, way_to}
 use Rattle.enclave_rules.specs.Steps.{admit_of, admit_over, admit_to, body_lines, handled_lines, here_of, is_stray, name_request_lines, named_to, record_lines, register_of, told_askers, unname_to}
 use Rattle.global_model.specs.Facts.{EnclaveFact, Facts, fact_of, facts_at, is_holder, runs}
@@ -31,7 +32,7 @@ use Rattle.call_laws.specs.Laws.{CallRows}
 use Rattle.call_laws.proofs.CellLines.{is_cell_itself}
 use Rattle.call_laws.proofs.Each.{each_either, each_over, each_told}
 use Rattle.call_laws.proofs.Rows.{all_append}
-use Rattle.call_laws.proofs.MemoryLines.{waiting_row}
+use Rattle.call_laws.proofs.MemoryLines.{make_is, make_row, waiting_row}
 use Rattle.call_laws.specs.One.{IsPair}
 use Rattle.call_laws.proofs.SentLines.{IsEnded, Tells, TellsBy}
 use Rattle.call_laws.proofs.Requests.{RequestsOnce, all-behind, got_gone, got_same}
@@ -88,46 +89,53 @@ pub record IsNameable (past : List Line) (e : Enclave) (call : ℕ) (segid : Seg
   pub nowhere : IsNowhere (facts_at past) e.0 call
 
 pub goes_named : CallRows → (past : List Line) (v : View) (call : ℕ) (segid : Segid)
-    → ((w : Waiting) → at v.memory.waiting call ≡ Some w → IsNameable past v.me call segid w) → GoesOn past (named_lines v call segid)
+    → ((w : Waiting) → at v.memory.waiting call ≡ Some w → is_make w.what ≡ true → IsNameable past v.me call segid w) → GoesOn past (named_lines v call segid)
 goes_named rows past v call segid may = by (at v.memory.waiting call) (λ w is. may w is)
   where
-    named : (w : Waiting) → IsNameable past v.me call segid w → (t : Bool)
+    named : (w : Waiting) → (t : Bool) → (t ≡ true → IsNameable past v.me call segid w)
         → GoesOn past (cond t (lines.Named v.me (record { 0 = call }) segid ∷ lines.AnswerSegid v.me w.pid (record { 0 = call }) segid ∷ []) (drop_lines v))
-    named w ok true = record {
-      keeps = (
+    named w true may =
+        let ok : IsNameable past v.me call segid w = may refl in
         record {
-          legal = record { waits = ok.waits; process = ok.running; drawn = ok.drawn };
-          next = tt;
-          served = tt;
-          sends = tt;
-          once = (ok.nowhere, ok.stands);
-          gives = tt;
-        },
-        (
-          record {
-            legal = record {
-              waits = rw (is_cell_itself v.me.0 call) ok.waits;
-              process = rw (is_cell_itself v.me.0 call) ok.process;
-              named = rw (is_cell_itself v.me.0 call) refl;
-              drawn = rw (is_cell_itself v.me.0 call) ok.drawn;
-            };
-            next = tt;
-            served = tt;
-            sends = tt;
-            once = ok.nowhere;
-            gives = tt;
-          },
-          tt,
-        ),
-      );
-      answered = λ tied answered. answered_named past v.me w.pid (record { 0 = call }) segid segid answered;
-    }
-    named w ok false = goes_free rows past (drop_lines v) (tt, tt)
+          keeps = (
+            record {
+              legal = record { waits = ok.waits; process = ok.running; drawn = ok.drawn };
+              next = tt;
+              served = tt;
+              sends = tt;
+              once = (ok.nowhere, ok.stands);
+              gives = tt;
+            },
+            (
+              record {
+                legal = record {
+                  waits = rw (is_cell_itself v.me.0 call) ok.waits;
+                  process = rw (is_cell_itself v.me.0 call) ok.process;
+                  named = rw (is_cell_itself v.me.0 call) refl;
+                  drawn = rw (is_cell_itself v.me.0 call) ok.drawn;
+                };
+                next = tt;
+                served = tt;
+                sends = tt;
+                once = ok.nowhere;
+                gives = tt;
+              },
+              tt,
+            ),
+          );
+          answered = λ tied answered. answered_named past v.me w.pid (record { 0 = call }) segid segid answered;
+        }
+    named w false may = goes_free rows past (drop_lines v) (tt, tt)
 
-    by : (found : Option Waiting) → ((w : Waiting) → found ≡ Some w → IsNameable past v.me call segid w)
+    making : (w : Waiting) → takes_name v call segid w ≡ true → is_make w.what ≡ true
+    making w takes =
+        let rest = (and_parts (is_segid segid) (is_waiting_make w && (is_asked (at v.exports call) && is_none (live_export v.exports (segid_number segid)))) takes).1 in
+        (and_parts w.living (is_make w.what) (and_parts (is_waiting_make w) (is_asked (at v.exports call) && is_none (live_export v.exports (segid_number segid))) rest).0).1
+
+    by : (found : Option Waiting) → ((w : Waiting) → found ≡ Some w → is_make w.what ≡ true → IsNameable past v.me call segid w)
         → GoesOn past (option_map_or (λ waiting. cond (takes_name v call segid waiting) (lines.Named v.me (record { 0 = call }) segid ∷ lines.AnswerSegid v.me waiting.pid (record { 0 = call }) segid ∷ []) (drop_lines v)) found (drop_lines v))
     by None may = goes_free rows past (drop_lines v) (tt, tt)
-    by (Some w) may = named w (may w refl) (takes_name v call segid w)
+    by (Some w) may = named w (takes_name v call segid w) (λ takes. may w refl (making w takes))
 
 -- what waits by a cell
 pub row_waits : (k : ℕ) (c : CallCell) (w : Waiting) → waiting_row k c ≡ Some w → (c.waits ≡ true) × (c.process ≡ w.pid.0)
@@ -282,10 +290,10 @@ module _ (rows : CallRows) (past : List Line) (x y : Enclave) (r : Record) (behi
   goes_name segid body (Some d) to told = by (eqb d.0 y.0) refl
     where
       by : (t : Bool) → eqb d.0 y.0 ≡ t → GoesOn (lines.Got x y ∷ past) (cond t (named_lines v r.call segid) (send_lines v (Some x) (To d) r))
-      by true is = goes_named rows (lines.Got x y ∷ past) v r.call segid (λ w found.
+      by true is = goes_named rows (lines.Got x y ∷ past) v r.call segid (λ w found is_one.
           let own : is_of y.0 r.call r ≡ true = ap (is_of_by y.0 r.call r) body
           ∙ (λ i. option_map_or (λ (d : Enclave). eqb d.0 y.0) (to i) false && eqb r.call r.call) ∙ and_from (eqb d.0 y.0) (eqb r.call r.call) is (eq-eqb r.call r.call refl) in
-          let row = row_waits r.call (cells past y.0 r.call) w (sym ((tied.memory y.0).waiting r.call) ∙ found) in
+          let row = row_waits r.call (cells past y.0 r.call) w (sym ((tied.memory y.0).waiting r.call) ∙ (ap make_row found ∙ make_is w is_one)) in
           record {
             waits = row.0;
             process = row.1;

@@ -1,6 +1,6 @@
 -- A call of which no record is under way neither waits nor has a name without a live segment: what lines leave of that.
 use Rattle.std.proofs.Common.{◌≡◌, ℕ, List, [], ◌∷◌, ◌++◌, filter, Bool, true, false, cond, ◌&&◌, eqb, refl, sym, ap, ◌∙◌, subst}
-use Rattle.std.proofs.lemmas.Bool.{eq-eqb}
+use Rattle.std.proofs.lemmas.Bool.{and_right, eq-eqb}
 use Rattle.xm_num.specs.declared.Enclave.{Enclave}
 use Rattle.xemem_language.specs.declared.record.Record.{Record}
 use Rattle.xemem_language.specs.declared.line.Line.{Line}
@@ -9,7 +9,7 @@ use Rattle.enclave_rules.specs.Exports.{segid_number}
 use Rattle.global_model.specs.Facts.{Facts, facts_at}
 use Rattle.global_model.specs.Journals.{Follows, onto}
 use Rattle.discovery_laws.specs.Known.{in_flight}
-use Rattle.call_laws.specs.Cells.{CallCell, cells, is_cell, has_drawn}
+use Rattle.call_laws.specs.Cells.{CallCell, cells, is_cell, has_drawn, makes}
 use Rattle.call_laws.specs.Flights.{IsNowhere, is_of}
 use Rattle.call_laws.specs.Laws.{CallRows}
 use Rattle.call_laws.proofs.CellLines.{same_call}
@@ -69,7 +69,8 @@ idle_line past (lines.Sent x y r) e k once bounded spares old none =
 idle_line past (lines.Got x y) e k once bounded spares old none =
     old (behind_none past x y e k once.0 once.1.others once.1.is (spares once.0 once.1.others once.1.is) none)
 idle_line past (lines.Took x y count) e k once bounded spares old none = old (λ a b. sym (tested_took (is_of e k) (facts_at past) x y count a b) ∙ none a b)
-idle_line past (lines.Issue of p call) e k once bounded spares old none = idle_cond (is_cell e k of.0 call.0) (cells past e k) _ spares (old none)
+idle_line past (lines.Issue of p call) e k once bounded spares old none =
+    idle_cond (makes (facts_at past).hand && is_cell e k of.0 call.0) (cells past e k) _ (and_right (makes (facts_at past).hand) (is_cell e k of.0 call.0) spares) (old none)
 idle_line past (lines.Drew of call segid) e k once bounded spares old none = idle_cond (is_cell e k of.0 call.0) (cells past e k) _ spares (old none)
 idle_line past (lines.Named of call segid) e k once bounded spares old none = idle_cond (is_cell e k of.0 call.0) (cells past e k) _ spares (old none)
 idle_line past (lines.AnswerSegid of p call segid) e k once bounded spares old none = idle_cond (is_cell e k of.0 call.0) (cells past e k) _ spares (old none)

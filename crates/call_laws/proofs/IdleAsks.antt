@@ -29,7 +29,7 @@ use Rattle.call_laws.proofs.Room.{draws, next_fits}
 use Rattle.call_laws.proofs.Tied.{IsTied, KeepsAt, tied_line}
 use Rattle.xm_num.specs.declared.Pid.{Pid}
 use Rattle.enclave_rules.specs.Memory.{with_issued}
-use Rattle.call_laws.specs.Cells.{as_drawn, as_issued}
+use Rattle.call_laws.specs.Cells.{as_drawn, as_issued, makes}
 use Rattle.attach_map.specs.Attaching.{AttacherState}
 use Rattle.enclave_rules.specs.Exports.{exports_line}
 use Rattle.enclave_rules.specs.Hand.{Hand}
@@ -38,7 +38,6 @@ use Rattle.enclave_rules.specs.Segments.{asking_lines, issue_line, make_acts, na
 use Rattle.global_model.specs.Facts.{at_number, runs}
 use Rattle.discovery_laws.specs.Known.{knows}
 use Rattle.call_laws.proofs.Asks.{cell_drawn, goes_make, new}
-use Rattle.call_laws.proofs.Exports.{HandsMake}
 use Rattle.call_laws.proofs.IdleRecords.{made_is, named_is, none_live}
 use Rattle.call_laws.proofs.Room.{valid_request}
 
@@ -60,7 +59,7 @@ number_itself k w f = ap (λ t. cond t w (f k)) (eq-eqb k k refl)
 -- ---- a make
 
 module _ (rows : CallRows) (past : List Line) (e : Enclave) (p : Pid) (hand : Hand) (tied : IsTied past) (running : runs (facts_at past) e.0 p.0 ≡ true)
-    (hands : HandsMake (facts_at past).hand) (hand_is : (facts_at past).hand ≡ hand) (number : e.0 ≤ 255) where
+    (making : makes (facts_at past).hand ≡ true) (hand_is : (facts_at past).hand ≡ hand) (number : e.0 ≤ 255) where
   abbrev pub G : Facts
   G = facts_at past
 
@@ -136,16 +135,16 @@ module _ (rows : CallRows) (past : List Line) (e : Enclave) (p : Pid) (hand : Ha
           ∙ ap (λ t. issue ∷ cond t (drew ∷ named_lines u k segid) (drop_lines w)) (draws v.names few)
 
       keeps : Follows KeepsAt past (issue ∷ drew ∷ named_lines u k segid)
-      keeps = subst (Follows KeepsAt past) lines_are (goes_make rows past e p hand tied running hands).keeps
+      keeps = subst (Follows KeepsAt past) lines_are (goes_make rows past e p hand tied running making).keeps
 
       after : IsTied drawn
       after = tied_line rows (issue ∷ past) drew keeps.1.0 (tied_line rows past issue keeps.0 tied)
 
       cell : cells drawn e.0 k ≡ as_drawn (segid_number segid) (as_issued p.0 (cells past e.0 k))
-      cell = cell_drawn rows past e p hand tied running hands
+      cell = cell_drawn rows past e p hand tied running making
 
       near : (cells drawn e.0 k).near ≡ false
-      near = ap (λ c. c.near) cell ∙ ap (λ c. c.near) (tied.blank e.0 k (new rows past e p hand tied running hands))
+      near = ap (λ c. c.near) cell ∙ ap (λ c. c.near) (tied.blank e.0 k (new rows past e p hand tied running making))
 
       exports_are : (facts_at drawn).exports e.0 ≡ u.exports
       exports_are = number_itself e.0 (exports_line G.hand (G.memory e.0) (G.exports e.0) issue) G.exports ∙ ap (λ h. exports_line h (G.memory e.0) (G.exports e.0) issue) hand_is
@@ -165,7 +164,7 @@ module _ (rows : CallRows) (past : List Line) (e : Enclave) (p : Pid) (hand : Ha
 
   pub idle_make : knows G e.0 ≡ true → HasRoom (issue_line (view_of (facts_at past) e) p ∷ past) → HasRoom past → AreIdle past → AreIdle (onto (make_acts hand (view_of (facts_at past) e) p) past)
   idle_make knowing later room idle =
-      settled rows past (make_acts hand v p) e.0 k (goes_make rows past e p hand tied running hands).keeps tied (by v.core.holder refl) idle
+      settled rows past (make_acts hand v p) e.0 k (goes_make rows past e p hand tied running making).keeps tied (by v.core.holder refl) idle
     where
       few : k < 2 ^ 32
       few =

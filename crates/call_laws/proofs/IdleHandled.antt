@@ -30,6 +30,7 @@ use Rattle.call_laws.specs.Laws.{CallRows}
 use Rattle.call_laws.specs.Onward.{IsOnward}
 use Rattle.call_laws.specs.Places.{HasRoom}
 use Rattle.call_laws.proofs.CellLines.{drawn_has, is_cell_itself}
+use Rattle.call_laws.proofs.MemoryLines.{make_found}
 use Rattle.call_laws.proofs.Handled.{got_fits, ns_is}
 use Rattle.call_laws.proofs.Idle.{Settles, Spares, settles_end, settles_first, settles_sent}
 use Rattle.call_laws.proofs.Room.{IsCalling, draws, next_fits, named_fits, unname_fits, valid_calling, valid_named}
@@ -149,7 +150,7 @@ module _ (rows : CallRows) (past : List Line) (x y : Enclave) (r : Record) (behi
       answer = lines.AnswerSegid y w.pid (record { 0 = r.call }) segid
 
       found : at v.memory.waiting r.call ≡ Some w
-      found = (tied.memory y.0).waiting r.call ∙ ap (λ t. cond t (Some w) None) fit.waits_is
+      found = make_found (at v.memory.waiting r.call) w ((tied.memory y.0).waiting r.call ∙ ap (λ t. cond t (Some w) None) fit.waits_is)
 
       takes : takes_name v r.call segid w ≡ true
       takes = and_from (is_segid segid) (is_asked (at v.exports r.call) && is_none (live_export v.exports (segid_number segid))) (named_fits r segid body valid)

@@ -19,7 +19,7 @@ use Rattle.discovery_laws.specs.Known.{way_at}
 use Rattle.call_laws.specs.Cells.{as_forgotten, cells, has_drawn, is_cell}
 use Rattle.call_laws.specs.Laws.{CallRows}
 use Rattle.call_laws.specs.Places.{HasRoom}
-use Rattle.call_laws.proofs.CellLines.{drawn_has}
+use Rattle.call_laws.proofs.CellLines.{drawn_has, unissued}
 use Rattle.call_laws.proofs.ExportLines.{IsLive}
 use Rattle.call_laws.proofs.Handled.{ns_is}
 use Rattle.call_laws.proofs.Idle.{AreIdle, Settles, Spares, settled, settles_end, settles_first, settles_sent}
@@ -136,7 +136,7 @@ module _ (rows : CallRows) (past : List Line) (e : Enclave) (segid : Segid) (tie
         | inl is ↦ (let le = leb-true made (G.memory e.0).issued is in let most = room.calls e.0 in omega (arith, le, most))
         | inr none ↦ absurd (
             let more = leb-false made (G.memory e.0).issued none in
-            let clash : true ≡ false = sym issued ∙ (tied.memory e.0).fresh made (omega (arith, more)) in
+            let clash : true ≡ false = sym issued ∙ unissued past e.0 made (tied.fresh e.0 made (omega (arith, more))) in
             cc)
       ]
 

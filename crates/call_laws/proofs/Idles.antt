@@ -1,5 +1,5 @@
 -- At every pause each call is idle or on its way.
-use Rattle.std.proofs.Common.{◌+◌, List, [], ◌∷◌, ◌++◌, Bool, cond, refl, sym, subst}
+use Rattle.std.proofs.Common.{◌+◌, List, [], ◌∷◌, ◌++◌, Bool, cond, refl, sym, ap, subst}
 use Rattle.xm_num.specs.declared.Block.{Block}
 use Rattle.xm_num.specs.declared.Enclave.{Enclave}
 use Rattle.xm_num.specs.declared.Kind.{Kind}
@@ -25,6 +25,7 @@ use Rattle.global_model.specs.Pauses.{AreSteps, Asks, Bears, Handles, Hosts, IsP
 use Rattle.global_model.specs.Place.{IsPlaced}
 use Rattle.global_model.specs.Views.{view_of}
 use Rattle.discovery_laws.specs.Ways.{IsLeading}
+use Rattle.call_laws.specs.Cells.{makes}
 use Rattle.call_laws.specs.Laws.{CallLaws, CallRows, TreePaths}
 use Rattle.call_laws.specs.Places.{HaveSegids, HasRoom}
 use Rattle.call_laws.proofs.Asks.{asked_runs, removed_has}
@@ -66,7 +67,7 @@ module _ (rows : CallRows) (tree : TreePaths) (past : List Line) (pause : IsPaus
       let hand : Hand = at_hand v p (calls.Make addr size mode) in
       let serving = asked_serving G may.command e p (calls.Make addr size mode) may.asks may.allowed refl in
       idle_make rows past e p hand tied (asked_runs G may.command e p (calls.Make addr size mode) may.asks may.allowed)
-      (record { asked = record { enclave = e; pid = p; call = calls.Make addr size mode }; addr = addr; size = size; mode = mode; hand_is = may.hand; call_is = refl })
+      (ap makes may.hand)
       may.hand (is_number G e.0 pause.tree serving.living) (roads.ready e.0 serving.admitted).knowing
       (room_lines (issue_line v p ∷ past) (asking_lines hand (own_lines hand v (issue_line v p ∷ [])) (v.memory.issued + 1)) later) room idle
   idle_call e p (calls.Remove segid) may later named room =

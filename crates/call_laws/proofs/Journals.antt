@@ -1,8 +1,6 @@
 -- Along every journal the lines of calls are lawful.
 use Rattle.std.proofs.Common.{◌≡◌, ℕ, List, [], ◌∷◌, ◌++◌, Bool, true, false, cond, Option, Some, None, is_some, inl, refl, sym, ap, ◌∙◌, subst, arith}
-use Rattle.std.specs.List.Sorted.{IsStrictlySortedBy}
 use Rattle.xm_num.specs.declared.Enclave.{Enclave}
-use Rattle.xm_num.specs.Rows.{IsAscending}
 use Rattle.attach_map.specs.declared.Pending.TheVariants as pendings
 use Rattle.attach_map.specs.declared.Waiting.{Waiting}
 use Rattle.xemem_language.specs.declared.command.Command.{Command}
@@ -12,13 +10,14 @@ use Rattle.global_model.specs.Facts.{after_lines, facts_after, facts_at, no_fact
 use Rattle.global_model.specs.Journals.{Follows, onto}
 use Rattle.global_model.specs.Pauses.{AreSteps, Step, written_by, written_in}
 use Rattle.global_model.specs.Place.{IsPlaced}
+use Rattle.enclave_rules.specs.Segments.{is_make}
 use Rattle.call_laws.specs.Cells.{CallCell, cells}
 use Rattle.call_laws.specs.Flights.{AreSingle}
-use Rattle.call_laws.specs.One.{AreCellsTrue, AreSegidsOne, IsLiveAt}
+use Rattle.call_laws.specs.One.{AreCellsTrue, AreSegidsOne, IsLiveAt, waits_as_make}
 use Rattle.call_laws.specs.Legal.{AreCalls, CallAt}
 use Rattle.call_laws.specs.Laws.{CallLaws}
-use Rattle.call_laws.proofs.Rows.{at_has}
-use Rattle.call_laws.proofs.MemoryLines.{waiting_row}
+use Rattle.call_laws.proofs.Rows.{at_has, no_rows}
+use Rattle.call_laws.proofs.MemoryLines.{make_row, waiting_row}
 use Rattle.call_laws.proofs.ExportLines.{IsLive, IsLiveRow}
 use Rattle.exporter_pins.specs.Holdings.{Export}
 use Rattle.xm_num.specs.Rows.{at}
@@ -60,16 +59,13 @@ all_steps laws (step ∷ steps) past are old =
       end = subst IsTiedAtPause (sym (laws.pasts ls later past)) more.end;
     }
 
-no_rows : (V : Type 0) → IsAscending {V = V} []
-unfolding IsStrictlySortedBy
-no_rows V = tt
-
 pub at_pause_first : (laws : CallLaws) → IsTiedAtPause []
 at_pause_first laws = record {
   tied = record {
     blank = λ e k none. refl;
     ones = record { some = λ e k s is. absurd (cc); one = λ e k e' k' s is is'. absurd (cc) };
-    memory = λ e. record { ascends = no_rows Waiting; waiting = λ k. laws.rows.waiting.none k; runs = λ k is. absurd (cc); fresh = λ k less. refl };
+    memory = λ e. record { ascends = no_rows Waiting; waiting = λ k. ap make_row (laws.rows.waiting.none k); runs = λ k is. absurd (cc) };
+    fresh = λ e k less. refl;
     server = record {
       ascends = λ e. no_rows Enclave;
       pairs = λ e s of is. absurd (let none = laws.rows.names.none s in cc);
@@ -100,9 +96,17 @@ journal_of-calls laws commands placed = (journal_of-tied laws commands placed).l
 live_is : (past : List Line) → IsTied past → (e k s : ℕ) → IsLiveAt (facts_at past) e k s → IsLive (cells past e k) s
 live_is past tied e k s live = at_has (IsLiveRow (cells past e)) ((facts_at past).exports e) k live.export (tied.live e).live live.stands s live.segid
 
-waits_is : (k : ℕ) (c : CallCell) → is_some (waiting_row k c) ≡ c.waits
-waits_is k c = by c.waits
+waits_is : (found : Option Waiting) (k : ℕ) (c : CallCell) → make_row found ≡ waiting_row k c → waits_as_make found ≡ c.waits
+waits_is found k c is = here found ∙ ap is_some is ∙ by c.waits
   where
+    here : (found : Option Waiting) → waits_as_make found ≡ is_some (make_row found)
+    here None = refl
+    here (Some w) = either (is_make w.what)
+      where
+        either : (t : Bool) → t ≡ is_some (cond t (Some w) None)
+        either true = refl
+        either false = refl
+
     row : Waiting
     row = record { call = record { 0 = k }; pid = record { 0 = c.process }; living = true; what = pendings.Make }
 
@@ -112,7 +116,7 @@ waits_is k c = by c.waits
 
 pub tied_true : (past : List Line) → IsTied past → AreCellsTrue past
 tied_true past tied = record {
-  waits = λ e k. ap is_some ((tied.memory e).waiting k) ∙ waits_is k (cells past e k);
+  waits = λ e k. waits_is (at ((facts_at past).memory e).waiting k) k (cells past e k) ((tied.memory e).waiting k);
   near = λ e k s live. (live_is past tied e k s live).near;
   name = λ e k s live. (live_is past tied e k s live).drawn;
   far = tied.server.pairs;

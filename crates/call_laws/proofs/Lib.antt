@@ -9,6 +9,8 @@ mod Flights
 mod Requests
 mod Exact
 mod Exports
+mod Room
+mod Fresh
 mod Tied
 mod Handled
 mod Asks
@@ -19,7 +21,6 @@ mod Guiding
 mod Onward
 mod Bounds
 mod BoundSteps
-mod Room
 mod Idle
 mod IdleRecords
 mod IdleHandled
@@ -30,6 +31,7 @@ mod Numbers
 mod Journals
 mod Idles
 mod Placed
+mod Makes
 mod Resting
 mod Counts
 mod Going

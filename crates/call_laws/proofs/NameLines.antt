@@ -12,7 +12,7 @@ use Rattle.name_server.specs.Names.{NamesState, no_names}
 use Rattle.enclave_rules.specs.Exports.{segid_number}
 use Rattle.global_model.specs.Facts.{EnclaveFact, Facts, after_line, as_admitted, facts_at, is_holder}
 use Rattle.discovery_laws.specs.Known.{holds}
-use Rattle.call_laws.specs.Cells.{CallCell, cells, is_cell, has_drawn, drawn_in, as_issued, as_drawn, as_near, as_answered, as_forgotten}
+use Rattle.call_laws.specs.Cells.{CallCell, cells, is_cell, has_drawn, drawn_in, as_issued, as_drawn, as_near, as_answered, as_forgotten, makes}
 use Rattle.call_laws.specs.One.{IsPair}
 use Rattle.call_laws.specs.Legal.{CallAt, MayDraw}
 use Rattle.call_laws.proofs.CellLines.{same_call, is_cell_itself, drawn_is}
@@ -238,7 +238,7 @@ server_line rows past (lines.Unnamed segid) legal served old =
         pair_stays (cells past) (cells (lines.Unnamed segid ∷ past)) q of.0 pair (kept q of.0 pair.call is pair.drawn (has_drawn s (cells past of.0 pair.call)) refl)
 server_line rows past (lines.Issue e p call) legal served old =
     same_server past (lines.Issue e p call)
-    (λ j k. standing_cond (as_issued p.0) (λ c. record { drew = refl; far = refl }) (is_cell j k e.0 call.0) (cells past j k)) (λ j. refl) (λ j. refl) refl refl refl old
+    (λ j k. standing_cond (as_issued p.0) (λ c. record { drew = refl; far = refl }) (makes (facts_at past).hand && is_cell j k e.0 call.0) (cells past j k)) (λ j. refl) (λ j. refl) refl refl refl old
 server_line rows past (lines.Named e call segid) legal served old =
     same_server past (lines.Named e call segid)
     (λ j k. standing_cond (as_near true) (λ c. record { drew = refl; far = refl }) (is_cell j k e.0 call.0) (cells past j k)) (λ j. refl) (λ j. refl) refl refl refl old

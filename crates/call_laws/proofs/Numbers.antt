@@ -1,14 +1,14 @@
--- Calls are numbered from 1 on, and one that was issued and waits no longer has a segid.
-use Rattle.std.proofs.Common.{◌≡◌, ℕ, List, [], ◌∷◌, Bool, true, false, cond, ◌&&◌, eqb, is_some, refl, ap, ◌∙◌, arith}
+-- Calls are numbered from 1 on, and a make that was issued and waits no longer has a segid.
+use Rattle.std.proofs.Common.{◌≡◌, ℕ, List, [], ◌∷◌, Bool, true, false, cond, ◌&&◌, eqb, is_some, refl, ap, arith}
 use Rattle.std.proofs.lemmas.Bool.{and_right, ne_eqb}
 use Rattle.xemem_language.specs.declared.line.Line.{Line}
 use Rattle.xemem_language.specs.declared.line.Line.TheVariants as lines
 use Rattle.enclave_rules.specs.Exports.{segid_number}
 use Rattle.global_model.specs.Facts.{facts_at}
 use Rattle.global_model.specs.Journals.{Follows, onto}
-use Rattle.call_laws.specs.Cells.{CallCell, cells, is_cell, has_drawn, as_issued, as_drawn, as_near, as_answered, as_forgotten}
+use Rattle.call_laws.specs.Cells.{CallCell, cells, is_cell, has_drawn, as_issued, as_drawn, as_near, as_answered, as_forgotten, makes}
 use Rattle.call_laws.specs.Legal.{CallAt}
-use Rattle.call_laws.proofs.CellLines.{cell_at}
+use Rattle.call_laws.proofs.CellLines.{cell_at, same_issued}
 use Rattle.call_laws.proofs.MemoryLines.{IssuesNext}
 use Rattle.call_laws.proofs.Tied.{KeepsAt}
 
@@ -19,13 +19,10 @@ pub record AreNumbered (past : List Line) : Type 0 where
   pub zero : (e : ℕ) → (cells past e 0).issued ≡ false
   pub settled : (e k : ℕ) → IsSettled (cells past e k)
 
-same_issued : (change : CallCell → CallCell) → ((c : CallCell) → (change c).issued ≡ c.issued) → (t : Bool) (c : CallCell) → c.issued ≡ false → (cond t (change c) c).issued ≡ false
-same_issued change same true c none = same c ∙ none
-same_issued change same false c none = none
-
 zero_line : (past : List Line) (line : Line) → IssuesNext (facts_at past) line → ((e : ℕ) → (cells past e 0).issued ≡ false) → (e : ℕ) → (cells (line ∷ past) e 0).issued ≡ false
 zero_line past (lines.Issue of p call) next old e =
-    by (is_cell e 0 of.0 call.0) (and_right (eqb e of.0) (eqb call.0 0) (ne_eqb call.0 0 (λ same. let one = next.1 in omega (arith, same, one))))
+    by (makes (facts_at past).hand && is_cell e 0 of.0 call.0)
+    (and_right (makes (facts_at past).hand) (is_cell e 0 of.0 call.0) (and_right (eqb e of.0) (eqb call.0 0) (ne_eqb call.0 0 (λ same. let one = next.1 in omega (arith, same, one)))))
   where
     by : (t : Bool) → t ≡ false → (cond t (as_issued p.0 (cells past e 0)) (cells past e 0)).issued ≡ false
     by true is = cc
@@ -43,7 +40,7 @@ keeps_settled change keeps false c old = old
 
 settled_line : (past : List Line) (line : Line) → CallAt past line → ((e k : ℕ) → IsSettled (cells past e k)) → (e k : ℕ) → IsSettled (cells (line ∷ past) e k)
 settled_line past (lines.Issue of p call) legal old e k =
-    keeps_settled (as_issued p.0) (λ c was issued waits. absurd (cc)) (is_cell e k of.0 call.0) (cells past e k) (old e k)
+    keeps_settled (as_issued p.0) (λ c was issued waits. absurd (cc)) (makes (facts_at past).hand && is_cell e k of.0 call.0) (cells past e k) (old e k)
 settled_line past (lines.Drew of call segid) legal old e k =
     keeps_settled (as_drawn (segid_number segid)) (λ c was issued waits. refl) (is_cell e k of.0 call.0) (cells past e k) (old e k)
 settled_line past (lines.Named of call segid) legal old e k =

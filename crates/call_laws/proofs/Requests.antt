@@ -10,7 +10,7 @@ use Rattle.xemem_language.specs.declared.line.Line.TheVariants as lines
 use Rattle.enclave_rules.specs.Exports.{segid_number}
 use Rattle.global_model.specs.Facts.{Facts, after_line, facts_at, with_got, with_sent, with_taken}
 use Rattle.discovery_laws.specs.Known.{in_flight}
-use Rattle.call_laws.specs.Cells.{CallCell, cells, is_cell, has_drawn, as_issued, as_drawn, as_near, as_answered, as_forgotten}
+use Rattle.call_laws.specs.Cells.{CallCell, cells, is_cell, has_drawn, as_issued, as_drawn, as_near, as_answered, as_forgotten, makes}
 use Rattle.call_laws.specs.Flights.{FitsBy, IsBetween, IsNowhere, IsSingle, alone_at, calls_in, is_of}
 use Rattle.call_laws.specs.Legal.{CallAt}
 use Rattle.call_laws.proofs.CellLines.{cell_at, drawn_is, same_call}
@@ -193,13 +193,13 @@ cell_changes past line channels single stands old = record {
 }
 
 -- the cell of one call
-own_single : (past : List Line) (of call : ℕ) (change : CallCell → CallCell) → IsNowhere (facts_at past) of call → (e k : ℕ) → IsSingle past e k
-    → IsNowhere (facts_at past) e k ⊎ IsBetween (facts_at past) (cond (is_cell e k of call) (change (cells past e k)) (cells past e k)) e k
-own_single past of call change nowhere e k was = by (is_cell e k of call) refl
+own_single : (past : List Line) (guard : Bool) (of call : ℕ) (change : CallCell → CallCell) → IsNowhere (facts_at past) of call → (e k : ℕ) → IsSingle past e k
+    → IsNowhere (facts_at past) e k ⊎ IsBetween (facts_at past) (cond (guard && is_cell e k of call) (change (cells past e k)) (cells past e k)) e k
+own_single past guard of call change nowhere e k was = by (guard && is_cell e k of call) refl
   where
-    by : (t : Bool) → is_cell e k of call ≡ t → IsNowhere (facts_at past) e k ⊎ IsBetween (facts_at past) (cond t (change (cells past e k)) (cells past e k)) e k
+    by : (t : Bool) → (guard && is_cell e k of call) ≡ t → IsNowhere (facts_at past) e k ⊎ IsBetween (facts_at past) (cond t (change (cells past e k)) (cells past e k)) e k
     by true is =
-        let same = same_call e k of call is in
+        let same = same_call e k of call (and_parts guard (is_cell e k of call) is).1 in
         inl (subst (λ n. IsNowhere (facts_at past) n k) (sym same.enclave) (subst (λ n. IsNowhere (facts_at past) of n) same.call_is nowhere))
     by false is = was
 
@@ -285,16 +285,16 @@ only_line past (lines.Took x y count) legal once old = record {
     bounded a b true = old.bounded a b
     bounded a b false = old.bounded a b
 only_line past (lines.Issue of p call) legal once old =
-    cell_changes past (lines.Issue of p call) (λ a b. refl) (own_single past of.0 call.0 (as_issued p.0) once)
-    (λ e k. stands_cond (as_issued p.0) (λ c was. was) (is_cell e k of.0 call.0) (cells past e k) (old.stands e k)) old
+    cell_changes past (lines.Issue of p call) (λ a b. refl) (own_single past (makes (facts_at past).hand) of.0 call.0 (as_issued p.0) once)
+    (λ e k. stands_cond (as_issued p.0) (λ c was. was) (makes (facts_at past).hand && is_cell e k of.0 call.0) (cells past e k) (old.stands e k)) old
 only_line past (lines.Drew of call segid) legal once old =
-    cell_changes past (lines.Drew of call segid) (λ a b. refl) (own_single past of.0 call.0 (as_drawn (segid_number segid)) once)
+    cell_changes past (lines.Drew of call segid) (λ a b. refl) (own_single past true of.0 call.0 (as_drawn (segid_number segid)) once)
     (λ e k. stands_cond (as_drawn (segid_number segid)) (λ c was near. refl) (is_cell e k of.0 call.0) (cells past e k) (old.stands e k)) old
 only_line past (lines.Named of call segid) legal once old =
-    cell_changes past (lines.Named of call segid) (λ a b. refl) (own_single past of.0 call.0 (as_near true) once.0)
+    cell_changes past (lines.Named of call segid) (λ a b. refl) (own_single past true of.0 call.0 (as_near true) once.0)
     (λ e k. cell_at (λ e k c. c.near ≡ true → c.far ≡ true) (as_near true) (cells past) of.0 call.0 e k (λ near. once.1) (λ other. old.stands e k)) old
 only_line past (lines.AnswerSegid of p call segid) legal once old =
-    cell_changes past (lines.AnswerSegid of p call segid) (λ a b. refl) (own_single past of.0 call.0 as_answered once)
+    cell_changes past (lines.AnswerSegid of p call segid) (λ a b. refl) (own_single past true of.0 call.0 as_answered once)
     (λ e k. stands_cond as_answered (λ c was. was) (is_cell e k of.0 call.0) (cells past e k) (old.stands e k)) old
 only_line past (lines.Remove of segid) legal once old =
     cell_changes past (lines.Remove of segid) (λ a b. refl)

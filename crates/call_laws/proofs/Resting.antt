@@ -3,6 +3,9 @@ use Rattle.std.proofs.Common.{◌≡◌, ◌+◌, ◌-◌, ◌<◌, ◌≤◌, �
 use Rattle.std.proofs.lemmas.List.{length-take}
 use Rattle.std.proofs.lemmas.Bool.{and_parts, eqb-false, le-leb, ltb-true, not-true, or_cases}
 use Rattle.xm_num.specs.Rows.{at}
+use Rattle.xm_num.specs.RowLaws.{RowLaws}
+use Rattle.attach_map.specs.declared.Waiting.{Waiting}
+use Rattle.enclave_rules.specs.Segments.{is_make}
 use Rattle.xemem_language.specs.declared.command.Command.{Command}
 use Rattle.xemem_language.specs.declared.line.Line.{Line}
 use Rattle.xemem_language.specs.declared.line.Line.TheVariants as lines
@@ -19,11 +22,12 @@ use Rattle.discovery_laws.specs.Known.{in_flight}
 use Rattle.call_laws.specs.Cells.{cells}
 use Rattle.call_laws.specs.Flights.{is_of}
 use Rattle.call_laws.specs.Laws.{CallLaws}
-use Rattle.call_laws.specs.One.{AreCellsTrue}
+use Rattle.call_laws.specs.One.{AreCellsTrue, waits_as_make}
 use Rattle.call_laws.specs.Places.{HasRoom, HaveSegids, IsEven}
 use Rattle.call_laws.proofs.Idle.{IsIdleCell}
 use Rattle.call_laws.proofs.Idles.{IsSound, journal_of-sound}
 use Rattle.call_laws.proofs.Journals.{tied_true}
+use Rattle.call_laws.proofs.Makes.{all_makes}
 use Rattle.call_laws.proofs.Placed.{journal_of-named}
 
 -- ---- nothing is under way
@@ -93,9 +97,9 @@ rest_flight G flowing none_cut rest x y = by (is_neighbour G x y) refl
 
 -- ---- names and segments
 
-sound_even : (past : List Line) → IsSound past → HasRoom past → HaveSegids past → ((x y : ℕ) → in_flight (facts_at past) x y ≡ []) → IsEven past
-sound_even past sound room named none = record {
-  waits = λ e k. no_row (at ((facts_at past).memory e).waiting k) (true_of.waits e k ∙ (idle e k).waits);
+sound_even : RowLaws Waiting → (past : List Line) → IsSound past → HasRoom past → HaveSegids past → ((x y : ℕ) → in_flight (facts_at past) x y ≡ []) → IsEven past
+sound_even rows past sound room named none = record {
+  waits = λ e k. no_row (at ((facts_at past).memory e).waiting k) ((all_makes rows past e).makes k) (true_of.waits e k ∙ (idle e k).waits);
   named = λ e k s live. true_of.stands e k s (true_of.name e k s live) (sound.at_pause.tied.only.stands e k (true_of.near e k s live));
   lives = λ s of is.
       let pair = true_of.far (facts_at past).holder.0 s of is in
@@ -108,14 +112,14 @@ sound_even past sound room named none = record {
     idle : (e k : ℕ) → IsIdleCell (cells past e k)
     idle e k = sound.idle room named e k (λ a b. ap (filter (is_of e k)) (none a b))
 
-    no_row : {A : Type 0} (row : Option A) → is_some row ≡ false → row ≡ None
-    no_row None is = refl
-    no_row (Some w) is = cc
+    no_row : (row : Option Waiting) → ((w : Waiting) → row ≡ Some w → is_make w.what ≡ true) → waits_as_make row ≡ false → row ≡ None
+    no_row None makes is = refl
+    no_row (Some w) makes is = let clash : true ≡ false = sym (makes w refl) ∙ is in absurd (cc)
 
 pub journal_of-even : (laws : CallLaws) (commands : List Command) → IsPlaced commands → HasRoom (onto (journal_of commands) []) → IsAtRest (facts_after (journal_of commands))
     → IsEven (onto (journal_of commands) [])
 journal_of-even laws commands placed room rest =
     let past = onto (journal_of commands) [] in
     let same = sym (laws.facts (journal_of commands) []) in
-    sound_even past (journal_of-sound laws commands placed) room (journal_of-named laws commands placed)
+    sound_even laws.rows.waiting past (journal_of-sound laws commands placed) room (journal_of-named laws commands placed)
     (rest_flight (facts_at past) (subst IsFlowing same (laws.flowing commands placed)) (uncut past) (subst IsAtRest same rest))

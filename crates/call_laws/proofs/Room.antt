@@ -45,7 +45,7 @@ paged_issued m p change = by (at m.processes p)
     by None = omega arith
     by (Some process) = omega arith
 
-issued_more : (past : List Line) (line : Line) (e : ℕ) → ((facts_at past).memory e).issued ≤ ((facts_at (line ∷ past)).memory e).issued
+pub issued_more : (past : List Line) (line : Line) (e : ℕ) → ((facts_at past).memory e).issued ≤ ((facts_at (line ∷ past)).memory e).issued
 issued_more past (lines.Proc of p uid gid) e = issued_at e of.0 _ (facts_at past).memory (omega arith)
 issued_more past (lines.Alloc of p page frames) e =
     issued_at e of.0 _ (facts_at past).memory (paged_issued ((facts_at past).memory of.0) p.0

@@ -1,12 +1,13 @@
 -- Rows of tables, and what is found in them.
 use Rattle.std.proofs.Common.{◌≡◌, ◌<◌, ℕ, List, [], ◌∷◌, ◌++◌, Bool, true, false, cond, eqb, ltb, Option, None, Some, is_some, refl, sym, subst, arith}
 use Rattle.std.specs.List.{AllByRecursion, find}
+use Rattle.std.specs.List.Sorted.{IsStrictlySortedBy}
 use Rattle.std.specs.BTreeMap.{insert_entry, is_at}
 use Rattle.std.specs.Map.{lookup, remove_entry}
 use Rattle.std.specs.Ordering.{nat_cmp, match_ordering, is_eq}
 use Rattle.std.specs.declared.cmp.Ordering.TheVariants.{Less, Equal, Greater}
 use Rattle.std.proofs.lemmas.Bool.{eqb-true, eqb-false, ltb-true, ltb-false}
-use Rattle.xm_num.specs.Rows.{at, less, put}
+use Rattle.xm_num.specs.Rows.{at, less, put, IsAscending}
 
 pub all_more : {A : Type 0} (P Q : A → Type 0) (xs : List A) → AllByRecursion P xs → ((x : A) → P x → Q x) → AllByRecursion Q xs
 all_more P Q [] all one = tt
@@ -145,3 +146,7 @@ all_none P Q test (x ∷ xs) all is one = by (λ more. all_none P Q test xs all.
 pub all_append : {A : Type 0} (P : A → Type 0) (xs ys : List A) → AllByRecursion P xs → AllByRecursion P ys → AllByRecursion P (xs ++ ys)
 all_append P [] ys all more = more
 all_append P (x ∷ xs) ys all more = (all.0, all_append P xs ys all.1 more)
+
+pub no_rows : (V : Type 0) → IsAscending {V = V} []
+unfolding IsStrictlySortedBy
+no_rows V = tt

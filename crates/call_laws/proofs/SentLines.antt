@@ -9,9 +9,9 @@ use Rattle.xemem_language.specs.declared.line.Line.{Line}
 use Rattle.xemem_language.specs.declared.line.Line.TheVariants as lines
 use Rattle.enclave_rules.specs.Exports.{segid_number}
 use Rattle.global_model.specs.Facts.{ChannelFact, facts_at, with_got, with_sent, with_taken}
-use Rattle.call_laws.specs.Cells.{CallCell, cells, is_cell, has_drawn, as_issued, as_drawn, as_near, as_answered, as_forgotten}
+use Rattle.call_laws.specs.Cells.{CallCell, cells, is_cell, has_drawn, as_issued, as_drawn, as_near, as_answered, as_forgotten, makes}
 use Rattle.call_laws.specs.Legal.{CallAt}
-use Rattle.call_laws.proofs.CellLines.{same_call}
+use Rattle.call_laws.proofs.CellLines.{new_cell, same_call}
 use Rattle.call_laws.proofs.Rows.{all_append, all_more}
 
 -- ---- what records tell
@@ -59,12 +59,12 @@ own_cell P past e k of call is here =
 
 pub later_line : (past : List Line) (line : Line) → CallAt past line → (e k : ℕ) → IsLater (cells past e k) (cells (line ∷ past) e k)
 later_line past (lines.Issue of p call) legal e k =
-    later_cond (as_issued p.0) (is_cell e k of.0 call.0) (cells past e k) (λ is. own_cell (λ c. IsLater c (as_issued p.0 c)) past e k of.0 call.0 is (record {
+    later_cond (as_issued p.0) (makes (facts_at past).hand && is_cell e k of.0 call.0) (cells past e k) (λ own. record {
       issued = λ is. refl;
       drew = λ s is. is;
       near = λ is waits. is;
-      waits = λ issued is. let clash : true ≡ false = sym issued ∙ legal in absurd (cc);
-    }))
+      waits = λ issued is. let clash : true ≡ false = sym issued ∙ new_cell past of.0 call.0 legal e k (makes (facts_at past).hand) own in absurd (cc);
+    })
 later_line past (lines.Drew of call segid) legal e k =
     later_cond (as_drawn (segid_number segid)) (is_cell e k of.0 call.0) (cells past e k)
     (λ is. own_cell (λ c. IsLater c (as_drawn (segid_number segid) c)) past e k of.0 call.0 is (record {

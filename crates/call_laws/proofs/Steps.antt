@@ -1,5 +1,5 @@
 -- Each step of a journal is lawful.
-use Rattle.std.proofs.Common.{List, [], ◌∷◌, ◌++◌, Bool, cond, refl, ◌∙◌, arith}
+use Rattle.std.proofs.Common.{List, [], ◌∷◌, ◌++◌, Bool, cond, ap, ◌∙◌, arith}
 use Rattle.std.proofs.lemmas.Bool.{le-ltb}
 use Rattle.xm_num.specs.declared.Block.{Block}
 use Rattle.xm_num.specs.declared.Enclave.{Enclave}
@@ -18,6 +18,7 @@ use Rattle.global_model.specs.Facts.{Facts, facts_at}
 use Rattle.global_model.specs.Flow.{IsTree}
 use Rattle.global_model.specs.Pauses.{Asks, Bears, Handles, Hosts, IsPause, MayAsk, MayCome, MayStandAlone, Step, Takes, Written, asked_lines, written_by}
 use Rattle.global_model.specs.Views.{view_of}
+use Rattle.call_laws.specs.Cells.{makes}
 use Rattle.call_laws.specs.Laws.{CallRows}
 use Rattle.call_laws.proofs.Tied.{AreFreeOfCalls, GoesOn, IsFreeOfCalls, AreNearAnswered, IsTied, KeepsAt, goes_free, goes_first}
 use Rattle.call_laws.proofs.Each.{each_birth, each_either}
@@ -58,7 +59,7 @@ goes_call rows past e p (calls.Alloc page n) may tied answered = goes_free rows 
 goes_call rows past e p (calls.Make addr size mode) may tied answered =
     goes_make rows past e p (at_hand (view_of (facts_at past) e) p (calls.Make addr size mode)) tied
     (asked_runs (facts_at past) may.command e p (calls.Make addr size mode) may.asks may.allowed)
-    (record { asked = record { enclave = e; pid = p; call = calls.Make addr size mode }; addr = addr; size = size; mode = mode; hand_is = may.hand; call_is = refl })
+    (ap makes may.hand)
 goes_call rows past e p (calls.Remove segid) may tied answered =
     goes_remove rows past e segid tied answered (removed_has (facts_at past) may.command e p segid may.asks may.allowed)
 

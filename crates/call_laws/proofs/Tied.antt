@@ -18,13 +18,14 @@ use Rattle.enclave_rules.specs.Exports.{segid_number}
 use Rattle.global_model.specs.Facts.{facts_at}
 use Rattle.global_model.specs.Journals.{Follows, onto}
 use Rattle.global_model.specs.Parts.{Birth, Calling, Receipt, Lacks}
-use Rattle.call_laws.specs.Cells.{CallCell, cells, is_cell, has_drawn, as_issued, as_drawn, as_near, as_answered, as_forgotten}
+use Rattle.call_laws.specs.Cells.{CallCell, cells, is_cell, has_drawn, as_issued, as_drawn, as_near, as_answered, as_forgotten, makes}
 use Rattle.call_laws.specs.Flights.{is_of_by}
 use Rattle.call_laws.specs.Legal.{CallAt}
 use Rattle.call_laws.specs.Laws.{CallRows}
 use Rattle.call_laws.proofs.Rows.{all_more}
-use Rattle.call_laws.proofs.CellLines.{AreOnes, IsBlank, blank_line, ones_line, cell_at}
+use Rattle.call_laws.proofs.CellLines.{AreOnes, IsBlank, blank_line, new_cell, ones_line}
 use Rattle.call_laws.proofs.MemoryLines.{IsMemory, IssuesNext, memory_line_kept}
+use Rattle.call_laws.proofs.Fresh.{AreFresh, fresh_line}
 use Rattle.call_laws.proofs.NameLines.{IsServer, IsServed, server_line}
 use Rattle.call_laws.proofs.ExportLines.{AreLive, live_line}
 use Rattle.call_laws.proofs.Exact.{AreNames, names_line_kept}
@@ -36,6 +37,7 @@ pub record IsTied (past : List Line) : Type 0 where
   pub blank : (e k : ℕ) → IsBlank (cells past e k)
   pub ones : AreOnes past
   pub memory : IsMemory past
+  pub fresh : AreFresh past
   pub server : IsServer past
   pub live : AreLive past
   pub names : AreNames past
@@ -57,6 +59,7 @@ tied_line rows past line keeps old = record {
   blank = blank_line past line keeps.legal old.blank;
   ones = ones_line past line keeps.legal old.ones;
   memory = memory_line_kept rows.waiting past line keeps.next old.memory;
+  fresh = fresh_line past line keeps.next old.fresh;
   server = server_line rows.names past line keeps.legal keeps.served old.server;
   live = live_line past line keeps.legal old.ones old.live;
   names = names_line_kept rows.names past line keeps.legal keeps.served old.ones old.server old.names;
@@ -75,7 +78,7 @@ legal_lines past (l ∷ ls) keeps = (keeps.0.legal, legal_lines (l ∷ past) ls 
 
 -- ---- at pauses
 
--- no call that waits has a live segment
+-- no make that waits has a live segment
 abbrev pub AreNearAnswered : List Line → Type 0
 AreNearAnswered past = (e k : ℕ) → (cells past e k).near ≡ true → (cells past e k).waits ≡ false
 
@@ -90,9 +93,15 @@ IsUnnaming (lines.Named e call segid) = ⊥
 IsUnnaming line = Unit {0}
 
 answered_line : (past : List Line) (line : Line) → CallAt past line → IsUnnaming line → ((e k : ℕ) → IsBlank (cells past e k)) → AreNearAnswered past → AreNearAnswered (line ∷ past)
-answered_line past (lines.Issue of p call) legal quiet blank old e k =
-    cell_at (λ e k c. c.near ≡ true → c.waits ≡ false) (as_issued p.0) (cells past) of.0 call.0 e k
-    (λ near. let clash : false ≡ true = sym (ap (λ c. c.near) (blank of.0 call.0 legal)) ∙ near in absurd (cc)) (λ other. old e k)
+answered_line past (lines.Issue of p call) legal quiet blank old e k = by (makes (facts_at past).hand && is_cell e k of.0 call.0) refl
+  where
+    by : (t : Bool) → (makes (facts_at past).hand && is_cell e k of.0 call.0) ≡ t → (cond t (as_issued p.0 (cells past e k)) (cells past e k)).near ≡ true
+        → (cond t (as_issued p.0 (cells past e k)) (cells past e k)).waits ≡ false
+    by true own near =
+        let none = new_cell past of.0 call.0 legal e k (makes (facts_at past).hand) own in
+        let clash : false ≡ true = sym (ap (λ c. c.near) (blank e k none)) ∙ near in
+        absurd (cc)
+    by false other near = old e k near
 answered_line past (lines.Drew of call segid) legal quiet blank old e k =
     answered_cond (as_drawn (segid_number segid)) (λ c was near. was near) (is_cell e k of.0 call.0) (cells past e k) (old e k)
 answered_line past (lines.Named of call segid) legal quiet blank old e k = absurd quiet

@@ -1,9 +1,12 @@
 -- Segids are one: no two live segments have the same. And what cells say is what the facts say.
-use Rattle.std.specs.Prelude.{◌≡◌, ◌≤◌, ℕ, List, true, Some, is_some}
+use Rattle.std.specs.Prelude.{◌≡◌, ◌≤◌, ℕ, List, Bool, true, false, Option, Some}
+use Rattle.std.specs.Option.{option_map_or}
 use Rattle.xm_num.specs.Rows.{at}
 use Rattle.xm_num.specs.declared.Enclave.{Enclave}
 use Rattle.xemem_language.specs.declared.line.Line.{Line}
+use Rattle.attach_map.specs.declared.Waiting.{Waiting}
 use Rattle.exporter_pins.specs.Holdings.{Export}
+use Rattle.enclave_rules.specs.Segments.{is_make}
 use Rattle.global_model.specs.Facts.{Facts, facts_at}
 use Rattle.call_laws.specs.Cells.{CallCell, cells, drawn_in}
 
@@ -22,10 +25,14 @@ pub record IsPair (C : ℕ → ℕ → CallCell) (s e : ℕ) : Type 0 where
   pub drawn : (C e call).drew ≡ Some s
   pub stands : (C e call).far ≡ true
 
--- A call waits exactly where its cell does. Live segments are exactly those of the calls whose cells are near, and names those of the
--- calls whose cells are far. Segids were drawn upwards, each for one call.
+-- a make waits there
+abbrev pub waits_as_make : Option Waiting → Bool
+waits_as_make row = option_map_or (λ w. is_make w.what) row false
+
+-- A make waits exactly where its cell does. Live segments are exactly those of the makes whose cells are near, and names those of the
+-- makes whose cells are far. Segids were drawn upwards, each for one make.
 pub record AreCellsTrue (past : List Line) : Type 0 where
-  pub waits : (e k : ℕ) → is_some (at ((facts_at past).memory e).waiting k) ≡ (cells past e k).waits
+  pub waits : (e k : ℕ) → waits_as_make (at ((facts_at past).memory e).waiting k) ≡ (cells past e k).waits
   pub near : (e k s : ℕ) → IsLiveAt (facts_at past) e k s → (cells past e k).near ≡ true
   pub name : (e k s : ℕ) → IsLiveAt (facts_at past) e k s → (cells past e k).drew ≡ Some s
   pub far : (e s : ℕ) (of : Enclave) → at ((facts_at past).names e).pairs s ≡ Some of → IsPair (cells past) s of.0

@@ -1,4 +1,4 @@
--- Where a make is: each call has one place, which its cell tells, and that place tells which record of the call is under way.
+-- Where a make is: each make has one place, which its cell tells, and that place tells which record of it is under way.
 use Rattle.std.specs.Prelude.{◌≡◌, ◌<◌, ◌^◌, ℕ, List, [], ◌∷◌, true, false, if◌then◌else◌, None, Some}
 use Rattle.std.specs.List.{AllByRecursion}
 use Rattle.xm_num.specs.declared.Enclave.{Enclave}
@@ -15,7 +15,7 @@ use Rattle.call_laws.specs.Cells.{CallCell, cells, drawn_in, no_call}
 use Rattle.call_laws.specs.Flights.{IsFit, IsNowhere, alone_at, calls_in}
 use Rattle.call_laws.specs.One.{IsLiveAt}
 
--- never issued; its request is under way, or its name; its segment is live; its name is to be forgotten; it is over
+-- never issued, or no make; its request is under way, or its name; its segment is live; its name is to be forgotten; it is over
 pub data Place : Type 0 where
   Unborn : Place
   Asking : Place
@@ -24,7 +24,7 @@ pub data Place : Type 0 where
   Undoing : Place
   Done : Place
 
--- the place of a call, by its cell
+-- the place of a make, by its cell
 abbrev pub place_of : CallCell → Place
 place_of c =
     if c.waits then (if c.far then Answering else Asking)
@@ -38,7 +38,7 @@ pub record IsUnderWay (G : Facts) (e k : ℕ) (body : Body) : Type 0 where
   pub flight : (a b : ℕ) → calls_in G e k a b ≡ alone_at from to (rec ∷ []) a b
   pub body_is : rec.body ≡ body
 
--- What the cell is at a place, and what is under way. While a call waits there is a request without a segid, or the name with the segid
+-- What the cell is at a place, and what is under way. While a make waits there is a request without a segid, or the name with the segid
 -- that was drawn for it. While the segment is live nothing is under way. When it has ended the segid still stands until the record by
 -- which it is forgotten has come. A make of the enclave that holds the name server is named at once, and needs no record.
 abbrev pub StandsAt : Facts → CallCell → ℕ → ℕ → Place → Type 0
@@ -49,7 +49,7 @@ StandsAt G c e k Held = (s : ℕ) × IsFit c false true true (Some s) × IsNowhe
 StandsAt G c e k Undoing = (s : Segid) × IsFit c false false true (Some (segid_number s)) × IsUnderWay G e k (bodies.Unname s)
 StandsAt G c e k Done = (s : ℕ) × IsFit c false false false (Some s) × IsNowhere G e k
 
--- each call stands at the place that its cell tells
+-- each call stands at the place that its cell tells, and one that is no make where nothing is under way
 abbrev pub ArePlacedCalls : List Line → Type 0
 ArePlacedCalls past = (e k : ℕ) → StandsAt (facts_at past) (cells past e k) e k (place_of (cells past e k))
 

@@ -38,20 +38,20 @@ fn laws()
     row_laws::<Waiting>();
 }
 
-/// Each line of a make or a remove is lawful by the lines before it. A call is issued under a new number. A segid is drawn for a call
-/// that was issued and has none, and it is one more than were drawn. A segment is live once its segid was drawn, while its call waits
-/// and its process lives. A segid is forgotten while it stands, and once no call for which it was drawn waits or has a live segment. A
-/// remove ends a live segment of its enclave. A call is answered to its process while it waits, once its segment is live under the
-/// segid that was drawn for it.
+/// Each line of a make or a remove is lawful by the lines before it. A call, a make or another, is issued under a new number. A segid
+/// is drawn for a make that was issued and has none, and it is one more than were drawn. A segment is live once its segid was drawn,
+/// while its make waits and its process lives. A segid is forgotten while it stands, and once no make for which it was drawn waits or
+/// has a live segment. A remove ends a live segment of its enclave. A make is answered to its process while it waits, once its segment
+/// is live under the segid that was drawn for it.
 pub fn calls_are_legal()
     ensures { (commands : List Commands) → IsPlaced commands → AreCalls (journal_of commands) }
 {
     laws();
 }
 
-/// What the cells of calls say is what the facts say. A call waits exactly where its cell does. The live segments are exactly those of
-/// calls whose cells are near, under the segids that were drawn for them, and the names at the name server are exactly those of
-/// calls whose cells are far. Segids were drawn upwards, each for one call.
+/// What the cells of makes say is what the facts say. A make waits exactly where its cell does. The live segments are exactly those of
+/// makes whose cells are near, under the segids that were drawn for them, and the names at the name server are exactly those of
+/// makes whose cells are far. Segids were drawn upwards, each for one make.
 pub fn cells_are_true()
     ensures { (commands : List Commands) → IsPlaced commands → AreCellsTrue (onto (journal_of commands) []) }
 {
@@ -96,10 +96,10 @@ pub fn records_go_on()
     laws();
 }
 
-/// No record of a call is lost. Each call has one place, which its cell tells, and stands there as `StandsAt` says: while it waits its
-/// request or its name is under way, while its segid is to be forgotten so is the record that tells it, and else none is. So it is
-/// wherever a command has ended, and at every pause between the steps of a journal, where there was room for segids and calls. Commands
-/// have segids in their range; of steps alone that is asked.
+/// No record of a make is lost. Each make has one place, which its cell tells, and stands there as `StandsAt` says: while it waits its
+/// request or its name is under way, while its segid is to be forgotten so is the record that tells it, and else none is. Of a call that
+/// is no make none is. So it is wherever a command has ended, and at every pause between the steps of a journal, where there was room
+/// for segids and calls. Commands have segids in their range; of steps alone that is asked.
 pub fn makes_have_places()
     ensures ended { (commands : List Commands) → IsPlaced commands → HasRoom (onto (journal_of commands) [])
         → ArePlacedCalls (onto (journal_of commands) []) }
