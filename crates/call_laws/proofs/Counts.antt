@@ -7,7 +7,7 @@ use Rattle.xemem_language.specs.declared.line.Line.{Line}
 use Rattle.xemem_language.specs.declared.line.Line.TheVariants as lines
 use Rattle.attach_map.specs.Attaching.{AttacherState, ProcessState}
 use Rattle.enclave_rules.specs.Core.{local_frame}
-use Rattle.enclave_rules.specs.Memory.{with_answered, with_issued, with_pages, with_process}
+use Rattle.enclave_rules.specs.Memory.{with_answered, with_granted, with_released, with_issued, with_pages, with_process}
 use Rattle.global_model.specs.Facts.{at_number, fact_of, facts_at}
 use Rattle.global_model.specs.Journals.{onto}
 use Rattle.call_laws.specs.Cells.{drawn_in}
@@ -39,6 +39,9 @@ one_issued past (lines.Alloc of p page frames) e =
     (with_pages page.0 (map (local_frame (fact_of ((facts_at past).enclave of.0)).kind (fact_of ((facts_at past).enclave of.0)).blocks) frames)))
 one_issued past (lines.Issue of p call) e = at_most e of.0 (with_issued p call ((facts_at past).memory of.0)) (facts_at past).memory (omega arith)
 one_issued past (lines.AnswerSegid of p call segid) e = at_most e of.0 (with_answered call ((facts_at past).memory of.0)) (facts_at past).memory (omega arith)
+one_issued past (lines.AnswerApid of p call apid pages) e = at_most e of.0 (with_granted call pages ((facts_at past).memory of.0)) (facts_at past).memory (omega arith)
+one_issued past (lines.AnswerRefused of p call cause) e = at_most e of.0 (with_answered call ((facts_at past).memory of.0)) (facts_at past).memory (omega arith)
+one_issued past (lines.Release of call) e = at_most e of.0 (with_released call ((facts_at past).memory of.0)) (facts_at past).memory (omega arith)
 one_issued past _ e = omega arith
 
 issued_few : (past : List Line) (e : ℕ) → ((facts_at past).memory e).issued ≤ length past

@@ -1,14 +1,14 @@
 -- So far each call that waits is a make.
 use Rattle.std.proofs.Common.{◌≡◌, ℕ, List, [], ◌∷◌, Bool, true, false, cond, eqb, Option, None, Some, sym, ap, ◌∙◌}
 use Rattle.std.specs.Option.{option_map_or}
-use Rattle.xm_num.specs.Rows.{at, put, IsAscending}
+use Rattle.xm_num.specs.Rows.{at, less, put, IsAscending}
 use Rattle.xm_num.specs.RowLaws.{RowLaws}
 use Rattle.xemem_language.specs.declared.line.Line.{Line}
 use Rattle.xemem_language.specs.declared.line.Line.TheVariants as lines
 use Rattle.attach_map.specs.declared.Pending.TheVariants as pendings
 use Rattle.attach_map.specs.declared.Waiting.{Waiting}
 use Rattle.attach_map.specs.Attaching.{AttacherState, ProcessState}
-use Rattle.enclave_rules.specs.Memory.{with_process}
+use Rattle.enclave_rules.specs.Memory.{with_process, with_released}
 use Rattle.enclave_rules.specs.Segments.{is_make}
 use Rattle.global_model.specs.Facts.{at_number, facts_at}
 use Rattle.call_laws.proofs.Rows.{no_rows}
@@ -31,6 +31,16 @@ same_calls m p change old = by (at m.processes p)
     by None = old
     by (Some process) = old
 
+fewer_calls : RowLaws Waiting → (calls : List (ℕ × Waiting)) (call : ℕ) → AreMakes calls → AreMakes (less calls call)
+fewer_calls rows calls call old = record {
+  ascends = rows.less_ascends calls call old.ascends;
+  makes = λ k v found. by k v (eqb call k) (sym (rows.less_at calls call k old.ascends) ∙ found);
+}
+  where
+    by : (k : ℕ) (v : Waiting) (t : Bool) → cond t None (at calls k) ≡ Some v → is_make v.what ≡ true
+    by k v true found = cc
+    by k v false found = old.makes k v found
+
 make_line : RowLaws Waiting → (past : List Line) (line : Line) → ((e : ℕ) → AreMakes ((facts_at past).memory e).waiting) → (e : ℕ)
     → AreMakes ((facts_at (line ∷ past)).memory e).waiting
 make_line rows past (lines.Proc of p uid gid) old e = at_one of.0 e _ (facts_at past).memory (old of.0) (old e)
@@ -51,19 +61,10 @@ make_line rows past (lines.Issue of p call) old e =
     by : (k : ℕ) (v : Waiting) (t : Bool) → cond t (Some w) (at m.waiting k) ≡ Some v → is_make v.what ≡ true
     by k v true found = let same : w ≡ v = cc in ap (λ w. is_make w.what) (sym same)
     by k v false found = (old of.0).makes k v found
-make_line rows past (lines.AnswerSegid of p call segid) old e =
-    at_one of.0 e _ (facts_at past).memory
-    (record {
-      ascends = rows.less_ascends m.waiting call.0 (old of.0).ascends;
-      makes = λ k v found. by k v (eqb call.0 k) (sym (rows.less_at m.waiting call.0 k (old of.0).ascends) ∙ found);
-    }) (old e)
-  where
-    m : AttacherState
-    m = (facts_at past).memory of.0
-
-    by : (k : ℕ) (v : Waiting) (t : Bool) → cond t None (at m.waiting k) ≡ Some v → is_make v.what ≡ true
-    by k v true found = cc
-    by k v false found = (old of.0).makes k v found
+make_line rows past (lines.AnswerSegid of p call segid) old e = at_one of.0 e _ (facts_at past).memory (fewer_calls rows ((facts_at past).memory of.0).waiting call.0 (old of.0)) (old e)
+make_line rows past (lines.AnswerApid of p call apid pages) old e = at_one of.0 e _ (facts_at past).memory (fewer_calls rows ((facts_at past).memory of.0).waiting call.0 (old of.0)) (old e)
+make_line rows past (lines.AnswerRefused of p call cause) old e = at_one of.0 e _ (facts_at past).memory (fewer_calls rows ((facts_at past).memory of.0).waiting call.0 (old of.0)) (old e)
+make_line rows past (lines.Release of call) old e = at_one of.0 e (with_released call ((facts_at past).memory of.0)) (facts_at past).memory (old of.0) (old e)
 make_line rows past _ old e = old e
 
 pub all_makes : RowLaws Waiting → (past : List Line) (e : ℕ) → AreMakes ((facts_at past).memory e).waiting

@@ -127,9 +127,12 @@ answered_memory rows m C call old = record {
 
 -- ---- line by line
 
--- an issued call is the next one, of a process that lives, and so far a make
+-- an issued call is the next one, of a process that lives, and so far a make; so no get is answered, and no permit ends
 abbrev pub IssuesNext : Facts → Line → Type 0
 IssuesNext G (lines.Issue e p call) = (is_some (at (G.memory e.0).processes p.0) ≡ true) × (call.0 ≡ (G.memory e.0).issued + 1) × (makes G.hand ≡ true)
+IssuesNext G (lines.AnswerApid e p call apid pages) = ⊥
+IssuesNext G (lines.AnswerRefused e p call cause) = ⊥
+IssuesNext G (lines.Release e call) = ⊥
 IssuesNext G line = Unit {0}
 
 -- one enclave's memory and cells change, and no other's
@@ -192,4 +195,7 @@ memory_line_kept rows past (lines.Remove e segid) next old j =
 memory_line_kept rows past (lines.Unnamed segid) next old j =
     like_memory ((facts_at past).memory j) (cells past j) (cells (lines.Unnamed segid ∷ past) j)
     (λ k. like_cond as_forgotten (λ c. record { process = refl; waits = refl }) (has_drawn (segid_number segid) (cells past j k)) (cells past j k)) (old j)
+memory_line_kept rows past (lines.AnswerApid e p call apid pages) next old j = absurd next
+memory_line_kept rows past (lines.AnswerRefused e p call cause) next old j = absurd next
+memory_line_kept rows past (lines.Release e call) next old j = absurd next
 memory_line_kept rows past _ next old j = old j

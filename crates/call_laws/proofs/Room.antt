@@ -17,7 +17,7 @@ use Rattle.attach_map.specs.Attaching.{AttacherState, ProcessState}
 use Rattle.name_server.specs.Names.{NamesState}
 use Rattle.enclave_rules.specs.Core.{local_frame}
 use Rattle.enclave_rules.specs.Exports.{fits_signed, is_segid}
-use Rattle.enclave_rules.specs.Memory.{with_answered, with_issued, with_pages, with_process}
+use Rattle.enclave_rules.specs.Memory.{with_answered, with_granted, with_released, with_issued, with_pages, with_process}
 use Rattle.enclave_rules.specs.Names.{can_draw, next_segid}
 use Rattle.enclave_rules.specs.Segments.{name_request, named_record, unname_record}
 use Rattle.global_model.specs.Facts.{at_number, fact_of, facts_at}
@@ -52,6 +52,9 @@ issued_more past (lines.Alloc of p page frames) e =
     (with_pages page.0 (map (local_frame (fact_of ((facts_at past).enclave of.0)).kind (fact_of ((facts_at past).enclave of.0)).blocks) frames)))
 issued_more past (lines.Issue of p call) e = issued_at e of.0 (with_issued p call ((facts_at past).memory of.0)) (facts_at past).memory (omega arith)
 issued_more past (lines.AnswerSegid of p call segid) e = issued_at e of.0 (with_answered call ((facts_at past).memory of.0)) (facts_at past).memory (omega arith)
+issued_more past (lines.AnswerApid of p call apid pages) e = issued_at e of.0 (with_granted call pages ((facts_at past).memory of.0)) (facts_at past).memory (omega arith)
+issued_more past (lines.AnswerRefused of p call cause) e = issued_at e of.0 (with_answered call ((facts_at past).memory of.0)) (facts_at past).memory (omega arith)
+issued_more past (lines.Release of call) e = issued_at e of.0 (with_released call ((facts_at past).memory of.0)) (facts_at past).memory (omega arith)
 issued_more past _ e = omega arith
 
 pub room_line : (past : List Line) (line : Line) → HasRoom (line ∷ past) → HasRoom past

@@ -57,7 +57,7 @@ told v e known (d ∷ heard) rest ascend =
 
 -- a child as the line of its birth leaves it
 abbrev new_child : Enclave → Kind → Enclave → List Block → Bool → View
-new_child me kind parent blocks holder = record { me = me; core = as_born kind parent holder blocks unborn_core; ways = no_ways; memory = no_memory; exports = []; names = no_names; host = no_host }
+new_child me kind parent blocks holder = record { me = me; core = as_born kind parent holder blocks unborn_core; ways = no_ways; memory = no_memory; exports = []; grants = []; names = no_names; host = no_host }
 
 born : (me : Enclave) (kind : Kind) (parent : Enclave) (blocks : List Block) (holder : Bool) → 1 ≤ me.0
     → born_line (unborn_view 0 me) (lines.Born me kind parent holder blocks) ≡ new_child me kind parent blocks holder

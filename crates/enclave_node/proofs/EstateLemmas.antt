@@ -288,6 +288,10 @@ pub freed_exports : (frames : List Frame) (h : Holdings) → (freed frames h).ex
 freed_exports [] h = refl
 freed_exports (f ∷ frames) h = freed_exports frames (without_owner f.0 h)
 
+pub freed_grants : (frames : List Frame) (h : Holdings) → (freed frames h).grants ≡ h.grants
+freed_grants [] h = refl
+freed_grants (f ∷ frames) h = freed_grants frames (without_owner f.0 h)
+
 pub freed_at : RowLaws ℕ → (k : ℕ) (frames : List Frame) (h : Holdings) → IsAscending h.owners → at (freed frames h).owners k ≡ (if is_among frames k then None else at h.owners k)
 freed_at laws k [] h ascend = refl
 freed_at laws k (f ∷ frames) h ascend =

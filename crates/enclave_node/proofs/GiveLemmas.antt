@@ -52,10 +52,10 @@ short_lines seen now p page n is few = sym (ap (λ b. if b then refusal causes.N
 
 -- an enclave whose memory is another
 abbrev pub with_estate : Estate → View → View
-with_estate e v = record v { core = record v.core { blocks = e.blocks }; memory = e.memory; exports = e.exports }
+with_estate e v = record v { core = record v.core { blocks = e.blocks }; memory = e.memory; exports = e.exports; grants = e.grants }
 
 abbrev pub estate_in : View → Estate
-estate_in v = record { blocks = v.core.blocks; memory = v.memory; exports = v.exports }
+estate_in v = record { blocks = v.core.blocks; memory = v.memory; exports = v.exports; grants = v.grants }
 
 pub reached_view : (seen now : View) (p : Pid) (page : Vpn) (n : ℕ) (e : Estate) (hand : Hand) → seen ≡ now → e ≡ with_lowest p.0 page.0 n (estate_in seen)
     → nat_lt (length (unused_in seen)) n ≡ false → with_estate e seen ≡ own_lines hand now (given_lines now p page n)

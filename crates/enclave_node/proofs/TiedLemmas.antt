@@ -1,6 +1,6 @@
 -- How frames, pages and exports stay tied as an enclave's calls change them.
 use Rattle.std.proofs.Common.{◌≡◌, ◌<◌, ◌≤◌, ◌+◌, ◌-◌, ℕ, zero, suc, Bool, true, false, cond, not, ◌||◌, ◌&&◌, List, [], ◌∷◌, length, take, map, filter, Option, None, Some, refl, sym, ap, ◌∙◌, ne_eqb, arith, subst}
-use Rattle.std.specs.Prelude.{Result, Ok, Err, OnOk, OnErr, IsErrOf, ◌↔◌, ◌==◌, nat_le, nat_lt, slice_get, is_some, IsSome, option_map, if◌then◌else◌}
+use Rattle.std.specs.Prelude.{Result, Ok, Err, OnOk, OnErr, IsErrOf, ◌↔◌, ◌==◌, nat_le, nat_lt, slice_get, is_some, IsTrue, IsSome, option_map, if◌then◌else◌}
 use Rattle.std.specs.Option.{option_map_or}
 use Rattle.std.specs.List.{All, AllByRecursion}
 use Rattle.std.specs.List.Sorted.{IsStrictlySortedBy}
@@ -10,6 +10,7 @@ use Rattle.std.specs.Map.{keys_of}
 use Rattle.std.specs.Cmp.{ranked}
 use Rattle.std.proofs.lemmas.Bool.{eqb-true, leb-true, lt-ltb}
 use Rattle.xm_num.specs.declared.Block.{Block}
+use Rattle.xm_num.specs.declared.Enclave.{Enclave}
 use Rattle.xm_num.specs.declared.Frame.{Frame}
 use Rattle.xm_num.specs.declared.Page.{Page}
 use Rattle.xm_num.specs.declared.Pid.{Pid}
@@ -22,17 +23,19 @@ use Rattle.exporter_pins.specs.Holdings.{asked_export, Export, Holdings, AreAsce
 use Rattle.attach_map.specs.declared.Waiting.{Waiting}
 use Rattle.attach_map.specs.declared.Pending.{Pending}
 use Rattle.attach_map.specs.declared.Pending.TheVariants as pendings
-use Rattle.attach_map.specs.Attaching.{ProcessState, AttacherState, nothing_started, fresh_process, process_started, pages_in, with_pages_in, call_issued, call_settled}
+use Rattle.attach_map.specs.declared.Permit.{Permit}
+use Rattle.attach_map.specs.Attaching.{ProcessState, PermitState, AttacherState, nothing_started, fresh_process, process_started, pages_in, with_pages_in, call_issued, call_settled, is_lookup, looks_up, to_owner, with_owner, owner_found, wanted_permit, with_permit, permit_granted, permit_released}
 use Rattle.attach_map.specs.Numbers.{AreNumbered}
 use Rattle.enclave_rules.specs.Pages.{AreBlocks, frames_of, own_page}
 use Rattle.enclave_rules.specs.Memory.{has_own, is_used, unused, with_pages, with_process}
 use Rattle.enclave_rules.specs.Exports.{region_frames}
-use Rattle.enclave_rules.specs.Segments.{is_waiting_make, are_own_pages}
+use Rattle.enclave_rules.specs.Grants.{Grants}
+use Rattle.enclave_rules.specs.Segments.{is_make, is_waiting_make, are_own_pages}
 use Rattle.enclave_node.specs.Layout.{AreTied, IsOwn, HasRoom}
 use Rattle.enclave_node.specs.Estates.{Estate, with_asked_for, unused_of, with_lowest, HasAll, freed}
 use Rattle.enclave_node.proofs.FrameLemmas.{Climbs, is_among, blocks_climb, climbs_filter}
 use Rattle.enclave_node.proofs.SpaceLemmas.{region_owned}
-use Rattle.enclave_node.proofs.EstateLemmas.{put_at, put_less, are_free, has_all, freed_frames, freed_exports, freed_ascends, back_at, given_is, tied_same, AreFree, own_more, used_put, any_put, own_all_at, taken_free, own_all_ascends, climbs_take, get_among, one_place, filter_same, neither}
+use Rattle.enclave_node.proofs.EstateLemmas.{put_at, put_less, are_free, has_all, freed_frames, freed_exports, freed_grants, freed_ascends, back_at, given_is, tied_same, AreFree, own_more, used_put, any_put, own_all_at, taken_free, own_all_ascends, climbs_take, get_among, one_place, filter_same, neither}
 
 -- where an own page comes from: it was there, or it is one of the new ones
 data Origin (m : AttacherState) (p first : ℕ) (drawn : List Frame) (q page k : ℕ) : Type 0 where
@@ -43,6 +46,10 @@ map_get : (drawn : List Frame) (i : ℕ) (page : Page) → slice_get (map own_pa
 map_get [] i page is = cc
 map_get (f ∷ drawn) zero page is = let same : own_page f ≡ page = cc in ap (λ (x : Page). Some x.frame) same
 map_get (f ∷ drawn) (suc i) page is = map_get drawn i page is
+
+right_true : (a b : Bool) → (a && b) ≡ true → b ≡ true
+right_true true b is = is
+right_true false b is = cc
 
 left_true : (a b : Bool) → (a && b) ≡ true → a ≡ true
 left_true true b is = refl
@@ -202,6 +209,101 @@ module _ (blocks : List Block) (h : Holdings) (m : AttacherState) (tied : AreTie
           by true found = asks
           by false found = tied.asked call waiting found make
 
+  -- ---- other calls wait, and other permits are held
+
+  pub gets_tied : (issued : ℕ) (waiting : List (ℕ × Waiting)) (permits : List (ℕ × PermitState)) → m.issued ≤ issued → IsAscending waiting
+      → ((call : ℕ) (w : Waiting) → at waiting call ≡ Some w → is_waiting_make w ≡ true → is_asked (at h.exports call) ≡ true)
+      → AreTied blocks h (record m { issued = issued; waiting = waiting; permits = permits })
+  gets_tied issued waiting permits later ascends asked = record {
+    blocks_ascend = tied.blocks_ascend;
+    frames_are = tied.frames_are;
+    owners_ascend = tied.owners_ascend;
+    exports_ascend = tied.exports_ascend;
+    waiting_ascend = ascends;
+    used = tied.used;
+    owned = λ q page k own. tied.owned q page k (same_own q page k own);
+    single = λ q a b k own other. tied.single q a b k (same_own q a k own) (same_own q b k other);
+    ahead = λ call above. tied.ahead call (omega (arith, above, later));
+    asked = asked;
+  }
+    where
+      same_own : (q page k : ℕ) → IsOwn (record m { issued = issued; waiting = waiting; permits = permits }) q page k → IsOwn m q page k
+      same_own q page k own = record { process = own.process; found = own.found; lives = own.lives; mapped = own.mapped; own = own.own; frame_is = own.frame_is }
+
+  -- one call more or another, which is no make
+  put_asked : RowLaws Waiting → (k : ℕ) (new : Waiting) → is_make new.what ≡ false → (call : ℕ) (w : Waiting) → at (put m.waiting k new) call ≡ Some w → is_waiting_make w ≡ true
+      → is_asked (at h.exports call) ≡ true
+  put_asked calls k new get call w is make = by (k == call) (sym (calls.put_at m.waiting k call new) ∙ is)
+    where
+      by : (b : Bool) → (if b then Some new else at m.waiting call) ≡ Some w → is_asked (at h.exports call) ≡ true
+      by true found =
+          let same : new ≡ w = cc in
+          let clash : true ≡ false = sym (right_true w.living (is_make w.what) make) ∙ ap (λ (x : Waiting). is_make x.what) (sym same) ∙ get in
+          absurd (cc)
+      by false found = tied.asked call w found make
+
+  less_asked : RowLaws Waiting → (k call : ℕ) (w : Waiting) → at (less m.waiting k) call ≡ Some w → is_waiting_make w ≡ true → is_asked (at h.exports call) ≡ true
+  less_asked calls k call w is make = by (k == call) (sym (calls.less_at m.waiting k call tied.waiting_ascend) ∙ is)
+    where
+      by : (b : Bool) → (if b then None else at m.waiting call) ≡ Some w → is_asked (at h.exports call) ≡ true
+      by true found = cc
+      by false found = tied.asked call w found make
+
+  pub get_tied : RowLaws Waiting → (p : Pid) (what : Pending) → is_make what ≡ false → AreTied blocks h (call_issued m p what)
+  get_tied calls p what get =
+      let new : Waiting = record { call = record { 0 = m.issued + 1 }; pid = p; living = true; what = what } in
+      gets_tied (m.issued + 1) (put m.waiting (m.issued + 1) new) m.permits (omega arith) (calls.put_ascends m.waiting (m.issued + 1) new tied.waiting_ascend)
+      (put_asked calls (m.issued + 1) new get)
+
+  pub call_ended : RowLaws Waiting → (call : ℕ) → AreTied blocks h (call_settled m call)
+  call_ended calls call = gets_tied m.issued (less m.waiting call) m.permits (omega arith) (calls.less_ascends m.waiting call tied.waiting_ascend) (less_asked calls call)
+
+  pub found_tied : RowLaws Waiting → (call : ℕ) (owner : Enclave) → looks_up (at m.waiting call) ≡ true → AreTied blocks h (owner_found m call owner)
+  found_tied calls call owner seeks = by (at m.waiting call) seeks
+    where
+      no_make : (what : Pending) → is_lookup what ≡ true → is_make (to_owner owner what) ≡ false
+      no_make pendings.Make is = cc
+      no_make (pendings.Lookup segid access) is = refl
+      no_make (pendings.GetFrom other segid access) is = cc
+
+      by : (found : Option Waiting) → looks_up found ≡ true → AreTied blocks h (option_map_or (λ w. record m { waiting = put m.waiting call (with_owner owner w) }) found m)
+      by None is = cc
+      by (Some w) is =
+          gets_tied m.issued (put m.waiting call (with_owner owner w)) m.permits (omega arith) (calls.put_ascends m.waiting call (with_owner owner w) tied.waiting_ascend)
+          (put_asked calls call (with_owner owner w) (no_make w.what is))
+
+  pub granted_tied : RowLaws Waiting → (call pages : ℕ) → AreTied blocks h (permit_granted m call pages)
+  granted_tied calls call pages = by (at m.waiting call)
+    where
+      with : (p : ℕ) (wanted : Option Permit) → AreTied blocks h (option_map_or (with_permit m call p) wanted m)
+      with p None = tied
+      with p (Some permit) =
+          gets_tied m.issued (less m.waiting call) (put m.permits call (record { pid = p; permit = permit })) (omega arith) (calls.less_ascends m.waiting call tied.waiting_ascend)
+          (less_asked calls call)
+
+      by : (found : Option Waiting) → AreTied blocks h (option_map_or (λ w. option_map_or (with_permit m call w.pid.0) (wanted_permit w.what pages) m) found m)
+      by None = tied
+      by (Some w) = with w.pid.0 (wanted_permit w.what pages)
+
+  pub released_tied : (apid : ℕ) → AreTied blocks h (permit_released m apid)
+  released_tied apid = gets_tied m.issued m.waiting (less m.permits apid) (omega arith) tied.waiting_ascend tied.asked
+
+  -- ---- other grants stand
+
+  pub grants_tied : (grants : Grants) → AreTied blocks (record h { grants = grants }) m
+  grants_tied grants = record {
+    blocks_ascend = tied.blocks_ascend;
+    frames_are = tied.frames_are;
+    owners_ascend = tied.owners_ascend;
+    exports_ascend = tied.exports_ascend;
+    waiting_ascend = tied.waiting_ascend;
+    used = tied.used;
+    owned = tied.owned;
+    single = tied.single;
+    ahead = tied.ahead;
+    asked = tied.asked;
+  }
+
   -- ---- a make is answered, and its export live
 
   live_at : RowLaws Export → (call segid c : ℕ) → at (with_live call segid h.exports) c ≡ (if call == c then option_map (live_with segid) (at h.exports call) else at h.exports c)
@@ -280,8 +382,8 @@ module _ (blocks : List Block) (h : Holdings) (m : AttacherState) (tied : AreTie
 
 -- ---- the same, as a call leaves it
 
-abbrev estate : List Block → AttacherState → List (ℕ × Export) → Estate
-estate blocks m exports = record { blocks = blocks; memory = m; exports = exports }
+abbrev pub estate : List Block → AttacherState → Holdings → Estate
+estate blocks m h = record { blocks = blocks; memory = m; exports = h.exports; grants = h.grants }
 
 absent : (rows : List (ℕ × ProcessState)) (k last : ℕ) → ((q : ℕ) → IsSome (at rows q) → q ≤ last) → last < k → at rows k ≡ None
 absent rows k last high above = by (at rows k) refl
@@ -297,7 +399,7 @@ started_after (Ok t) blocks h m new uid gid tied numbered ok err =
 started_after (Err e) blocks h m new uid gid tied numbered ok err = subst (λ (x : AttacherState). AreTied blocks h x) (sym err) tied
 
 pub withdrawn : (k : ℕ) (e : Export) (h : Holdings) → at h.exports k ≡ None → without_export k (with_export k e h) ≡ h
-withdrawn k e h none = ap (λ (rows : List (ℕ × Export)). record { frames = h.frames; owners = h.owners; exports = rows }) (put_less h.exports k e none)
+withdrawn k e h none = ap (λ (rows : List (ℕ × Export)). record h { exports = rows }) (put_less h.exports k e none)
 
 -- what holds of all keys holds of that of a row that is found
 key_found : (P : ℕ → Type 0) (segid : ℕ) (rows : List (ℕ × Export)) (row : ℕ × Export) → AllByRecursion P (keys_of rows) → live_export rows segid ≡ Some row → P row.0
@@ -329,7 +431,7 @@ live_found segid (r ∷ rows) row laws ascend is = by (has_segid segid r.1.segid
         ap is_asked (laws.later r rows row.0 (λ same. omega (arith, above, same))) ∙ more is
 
 pub ended_after : (blocks : List Block) (h : Holdings) (m : AttacherState) (new : Holdings) (e : Estate) (call segid : ℕ) → AreTied blocks h m → RowLaws Export
-    → record { blocks = blocks; memory = m; exports = h.exports } ≡ e → option_map (λ row. row.0) (live_export e.exports segid) ≡ Some call → new ≡ without_export call h → AreTied blocks new m
+    → estate blocks m h ≡ e → option_map (λ row. row.0) (live_export e.exports segid) ≡ Some call → new ≡ without_export call h → AreTied blocks new m
 ended_after blocks h m new e call segid tied laws sees is after =
     subst (λ (x : Holdings). AreTied blocks x m) (sym after)
     (ended_tied blocks h m tied laws call (by (live_export h.exports segid) refl (ap (λ (x : Estate). option_map (λ row. row.0) (live_export x.exports segid)) sees ∙ is)))
@@ -339,6 +441,40 @@ ended_after blocks h m new e call segid tied laws sees is after =
     by (Some row) found is =
         let same : row.0 ≡ call = cc in
         ap (λ k. is_asked (at h.exports k)) (sym same) ∙ live_found segid h.exports row laws tied.exports_ascend found
+
+-- what a call that may fail leaves
+after_either : {T E : Type 0} (done : Result T E) (blocks : List Block) (h : Holdings) (m changed new : AttacherState) → AreTied blocks h m → AreTied blocks h changed
+    → OnOk done (new ≡ changed) → OnErr done (new ≡ m) → AreTied blocks h new
+after_either (Ok t) blocks h m changed new tied now ok err = subst (λ (x : AttacherState). AreTied blocks h x) (sym ok) now
+after_either (Err e) blocks h m changed new tied now ok err = subst (λ (x : AttacherState). AreTied blocks h x) (sym err) tied
+
+pub get_after : {T E : Type 0} (done : Result T E) (blocks : List Block) (h : Holdings) (m new : AttacherState) (p : Pid) (what : Pending) → AreTied blocks h m → RowLaws Waiting
+    → is_make what ≡ false → OnOk done (new ≡ call_issued m p what) → OnErr done (new ≡ m) → AreTied blocks h new
+get_after done blocks h m new p what tied calls get ok err = after_either done blocks h m (call_issued m p what) new tied (get_tied blocks h m tied calls p what get) ok err
+
+pub permit_after : {T E : Type 0} (done : Result T E) (blocks : List Block) (h : Holdings) (m new : AttacherState) (call pages : ℕ) → AreTied blocks h m → RowLaws Waiting
+    → OnOk done (new ≡ permit_granted m call pages) → OnErr done (new ≡ m) → AreTied blocks h new
+permit_after done blocks h m new call pages tied calls ok err = after_either done blocks h m (permit_granted m call pages) new tied (granted_tied blocks h m tied calls call pages) ok err
+
+pub found_after : (blocks : List Block) (h : Holdings) (m new : AttacherState) (e : Estate) (call : ℕ) (owner : Enclave) → AreTied blocks h m → RowLaws Waiting
+    → estate blocks m h ≡ e → IsTrue (looks_up (at e.memory.waiting call)) → new ≡ owner_found m call owner → AreTied blocks h new
+found_after blocks h m new e call owner tied calls sees seeks after =
+    subst (λ (x : AttacherState). AreTied blocks h x) (sym after)
+    (found_tied blocks h m tied calls call owner (ap (λ (x : Estate). looks_up (at x.memory.waiting call)) sees ∙ seeks))
+
+pub ended_call_after : (blocks : List Block) (h : Holdings) (m new : AttacherState) (call : ℕ) → AreTied blocks h m → RowLaws Waiting → new ≡ call_settled m call → AreTied blocks h new
+ended_call_after blocks h m new call tied calls after = subst (λ (x : AttacherState). AreTied blocks h x) (sym after) (call_ended blocks h m tied calls call)
+
+pub released_after : (blocks : List Block) (h : Holdings) (m new : AttacherState) (apid : ℕ) → AreTied blocks h m → new ≡ permit_released m apid → AreTied blocks h new
+released_after blocks h m new apid tied after = subst (λ (x : AttacherState). AreTied blocks h x) (sym after) (released_tied blocks h m tied apid)
+
+pub grants_after : {T E : Type 0} (done : Result T E) (blocks : List Block) (h new : Holdings) (m : AttacherState) (grants : Grants) → AreTied blocks h m
+    → OnOk done (new ≡ record h { grants = grants }) → OnErr done (new ≡ h) → AreTied blocks new m
+grants_after (Ok t) blocks h new m grants tied ok err = subst (λ (x : Holdings). AreTied blocks x m) (sym ok) (grants_tied blocks h m tied grants)
+grants_after (Err e) blocks h new m grants tied ok err = subst (λ (x : Holdings). AreTied blocks x m) (sym err) tied
+
+pub ungranted_after : (blocks : List Block) (h new : Holdings) (m : AttacherState) (grants : Grants) → AreTied blocks h m → new ≡ record h { grants = grants } → AreTied blocks new m
+ungranted_after blocks h new m grants tied after = subst (λ (x : Holdings). AreTied blocks x m) (sym after) (grants_tied blocks h m tied grants)
 
 pub settled_after : (blocks : List Block) (h : Holdings) (m : AttacherState) (g : Holdings) (new : AttacherState) (call segid : ℕ) → AreTied blocks h m → RowLaws Export → RowLaws Waiting
     → g ≡ with_segid call segid h → new ≡ call_settled m call → AreTied blocks g new
@@ -393,7 +529,7 @@ length_taken zero frames = omega arith
 length_taken (suc n) [] = omega arith
 length_taken (suc n) (f ∷ frames) = let rest = length_taken n frames in omega (arith, rest)
 
-pub free_seen : (blocks : List Block) (h : Holdings) (m : AttacherState) (now : Estate) → AreTied blocks h m → record { blocks = blocks; memory = m; exports = h.exports } ≡ now
+pub free_seen : (blocks : List Block) (h : Holdings) (m : AttacherState) (now : Estate) → AreTied blocks h m → estate blocks m h ≡ now
     → free_frames h ≡ unused_of now
 free_seen blocks h m now tied sees = free_unused blocks h m tied ∙ ap unused_of sees
 
@@ -424,7 +560,7 @@ pub no_err : {T E : Type 0} (r : Result T E) (t : T) (P : Type 0) → r ≡ Ok t
 no_err (Ok u) t P is = tt
 no_err (Err f) t P is = cc
 
-module _ (blocks : List Block) (h : Holdings) (m : AttacherState) (now : Estate) (tied : AreTied blocks h m) (sees : record { blocks = blocks; memory = m; exports = h.exports } ≡ now)
+module _ (blocks : List Block) (h : Holdings) (m : AttacherState) (now : Estate) (tied : AreTied blocks h m) (sees : estate blocks m h ≡ now)
     (p n : ℕ) (given : Holdings) (frames : List Frame) (gives : given ≡ with_owned p (take n (free_frames h)) h) (is : frames ≡ take n (free_frames h)) where
   free_is : free_frames h ≡ unused_of now
   free_is = free_seen blocks h m now tied sees
@@ -458,16 +594,19 @@ module _ (blocks : List Block) (h : Holdings) (m : AttacherState) (now : Estate)
         (subst (λ (x : Holdings). IsAscending x.owners) (sym back_is) (freed_ascends rows (take n (free_frames h)) given (owners_ascend rows)))
         (λ k. ap (λ (x : Holdings). at x.owners k) back_is ∙ back_at rows n p k h given gives (owners_ascend rows)))
 
-    pub back_seen : record { blocks = blocks; memory = new; exports = g.exports } ≡ now
+    grants_are : g.grants ≡ h.grants
+    grants_are = ap (λ (x : Holdings). x.grants) back_is ∙ freed_grants (take n (free_frames h)) given ∙ ap (λ (x : Holdings). x.grants) gives
+
+    pub back_seen : estate blocks new g ≡ now
     back_seen =
-        ap (λ (x : AttacherState). estate blocks x g.exports) same ∙ ap (λ (rows : List (ℕ × Export)). estate blocks m rows) exports_are ∙ sees
+        ap (λ (x : AttacherState). estate blocks x g) same ∙ (λ i. record { blocks = blocks; memory = m; exports = exports_are i; grants = grants_are i }) ∙ sees
 
   -- they are mapped
   module _ (g : Holdings) (new : AttacherState) (first : ℕ) (kept : g ≡ given) (maps : new ≡ with_pages_in m p (put_all (pages_in m p) first (owned frames))) where
-    pub given_seen : record { blocks = blocks; memory = new; exports = g.exports } ≡ with_lowest p first n now
+    pub given_seen : estate blocks new g ≡ with_lowest p first n now
     given_seen =
-        ap (λ (x : AttacherState). estate blocks x g.exports) (maps ∙ ap (λ fs. with_pages_in m p (put_all (pages_in m p) first (owned fs))) (is ∙ ap (take n) (free_unused blocks h m tied)) ∙ given_is m p first (take n (unused blocks m h.exports)))
-        ∙ ap (λ (x : Holdings). estate blocks (with_process p (with_pages first (take n (unused blocks m h.exports))) m) x.exports) (kept ∙ gives)
+        ap (λ (x : AttacherState). estate blocks x g) (maps ∙ ap (λ fs. with_pages_in m p (put_all (pages_in m p) first (owned fs))) (is ∙ ap (take n) (free_unused blocks h m tied)) ∙ given_is m p first (take n (unused blocks m h.exports)))
+        ∙ ap (λ (x : Holdings). estate blocks (with_process p (with_pages first (take n (unused blocks m h.exports))) m) x) (kept ∙ gives)
         ∙ ap (with_lowest p first n) sees
 
     pub given_after : RowLaws Page → RowLaws ℕ → ((table : List (ℕ × Page)) (low high : ℕ) → any_between table low high ≡ is_some (lowest_in table low high))

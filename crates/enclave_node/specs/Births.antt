@@ -71,6 +71,7 @@ born_view b = record {
   ways = no_ways;
   memory = no_memory;
   exports = [];
+  grants = [];
   names = no_names;
   host = host_view b.host;
 }

@@ -11,17 +11,19 @@ use Rattle.exporter_pins.specs.Holdings.{Export, Holdings, is_asked, live_export
 use Rattle.attach_map.specs.declared.Waiting.{Waiting}
 use Rattle.attach_map.specs.Attaching.{AttacherState, pages_in, process_started}
 use Rattle.enclave_rules.specs.Exports.{segid_number, is_segid, region_frames, without_live}
+use Rattle.enclave_rules.specs.Grants.{Grants}
 use Rattle.enclave_rules.specs.Memory.{no_memory, unused, with_pages, with_process, with_issued, with_answered}
 use Rattle.enclave_rules.specs.Segments.{is_waiting_make, are_own_pages}
 
--- the blocks of an enclave, its processes with their pages and waiting calls, and its exports
+-- the blocks of an enclave, its processes with their pages and waiting calls, its exports, and the grants of these
 pub record Estate : Type 0 where
   pub blocks : List Block
   pub memory : AttacherState
   pub exports : List (ℕ × Export)
+  pub grants : Grants
 
 abbrev pub new_estate : List Block → Estate
-new_estate blocks = record { blocks = blocks; memory = no_memory; exports = [] }
+new_estate blocks = record { blocks = blocks; memory = no_memory; exports = []; grants = [] }
 
 abbrev pub with_start : ℕ → ℕ → Estate → Estate
 with_start uid gid e = record e { memory = process_started e.memory uid gid }

@@ -4,5 +4,6 @@ pub mod Births
 pub mod Answers
 pub mod Sides
 pub mod Estates
+pub mod Gets
 pub mod Naming
 pub mod Making

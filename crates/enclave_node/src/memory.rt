@@ -11,6 +11,8 @@ ghost use Rattle.enclave_rules.specs.Segments as segments;
 ghost use Rattle.enclave_node.specs.Estates as spec;
 ghost use Rattle.enclave_node.specs.Layout.{HasRoom};
 
+mod gets;
+
 use crate::frames::all_frames;
 use crate::spaces::own_frames;
 use attach_map::{Attacher, Pending, Waiting};
@@ -36,7 +38,7 @@ impl<A: AddressSpace> Model for Memory<A> {
 
     ghost Value = { Estate };
 
-    ghost view = { λ m. record { blocks = m.blocks; memory = m.attacher; exports = m.exporter.exports } };
+    ghost view = { λ m. record { blocks = m.blocks; memory = m.attacher; exports = m.exporter.exports; grants = m.exporter.grants } };
 
     ghost invariant = { λ m. AreTied m.blocks m.exporter m.attacher };
 }

@@ -11,6 +11,7 @@ ghost use Rattle.enclave_rules.specs.Steps as steps;
 ghost use Rattle.enclave_node.specs.Births.{born_view};
 
 mod calls;
+mod gets;
 mod naming;
 mod records;
 mod ways;
@@ -84,6 +85,7 @@ impl<A: AddressSpace> Model for State<A> {
       };
       memory = s.memory.memory;
       exports = s.memory.exports;
+      grants = s.memory.grants;
       names = s.names;
       host = host_view s.host;
     } };

@@ -5,10 +5,13 @@ pub mod Ways
 pub mod Memory
 pub mod Hand
 pub mod Exports
+pub mod Grants
+pub mod Permits
 pub mod Names
 pub mod Host
 pub mod View
 pub mod Sending
 pub mod Steps
 pub mod Segments
+pub mod Gets
 pub mod Calls

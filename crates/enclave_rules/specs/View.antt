@@ -12,6 +12,7 @@ use Rattle.exporter_pins.specs.Holdings.{Export}
 use Rattle.name_server.specs.Names.{NamesState, no_names}
 use Rattle.enclave_rules.specs.Memory.{no_memory, memory_line}
 use Rattle.enclave_rules.specs.Exports.{exports_line}
+use Rattle.enclave_rules.specs.Grants.{Grants, grants_line}
 use Rattle.enclave_rules.specs.Names.{names_line}
 use Rattle.enclave_rules.specs.Host.{HostView, no_host, free_pool, host_line}
 use Rattle.enclave_rules.specs.Hand.{Hand}
@@ -24,6 +25,7 @@ pub record View : Type 0 where
   pub ways : WaysView
   pub memory : AttacherState
   pub exports : List (ℕ × Export)
+  pub grants : Grants
   pub names : NamesState
   pub host : HostView
 
@@ -39,6 +41,7 @@ unborn_view pool e = record {
   ways = no_ways;
   memory = no_memory;
   exports = [];
+  grants = [];
   names = no_names;
   host = if e.0 == 0 then unborn_host pool else no_host;
 }
@@ -69,8 +72,13 @@ own_line hand v (lines.Issue e p call) = record v {
 own_line hand v (lines.Drew e call segid) = record v { names = names_line v.names (lines.Drew e call segid) }
 own_line hand v (lines.Named e call segid) = record v { exports = exports_line hand v.memory v.exports (lines.Named e call segid) }
 own_line hand v (lines.Unnamed segid) = record v { names = names_line v.names (lines.Unnamed segid) }
+own_line hand v (lines.Grant owner e call segid access) = record v { grants = grants_line v.grants (lines.Grant owner e call segid access) }
+own_line hand v (lines.Ungrant owner e call) = record v { grants = grants_line v.grants (lines.Ungrant owner e call) }
 own_line hand v (lines.Remove e segid) = record v { exports = exports_line hand v.memory v.exports (lines.Remove e segid) }
 own_line hand v (lines.AnswerSegid e p call segid) = record v { memory = memory_line v.memory (lines.AnswerSegid e p call segid) }
+own_line hand v (lines.AnswerApid e p call apid pages) = record v { memory = memory_line v.memory (lines.AnswerApid e p call apid pages) }
+own_line hand v (lines.AnswerRefused e p call cause) = record v { memory = memory_line v.memory (lines.AnswerRefused e p call cause) }
+own_line hand v (lines.Release e call) = record v { memory = memory_line v.memory (lines.Release e call) }
 own_line hand v line = v
 
 -- what the lines of one step change
@@ -91,8 +99,14 @@ writer_of holder (lines.Issue of p call) = Some of
 writer_of holder (lines.Drew e call segid) = Some holder
 writer_of holder (lines.Named of call segid) = Some of
 writer_of holder (lines.Unnamed segid) = Some holder
+writer_of holder (lines.Grant owner e call segid access) = Some owner
+writer_of holder (lines.Ungrant owner e call) = Some owner
 writer_of holder (lines.Remove of segid) = Some of
 writer_of holder (lines.AnswerSegid of p call segid) = Some of
+writer_of holder (lines.AnswerApid of p call apid pages) = Some of
+writer_of holder (lines.AnswerRefused of p call cause) = Some of
+writer_of holder (lines.Release of call) = Some of
+writer_of holder (lines.Deny of e call cause) = Some of
 writer_of holder (lines.Sent x y r) = Some x
 writer_of holder (lines.Took x y count) = Some y
 writer_of holder (lines.Got x y) = Some y
@@ -147,8 +161,13 @@ IsAbout holder y (lines.Issue e p call) = e ≡ y
 IsAbout holder y (lines.Drew e call segid) = holder ≡ y
 IsAbout holder y (lines.Named e call segid) = e ≡ y
 IsAbout holder y (lines.Unnamed segid) = holder ≡ y
+IsAbout holder y (lines.Grant owner e call segid access) = owner ≡ y
+IsAbout holder y (lines.Ungrant owner e call) = owner ≡ y
 IsAbout holder y (lines.Remove e segid) = e ≡ y
 IsAbout holder y (lines.AnswerSegid e p call segid) = e ≡ y
+IsAbout holder y (lines.AnswerApid e p call apid pages) = e ≡ y
+IsAbout holder y (lines.AnswerRefused e p call cause) = e ≡ y
+IsAbout holder y (lines.Release e call) = e ≡ y
 IsAbout holder y (lines.Asked e by) = e ≡ y
 IsAbout holder y (lines.Way e over) = e ≡ y
 IsAbout holder y (lines.Back e of over) = e ≡ y

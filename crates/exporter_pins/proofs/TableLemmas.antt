@@ -391,12 +391,12 @@ asked_room laws rows names asked table c is = by (at rows c) refl is
     by (Some e) here is = some_asked laws rows names asked table c e here (asked_is (Some e) is)
 
 -- after frames were given
-pub given_is : {E : Type 0} (r : Result (List Frame) E) (u v : FrameUse) (exports : List (ℕ × Export)) (pid n : ℕ) (free : List Frame) → IfOk r (λ list. list ≡ take n free) → IfOk r (λ list. v.owners ≡ own_all u.owners pid list) → v.frames ≡ u.frames
-    → OnOk r (◌≡◌ {A = Holdings} (record { frames = v.frames; owners = v.owners; exports = exports }) (with_owned pid (take n free) (record { frames = u.frames; owners = u.owners; exports = exports })))
-given_is (Ok list) u v exports pid n free is owners frames =
+pub given_is : {E : Type 0} (r : Result (List Frame) E) (u v : FrameUse) (h : Holdings) (pid n : ℕ) (free : List Frame) → IfOk r (λ list. list ≡ take n free) → IfOk r (λ list. v.owners ≡ own_all u.owners pid list) → v.frames ≡ u.frames
+    → OnOk r (◌≡◌ {A = Holdings} (record h { frames = v.frames; owners = v.owners }) (with_owned pid (take n free) (record h { frames = u.frames; owners = u.owners })))
+given_is (Ok list) u v h pid n free is owners frames =
     let all : v.owners ≡ own_all u.owners pid (take n free) = owners ∙ ap (own_all u.owners pid) is in
-    (λ i. record { frames = frames i; owners = all i; exports = exports })
-given_is (Err e) u v exports pid n free is owners frames = tt
+    (λ i. record h { frames = frames i; owners = all i })
+given_is (Err e) u v h pid n free is owners frames = tt
 
 -- what was written in the place of an export
 pub written_is : (laws : RowLaws Export) (rows new : List (ℕ × Export)) (c : ℕ) (e : Export) → IsAscending rows → IsAscending new → ((q : ℕ) → at new q ≡ cond (is_eq (nat_cmp c q)) (Some e) (at rows q)) → new ≡ put rows c e

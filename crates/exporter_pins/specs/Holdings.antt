@@ -1,10 +1,17 @@
 -- What the frames of an enclave are used for, and what is done with them.
 use Rattle.std.specs.Prelude.{◌≡◌, ◌≤◌, ℕ, ◌==◌, Bool, true, false, ◌&&◌, not, is_some, List, [], map, length, Option, None, Some}
 use Rattle.std.specs.List.{list_any, filter, find, fold}
+use Rattle.std.specs.Option.{option_map_or}
 use Rattle.std.specs.List.Sorted.{IsStrictlySortedBy}
 use Rattle.std.specs.Ordering.{nat_cmp}
 use Rattle.xm_num.specs.Rows.{at, put, less}
+use Rattle.xm_num.specs.declared.Access.{Access}
+use Rattle.xm_num.specs.declared.CallNo.{CallNo}
+use Rattle.xm_num.specs.declared.Enclave.{Enclave}
 use Rattle.xm_num.specs.declared.Frame.{Frame}
+use Rattle.xm_num.specs.declared.Segid.{Segid}
+use Rattle.permit_check.specs.Permits.{is_met}
+use Rattle.holder_table.specs.Holding.{Holding, with_held, without_held, without_enclave}
 use Rattle.exporter_pins.specs.declared.Segment.{Segment}
 
 -- who made it, for which user, group and mode; its frames; its segid once it is live
@@ -16,11 +23,13 @@ pub record Export : Type 0 where
   pub frames : List Frame
   pub segid : Option ℕ
 
--- all frames, ascending; the process that has each, by the frames' numbers; the exports by their calls
+-- all frames, ascending; the process that has each, by the frames' numbers; the exports by their calls; the grants by the enclaves
+-- that have them and their calls
 pub record Holdings : Type 0 where
   pub frames : List Frame
   pub owners : List (ℕ × ℕ)
   pub exports : List (ℕ × Export)
+  pub grants : Holding (Unit {0})
 
 -- the frames ascend, and none is listed twice
 abbrev pub AreAscendingFrames : List Frame → Type 0
@@ -28,7 +37,7 @@ AreAscendingFrames frames = IsStrictlySortedBy nat_cmp (map (λ frame. frame.0) 
 
 -- all frames are free
 abbrev pub no_holdings : List Frame → Holdings
-no_holdings frames = record { frames = frames; owners = []; exports = [] }
+no_holdings frames = record { frames = frames; owners = []; exports = []; grants = [] }
 
 -- the list has the frame with that number
 abbrev pub has_frame : List Frame → ℕ → Bool
@@ -56,11 +65,11 @@ own_all owners pid frames = fold (λ rows frame. put rows frame.0 pid) owners fr
 
 -- the process has these frames too
 abbrev pub with_owned : ℕ → List Frame → Holdings → Holdings
-with_owned pid frames h = record { frames = h.frames; owners = own_all h.owners pid frames; exports = h.exports }
+with_owned pid frames h = record h { owners = own_all h.owners pid frames }
 
 -- no process has the frame
 abbrev pub without_owner : ℕ → Holdings → Holdings
-without_owner k h = record { frames = h.frames; owners = less h.owners k; exports = h.exports }
+without_owner k h = record h { owners = less h.owners k }
 
 -- the rows of other processes
 abbrev pub owned_by_others : ℕ → List (ℕ × ℕ) → List (ℕ × ℕ)
@@ -68,7 +77,7 @@ owned_by_others pid owners = filter (λ row. not (row.1 == pid)) owners
 
 -- the process has no frame
 abbrev pub without_process : ℕ → Holdings → Holdings
-without_process pid h = record { frames = h.frames; owners = owned_by_others pid h.owners; exports = h.exports }
+without_process pid h = record h { owners = owned_by_others pid h.owners }
 
 -- an export that was asked for and isn't live
 abbrev pub asked_export : ℕ → ℕ → ℕ → ℕ → List Frame → Export
@@ -87,13 +96,13 @@ with_live call segid exports = by (at exports call)
     by (Some e) = put exports call (live_with segid e)
 
 abbrev pub with_export : ℕ → Export → Holdings → Holdings
-with_export call e h = record { frames = h.frames; owners = h.owners; exports = put h.exports call e }
+with_export call e h = record h { exports = put h.exports call e }
 
 abbrev pub with_segid : ℕ → ℕ → Holdings → Holdings
-with_segid call segid h = record { frames = h.frames; owners = h.owners; exports = with_live call segid h.exports }
+with_segid call segid h = record h { exports = with_live call segid h.exports }
 
 abbrev pub without_export : ℕ → Holdings → Holdings
-without_export call h = record { frames = h.frames; owners = h.owners; exports = less h.exports call }
+without_export call h = record h { exports = less h.exports call }
 
 -- the export was asked for, and isn't live
 abbrev pub is_asked : Option Export → Bool
@@ -124,3 +133,22 @@ has_live exports pid segid = list_any (λ row. is_live_of pid segid row.1) expor
 pub record IsLeastLive (exports : List (ℕ × Export)) (pid segid : ℕ) : Type 0 where
   pub here : has_live exports pid segid ≡ true
   pub least : (n : ℕ) → has_live exports pid n ≡ true → segid ≤ n
+
+-- a user may have the access to the export
+abbrev pub is_permitted : ℕ → ℕ → Access → Export → Bool
+is_permitted uid gid access e = is_met e.mode e.uid e.gid uid gid access
+
+-- a user has no such access to the live export
+abbrev pub is_denied : List (ℕ × Export) → ℕ → ℕ → ℕ → Access → Bool
+is_denied exports segid uid gid access = option_map_or (λ row. not (is_permitted uid gid access row.1)) (live_export exports segid) false
+
+-- the enclave has a grant of the segment for that call
+abbrev pub with_grant : Enclave → CallNo → Segid → Holdings → Holdings
+with_grant to call segid h = record h { grants = with_held h.grants to.0 call.0 (record { segid = segid; value = tt }) }
+
+abbrev pub without_grant : Enclave → CallNo → Holdings → Holdings
+without_grant to call h = record h { grants = without_held h.grants to.0 call.0 }
+
+-- an enclave has no grants
+abbrev pub without_holder : Enclave → Holdings → Holdings
+without_holder gone h = record h { grants = without_enclave h.grants gone.0 }

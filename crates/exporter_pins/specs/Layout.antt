@@ -4,9 +4,10 @@ use Rattle.std.specs.List.{count_by, sum_by, filter}
 use Rattle.std.specs.Map.{lookup, values_of}
 use Rattle.std.specs.Option.{unwrap_or}
 use Rattle.xm_num.specs.Rows.{at, IsAscending}
+use Rattle.xm_num.specs.declared.Access.{Access}
 use Rattle.xm_num.specs.declared.Frame.{Frame}
 use Rattle.number_pairs.specs.Pairs.{has_pair}
-use Rattle.exporter_pins.specs.Holdings.{Export, AreAscendingFrames, has_frame, is_free_frame, free_among}
+use Rattle.exporter_pins.specs.Holdings.{Export, AreAscendingFrames, has_frame, is_free_frame, free_among, is_permitted}
 
 -- a queue of numbers, and for how many it has room
 pub record Queue : Type 0 where
@@ -117,6 +118,10 @@ asked_count exports = sum_by (λ e. if is_some e.segid then 0 else 1) (values_of
 abbrev pub segid_in : Option Export → Option ℕ
 segid_in None = None
 segid_in (Some e) = e.segid
+
+-- how many pages an export has, and whether the user may have the access to it
+abbrev pub permit_of : ℕ → ℕ → Access → ℕ × Export → ℕ × Bool
+permit_of uid gid access row = (length row.1.frames, is_permitted uid gid access row.1)
 
 -- the process asked for the export
 abbrev pub is_made_by : ℕ → Option Export → Bool

@@ -2,7 +2,7 @@
 ghost use Rattle.std.specs.Prelude.{◌≡◌, ℕ, pos, nat_abs, true, false, [], None, option_map, IfSome, IfNone, OnOk, OnErr};
 ghost use Rattle.xm_num.specs.Rows as rows;
 ghost use Rattle.exporter_pins.specs.Holdings.{with_live, live_export, is_asked, segment_of, has_live, IsLeastLive};
-ghost use Rattle.exporter_pins.specs.Layout.{segid_in, lower_of};
+ghost use Rattle.exporter_pins.specs.Layout.{segid_in, lower_of, permit_of};
 
 use crate::Segment;
 use crate::names::NameTable;
@@ -12,7 +12,7 @@ use std::alloc::{AllocError, Global};
 use std::collections::BTreeMap;
 use std::marker::Model;
 use xm_num::laws::row_laws;
-use xm_num::{CallNo, Pid, Segid};
+use xm_num::{Access, CallNo, Pid, Segid};
 
 // The exports, seen as rows.
 #[derive(Drop)]
@@ -119,18 +119,34 @@ impl ExportTable {
         Some(row)
     }
 
-    // The live export of that name.
-    pub fn segment(&self, number: u64) -> Option<Segment>
-        ensures { result ≡ option_map segment_of (live_export self.now number) }
+    // The live export of that name, and its call.
+    fn live(&self, number: u64) -> Option<(u32, &ExportRow)>
+        ensures { option_map (λ found. (found.0, found.1.now)) result ≡ live_export self.now number }
     {
         row_laws::<ExportRow>();
         let call = self.names.get(number)?;
         let row = self.rows.get(&call)?;
+        Some((call, row))
+    }
+
+    // The live segment of that name.
+    pub fn segment(&self, number: u64) -> Option<Segment>
+        ensures { result ≡ option_map segment_of (live_export self.now number) }
+    {
+        let (call, row) = self.live(number)?;
         Some(Segment {
             call: CallNo(call),
             pid: row.pid(),
             pages: row.pages(),
         })
+    }
+
+    // How many pages the live export of that name has, and whether the user may have the access to it.
+    pub fn permit(&self, number: u64, uid: u32, gid: u32, access: Access) -> Option<(u32, bool)>
+        ensures { result ≡ option_map (permit_of uid gid access) (live_export self.now number) }
+    {
+        let (_, row) = self.live(number)?;
+        Some((row.pages(), row.permits(uid, gid, access)))
     }
 
     // The segid of a call's export, where it is live.

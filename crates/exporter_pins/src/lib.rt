@@ -1,12 +1,14 @@
-//! The exporter: which frames of an enclave are free, which its processes have, and which are exported.
+//! The exporter: which frames of an enclave are free, which its processes have, which are exported, and who was granted what.
 //!
 //! A frame is free where no process has it and no export. An export is asked for first, and live once its name is known;
-//! a frame that its process gives up meanwhile comes free only once no export has it.
+//! a frame that its process gives up meanwhile comes free only once no export has it. A grant names a segment, and stands
+//! until it is taken back, also where the segment has ended before.
 #![tactic(auto)]
 
-ghost use Rattle.std.specs.Prelude.{◌≡◌, ℕ, ◌<◌, ◌≤◌, ◌-◌, ◌^◌, ◌↔◌, pos, nat_abs, true, false, length, take, min, All, Some, None, option_map, IfSome, IfNone, IfOk, OnOk, OnErr, IsErrOf};
+ghost use Rattle.std.specs.Prelude.{◌≡◌, ℕ, ◌<◌, ◌≤◌, ◌-◌, ◌^◌, ◌↔◌, pos, nat_abs, true, false, length, take, min, All, Some, None, option_map, is_some, IfSome, IfNone, IfOk, OnOk, OnErr, IsErrOf};
 ghost use Rattle.xm_num.specs.Rows.{at};
 ghost use Rattle.xm_num.specs.RowLaws.{RowLaws};
+ghost use Rattle.holder_table.specs.Holding as holding;
 ghost use Rattle.exporter_pins.specs.Holdings as spec;
 ghost use Rattle.exporter_pins.specs.Holdings.{Export};
 
@@ -21,12 +23,13 @@ mod rows;
 
 use exported::ExportTable;
 use frames::FrameTable;
-use row::ExportRow;
+use holder_table::Holders;
+use row::{ExportRow, number};
 use std::alloc::{AllocError, Global};
 use std::marker::Model;
 use thiserror::Error;
 use xm_num::laws::row_laws;
-use xm_num::{CallNo, Frame, FrameList, Pid, Segid};
+use xm_num::{Access, CallNo, Enclave, Frame, FrameList, Pid, Segid};
 
 /// Why frames weren't given.
 #[derive(Clone, Copy, Debug, PartialEq, Eq, Error)]
@@ -34,6 +37,20 @@ pub enum ExportFault {
     /// Fewer are free.
     #[error("too few free frames")]
     NoFrames,
+    /// Memory was wanting.
+    #[error("out of memory")]
+    Memory,
+}
+
+/// Why a get isn't granted.
+#[derive(Clone, Copy, Debug, PartialEq, Eq, Error)]
+pub enum GrantFault {
+    /// No live segment has that name.
+    #[error("no such segment")]
+    NoSegment,
+    /// The user may not have the access.
+    #[error("access denied")]
+    Denied,
     /// Memory was wanting.
     #[error("out of memory")]
     Memory,
@@ -47,15 +64,16 @@ pub struct Segment {
     pub pages: u32,
 }
 
-/// The frames of an enclave and its exports.
+/// The frames of an enclave, its exports, and the grants of these.
 ///
-/// Contracts see it as a `Holdings`. A look-up of a frame or a call takes time logarithmic in those that are kept, one of
-/// a name about a step, and a change of `n` frames `n` times a logarithm.
+/// Contracts see it as a `Holdings`. A look-up of a frame, a call or a grant takes time logarithmic in those that are
+/// kept, one of a name about a step, and a change of `n` frames `n` times a logarithm.
 #[derive(Drop)]
 pub struct Exporter {
     alloc: Global,
     frames: FrameTable,
     exports: ExportTable,
+    grants: Holders<()>,
 }
 
 impl Model for Exporter {
@@ -64,7 +82,7 @@ impl Model for Exporter {
 
     ghost Value = { Holdings };
 
-    ghost view = { λ e. record { frames = e.frames.frames; owners = e.frames.owners; exports = e.exports } };
+    ghost view = { λ e. record { frames = e.frames.frames; owners = e.frames.owners; exports = e.exports; grants = e.grants } };
 
     ghost invariant = { λ e. AreCounted e.frames.covers e.exports };
 }
@@ -98,6 +116,7 @@ impl Exporter {
             alloc,
             frames: FrameTable::new(alloc, frames)?,
             exports: ExportTable::new(alloc),
+            grants: Holders::new(alloc),
         })
     }
 
@@ -187,6 +206,81 @@ impl Exporter {
         ensures natural { IfSome result (λ segid. segid.0 ≡ pos (nat_abs segid.0)) }
     {
         self.exports.lowest(pid)
+    }
+
+    /// Grants the get of that number of an enclave, where the segment is live and its user may have the access, and gives the
+    /// segment's pages. The get has no grant. After an error nothing has changed.
+    pub fn grant(
+        &mut self,
+        to: Enclave,
+        call: CallNo,
+        segid: Segid,
+        uid: u32,
+        gid: u32,
+        access: Access,
+    ) -> Result<u32, GrantFault>
+        requires { holding.held self.old.grants to.0 call.0 ≡ None }
+        ensures pages { IfOk result (λ pages. option_map (λ row. length row.1.frames) (spec.live_export self.old.exports (nat_abs segid.0)) ≡ Some pages) }
+        ensures after { OnOk result (self.new ≡ spec.with_grant to call segid self.old) }
+        ensures none { IsErrOf result GrantFault.NoSegment ↔ (spec.live_export self.old.exports (nat_abs segid.0) ≡ None) }
+        ensures denied { IsErrOf result GrantFault.Denied ↔ (spec.is_denied self.old.exports (nat_abs segid.0) uid gid access ≡ true) }
+        ensures err { OnErr result (self.new ≡ self.old) }
+    {
+        let Some((pages, permitted)) = self.exports.permit(number(segid), uid, gid, access) else {
+            return Err(GrantFault::NoSegment);
+        };
+        if !permitted {
+            return Err(GrantFault::Denied);
+        }
+        self.grants
+            .insert(to, call, segid, ())
+            .map_err(|_| GrantFault::Memory)?;
+        Ok(pages)
+    }
+
+    /// Takes a grant back, and tells whether it was there.
+    pub fn ungrant(&mut self, to: Enclave, call: CallNo) -> bool
+        ensures was { result ≡ is_some (holding.held self.old.grants to.0 call.0) }
+        ensures after { self.new ≡ spec.without_grant to call self.old }
+    {
+        self.grants.remove(to, call)
+    }
+
+    /// Whether the get of that number of an enclave has a grant.
+    pub fn has_grant(&self, to: Enclave, call: CallNo) -> bool
+        ensures { result ≡ is_some (holding.held self.now.grants to.0 call.0) }
+    {
+        self.grants.has(to, call)
+    }
+
+    /// Whether some grant names the segid, whose segment may have ended.
+    pub fn is_granted(&self, segid: Segid) -> bool
+        ensures { result ≡ holding.is_named self.now.grants segid.0 }
+    {
+        self.grants.is_named(segid)
+    }
+
+    /// The least enclave not below `from` with a grant that names the segid, whose segment may have ended.
+    pub fn next_holder(&self, segid: Segid, from: u16) -> Option<Enclave>
+        ensures next { IfSome result (λ e. holding.IsNextHolder self.now.grants segid.0 from e.0) }
+        ensures none { IfNone result ((e : ℕ) → from ≤ e → holding.is_holder self.now.grants segid.0 e ≡ false) }
+    {
+        self.grants.next_holder(segid, Enclave(from))
+    }
+
+    /// The least number of the gets of an enclave that have a grant.
+    pub fn lowest_grant(&self, to: Enclave) -> Option<CallNo>
+        ensures least { IfSome result (λ call. holding.IsLeastCall self.now.grants to.0 call.0) }
+        ensures none { IfNone result ((c : ℕ) → holding.held self.now.grants to.0 c ≡ None) }
+    {
+        self.grants.lowest(to)
+    }
+
+    /// Takes all grants of an enclave back, in time that goes with how many it has, times a logarithm.
+    pub fn forget_enclave(&mut self, gone: Enclave)
+        ensures { self.new ≡ spec.without_holder gone self.old }
+    {
+        self.grants.forget_enclave(gone);
     }
 
     /// Whether some export has the frame.

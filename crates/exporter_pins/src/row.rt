@@ -1,9 +1,10 @@
 // One export.
 ghost use Rattle.std.specs.Prelude.{◌≡◌, ◌≤◌, pos, nat_abs, length, option_map, IfSome};
-ghost use Rattle.exporter_pins.specs.Holdings.{asked_export, live_with};
+ghost use Rattle.exporter_pins.specs.Holdings.{asked_export, is_permitted, live_with};
 
+use permit_check::met;
 use std::marker::Model;
-use xm_num::{Frame, FrameList, Pid, Segid};
+use xm_num::{Access, Frame, FrameList, Pid, Segid};
 
 // Who made it, for which user, group and mode; its frames, at most 4,096; its segid once it is live.
 #[derive(Drop)]
@@ -70,6 +71,13 @@ impl ExportRow {
         ensures { result ≡ length self.now.frames }
     {
         self.frames.len() as u32
+    }
+
+    // Whether the user may have the access to it.
+    pub fn permits(&self, uid: u32, gid: u32, access: Access) -> bool
+        ensures { result ≡ is_permitted uid gid access self.now }
+    {
+        met(self.mode, self.uid, self.gid, uid, gid, access)
     }
 
     // Its frames.

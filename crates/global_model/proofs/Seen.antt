@@ -27,7 +27,7 @@ use Rattle.global_model.proofs.Tree.{child_under, living_born}
 use Rattle.global_model.proofs.Runs.{map_run-same, filter_run-none}
 use Rattle.global_model.proofs.Lent.{IsOfPool}
 use Rattle.global_model.proofs.Sound.{IsSound, no_fact, sound_line, sound_start}
-use Rattle.global_model.proofs.Shown.{SeesLine, same_core, ways_shown, memory_shown, exports_shown, names_shown, call_shown, shown_admitted}
+use Rattle.global_model.proofs.Shown.{SeesLine, same_core, ways_shown, memory_shown, exports_shown, grants_shown, names_shown, call_shown, shown_admitted}
 use Rattle.global_model.proofs.Births.{shown_born}
 use Rattle.global_model.proofs.Writes.{EachIs}
 use Rattle.global_model.proofs.Plain.{each-weaker}
@@ -58,8 +58,13 @@ shown_line G (lines.Issue e p call) k later sound apt = call_shown G e k (lines.
 shown_line G (lines.Drew e call segid) k later sound apt = names_shown G k (lines.Drew e call segid)
 shown_line G (lines.Named e call segid) k later sound apt = exports_shown G e k (lines.Named e call segid)
 shown_line G (lines.Unnamed segid) k later sound apt = names_shown G k (lines.Unnamed segid)
+shown_line G (lines.Grant owner e call segid access) k later sound apt = grants_shown G owner k (lines.Grant owner e call segid access)
+shown_line G (lines.Ungrant owner e call) k later sound apt = grants_shown G owner k (lines.Ungrant owner e call)
 shown_line G (lines.Remove e segid) k later sound apt = exports_shown G e k (lines.Remove e segid)
 shown_line G (lines.AnswerSegid e p call segid) k later sound apt = memory_shown G e k (lines.AnswerSegid e p call segid)
+shown_line G (lines.AnswerApid e p call apid pages) k later sound apt = memory_shown G e k (lines.AnswerApid e p call apid pages)
+shown_line G (lines.AnswerRefused e p call cause) k later sound apt = memory_shown G e k (lines.AnswerRefused e p call cause)
+shown_line G (lines.Release e call) k later sound apt = memory_shown G e k (lines.Release e call)
 shown_line G line k later sound apt = unmoved (is_at G.holder k line) (view_of G k)
 
 pub seen_by : (ls : List Line) (G : Facts) (k : Enclave) → EachIs (Lacks (Opening ∷ [])) ls → IsSound G → AreApt G ls → view_of (after_lines G ls) k ≡ seen_lines G (view_of G k) ls
@@ -151,9 +156,10 @@ unborn_known G sound e le =
     let ways = sound.unaware e.0 le in
     let memory = sound.empty e.0 le in
     let exports = sound.unasked e.0 le in
+    let grants = sound.ungranted e.0 le in
     let names = sound.nameless e.0 le in
     let host = host_unborn G sound e le in
-    λ i. record { me = e; core = core i; ways = ways i; memory = memory i; exports = exports i; names = names i; host = host i }
+    λ i. record { me = e; core = core i; ways = ways i; memory = memory i; exports = exports i; grants = grants i; names = names i; host = host i }
   where
     childless : (c : ℕ) → c < G.born → is_child_of G c e.0 ≡ false
     childless c born = false_from_ne_true (is_child_of G c e.0) (λ is. let under = child_under G c e.0 sound.tree is in omega (arith, under.above, born, le))

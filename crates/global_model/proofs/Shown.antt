@@ -9,9 +9,10 @@ use Rattle.enclave_rules.specs.Core.{CoreView, local_line}
 use Rattle.enclave_rules.specs.Ways.{ways_line}
 use Rattle.enclave_rules.specs.Memory.{memory_line}
 use Rattle.enclave_rules.specs.Exports.{exports_line}
+use Rattle.enclave_rules.specs.Grants.{grants_line}
 use Rattle.enclave_rules.specs.Names.{names_line}
 use Rattle.enclave_rules.specs.Host.{no_host}
-use Rattle.global_model.specs.Facts.{Facts, EnclaveFact, as_admitted, has_parent, fact_of, is_living_enclave, with_ways, with_memory, with_exports, with_names, with_call, after_line}
+use Rattle.global_model.specs.Facts.{Facts, EnclaveFact, as_admitted, has_parent, fact_of, is_living_enclave, with_ways, with_memory, with_exports, with_grants, with_names, with_call, after_line}
 use Rattle.global_model.specs.Views.{core_of, view_of, seen_line}
 use Rattle.global_model.proofs.Sound.{admitted_keeps, keeps_kind, keeps_blocks, keeps_ns}
 
@@ -64,6 +65,14 @@ pub exports_shown : (G : Facts) (a e : Enclave) (line : Line)
     → view_of (with_exports a line G) e
     ≡ cond (eqb a.0 e.0) (record (view_of G e) { exports = exports_line G.hand (G.memory e.0) (G.exports e.0) line }) (view_of G e)
 exports_shown G a e line =
+    elim (cases_eq a.0 e.0) [
+      | inl same ↦ rw (same, eq-eqb e.0 e.0 refl) refl
+      | inr apart ↦ rw (ne_eqb a.0 e.0 apart, ne_eqb e.0 a.0 (λ same. apart (sym same))) refl
+    ]
+
+pub grants_shown : (G : Facts) (a e : Enclave) (line : Line)
+    → view_of (with_grants a line G) e ≡ cond (eqb a.0 e.0) (record (view_of G e) { grants = grants_line (G.grants e.0) line }) (view_of G e)
+grants_shown G a e line =
     elim (cases_eq a.0 e.0) [
       | inl same ↦ rw (same, eq-eqb e.0 e.0 refl) refl
       | inr apart ↦ rw (ne_eqb a.0 e.0 apart, ne_eqb e.0 a.0 (λ same. apart (sym same))) refl

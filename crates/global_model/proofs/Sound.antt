@@ -28,7 +28,8 @@ use Rattle.xemem_language.specs.Ranges.{IsName}
 use Rattle.exporter_pins.specs.Holdings.{Export}
 use Rattle.name_server.specs.Names.{NamesState, no_names}
 use Rattle.enclave_rules.specs.Exports.{segid_number}
-use Rattle.enclave_rules.specs.Memory.{no_memory, with_issued, with_answered}
+use Rattle.enclave_rules.specs.Grants.{Grants}
+use Rattle.enclave_rules.specs.Memory.{no_memory, with_issued, with_answered, with_granted, with_released}
 use Rattle.enclave_rules.specs.Hand.{Hand}
 use Rattle.global_model.specs.Facts.{Facts, no_facts, EnclaveFact, ChannelFact, no_channel, fact_of, as_admitted, at_number, at_pair, lent_to, with_sent, with_taken, with_got, after_line, after_lines}
 use Rattle.global_model.specs.Channels.{is_neighbour}
@@ -61,6 +62,7 @@ pub record IsSound (G : Facts) : Type 0 where
   pub unaware : (e : ℕ) → G.born ≤ e → G.ways e ≡ no_ways
   pub empty : (e : ℕ) → G.born ≤ e → G.memory e ≡ no_memory
   pub unasked : (e : ℕ) → G.born ≤ e → G.exports e ≡ []
+  pub ungranted : (e : ℕ) → G.born ≤ e → G.grants e ≡ []
   pub nameless : (e : ℕ) → G.born ≤ e → G.names e ≡ no_names
   pub named : (e : ℕ) → AreNames (G.names e).pairs
   pub owned : (e : ℕ) → Owns G.block e (G.memory e)
@@ -130,6 +132,7 @@ sound_with G ways memory starts channel hand sound unaware empty owned near flow
   unaware = unaware;
   empty = empty;
   unasked = sound.unasked;
+  ungranted = sound.ungranted;
   nameless = sound.nameless;
   named = sound.named;
   owned = owned;
@@ -153,7 +156,7 @@ sound_memory G e m starts sound born owns =
     sound_with G G.ways (at_number e.0 m G.memory) starts G.channel G.hand sound sound.unaware (unborn_stay G.born G.memory no_memory e.0 m born sound.empty)
     (at_number_has (Owns G.block) e.0 m G.memory owns sound.owned) sound.near sound.flows sound.apart
 
--- other exports, and other names
+-- other exports, grants and names
 sound_exports : (G : Facts) (e : Enclave) (exports : List (ℕ × Export)) → IsSound G → e.0 < G.born → IsSound (record G { exports = at_number e.0 exports G.exports })
 sound_exports G e exports sound born = record {
   tree = same_tree G _ refl (λ k. refl) sound.tree;
@@ -168,6 +171,30 @@ sound_exports G e exports sound born = record {
   unaware = sound.unaware;
   empty = sound.empty;
   unasked = unborn_stay G.born G.exports [] e.0 exports born sound.unasked;
+  ungranted = sound.ungranted;
+  nameless = sound.nameless;
+  named = sound.named;
+  owned = sound.owned;
+  near = sound.near;
+  flows = sound.flows;
+  apart = sound.apart;
+}
+
+sound_grants : (G : Facts) (e : Enclave) (grants : Grants) → IsSound G → e.0 < G.born → IsSound (record G { grants = at_number e.0 grants G.grants })
+sound_grants G e grants sound born = record {
+  tree = same_tree G _ refl (λ k. refl) sound.tree;
+  unserved = sound.unserved;
+  seat = sound.seat;
+  server = record { held = sound.server.held; seated = sound.server.seated };
+  early = sound.early;
+  plain = sound.plain;
+  heard = sound.heard;
+  pool = sound.pool;
+  lent = sound.lent;
+  unaware = sound.unaware;
+  empty = sound.empty;
+  unasked = sound.unasked;
+  ungranted = unborn_stay G.born G.grants [] e.0 grants born sound.ungranted;
   nameless = sound.nameless;
   named = sound.named;
   owned = sound.owned;
@@ -190,6 +217,7 @@ sound_names G names sound born ranges = record {
   unaware = sound.unaware;
   empty = sound.empty;
   unasked = sound.unasked;
+  ungranted = sound.ungranted;
   nameless = unborn_stay G.born G.names no_names G.holder.0 names born sound.nameless;
   named = at_number_has (λ e n. AreNames n.pairs) G.holder.0 names G.names ranges sound.named;
   owned = sound.owned;
@@ -270,6 +298,7 @@ sound_born G e kind parent ns blocks sound birth =
       unaware = λ k le. sound.unaware k (omega (arith, le));
       empty = λ k le. sound.empty k (omega (arith, le));
       unasked = λ k le. sound.unasked k (omega (arith, le));
+      ungranted = λ k le. sound.ungranted k (omega (arith, le));
       nameless = λ k le. sound.nameless k (omega (arith, le));
       named = sound.named;
       owned = λ k. owns_more G.block H.block k (λ b is. stays k b is) (G.memory k) (sound.owned k);
@@ -350,6 +379,7 @@ sound_admitted G e sound =
       unaware = sound.unaware;
       empty = sound.empty;
       unasked = sound.unasked;
+      ungranted = sound.ungranted;
       nameless = sound.nameless;
       named = sound.named;
       owned = sound.owned;
@@ -373,6 +403,7 @@ sound_pool G blocks sound none = record {
   unaware = sound.unaware;
   empty = sound.empty;
   unasked = sound.unasked;
+  ungranted = sound.ungranted;
   nameless = sound.nameless;
   named = sound.named;
   owned = λ e. subst (Owns (λ b. states.Free) e) (sym (sound.empty e (omega (arith, none)))) (owns_none (λ b. states.Free) e);
@@ -414,9 +445,17 @@ sound_line G (lines.Drew e call segid) sound apt =
 sound_line G (lines.Named e call segid) sound apt = sound_exports G e _ sound (living_born G e.0 sound.tree apt.living)
 sound_line G (lines.Unnamed segid) sound apt =
     sound_names G _ sound (living_born G G.holder.0 sound.tree apt.living) (names_less (G.names G.holder.0).pairs (segid_number segid) (sound.named G.holder.0))
+sound_line G (lines.Grant owner e call segid access) sound apt = sound_grants G owner _ sound (living_born G owner.0 sound.tree apt.living)
+sound_line G (lines.Ungrant owner e call) sound apt = sound_grants G owner _ sound (living_born G owner.0 sound.tree apt)
 sound_line G (lines.Remove e segid) sound apt = sound_exports G e _ sound (living_born G e.0 sound.tree apt.living)
 sound_line G (lines.AnswerSegid e p call segid) sound apt =
     sound_memory G e (with_answered call (G.memory e.0)) G.starts sound (living_born G e.0 sound.tree apt.living) (sound.owned e.0)
+sound_line G (lines.AnswerApid e p call apid pages) sound apt =
+    sound_memory G e (with_granted call pages (G.memory e.0)) G.starts sound (living_born G e.0 sound.tree apt) (sound.owned e.0)
+sound_line G (lines.AnswerRefused e p call cause) sound apt =
+    sound_memory G e (with_answered call (G.memory e.0)) G.starts sound (living_born G e.0 sound.tree apt) (sound.owned e.0)
+sound_line G (lines.Release e call) sound apt =
+    sound_memory G e (with_released call (G.memory e.0)) G.starts sound (living_born G e.0 sound.tree apt) (sound.owned e.0)
 sound_line G (lines.Sent x y r) sound apt =
     sound_channel G x.0 y.0 (with_sent r) G.hand sound apt.between.near (flow_sent r (G.channel x.0 y.0) apt.valid (sound.flows x.0 y.0))
 sound_line G (lines.Took x y count) sound apt =
@@ -459,6 +498,7 @@ sound_start = record {
   unaware = λ e le. refl;
   empty = λ e le. refl;
   unasked = λ e le. refl;
+  ungranted = λ e le. refl;
   nameless = λ e le. refl;
   named = λ e. All-nil _;
   owned = λ e. owns_none no_facts.block e;

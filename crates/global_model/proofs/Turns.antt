@@ -77,8 +77,13 @@ IsProper near lives (lines.Issue e p call) = lives e.0 ≡ true
 IsProper near lives (lines.Drew e call segid) = (lives 0 ≡ true) × IsName segid.0
 IsProper near lives (lines.Named e call segid) = (lives e.0 ≡ true) × IsName segid.0
 IsProper near lives (lines.Unnamed segid) = (lives 0 ≡ true) × IsName segid.0
+IsProper near lives (lines.Grant owner e call segid access) = (lives owner.0 ≡ true) × IsName segid.0
+IsProper near lives (lines.Ungrant owner e call) = lives owner.0 ≡ true
 IsProper near lives (lines.Remove e segid) = (lives e.0 ≡ true) × IsName segid.0
 IsProper near lives (lines.AnswerSegid e p call segid) = (lives e.0 ≡ true) × IsName segid.0
+IsProper near lives (lines.AnswerApid e p call apid pages) = lives e.0 ≡ true
+IsProper near lives (lines.AnswerRefused e p call cause) = lives e.0 ≡ true
+IsProper near lives (lines.Release e call) = lives e.0 ≡ true
 IsProper near lives (lines.Name segid owner) = IsName segid.0
 IsProper near lives (lines.Asked e by) = IsClose near lives e by
 IsProper near lives (lines.Way e over) = IsClose near lives e over
@@ -166,8 +171,14 @@ module _ (near : ℕ → ℕ → Bool) (lives : ℕ → Bool) (x y : ℕ) (rs : 
       goes_on G (lines.Named e call segid) turn (record { living = turn.alive e.0 ∙ proper.0; range = proper.1 }) (λ e. refl) (λ a b. refl)
   proper_line (lines.Unnamed segid) G proper turn =
       goes_on G (lines.Unnamed segid) turn (record { living = holder_lives G turn proper.0; range = proper.1 }) (λ e. refl) (λ a b. refl)
+  proper_line (lines.Grant owner e call segid access) G proper turn =
+      goes_on G (lines.Grant owner e call segid access) turn (record { living = turn.alive owner.0 ∙ proper.0; range = proper.1 }) (λ e. refl) (λ a b. refl)
+  proper_line (lines.Ungrant owner e call) G proper turn = goes_on G (lines.Ungrant owner e call) turn (turn.alive owner.0 ∙ proper) (λ e. refl) (λ a b. refl)
   proper_line (lines.Remove e segid) G proper turn =
       goes_on G (lines.Remove e segid) turn (record { living = turn.alive e.0 ∙ proper.0; range = proper.1 }) (λ e. refl) (λ a b. refl)
+  proper_line (lines.AnswerApid e p call apid pages) G proper turn = goes_on G (lines.AnswerApid e p call apid pages) turn (turn.alive e.0 ∙ proper) (λ e. refl) (λ a b. refl)
+  proper_line (lines.AnswerRefused e p call cause) G proper turn = goes_on G (lines.AnswerRefused e p call cause) turn (turn.alive e.0 ∙ proper) (λ e. refl) (λ a b. refl)
+  proper_line (lines.Release e call) G proper turn = goes_on G (lines.Release e call) turn (turn.alive e.0 ∙ proper) (λ e. refl) (λ a b. refl)
   proper_line (lines.AnswerSegid e p call segid) G proper turn =
       goes_on G (lines.AnswerSegid e p call segid) turn (record { living = turn.alive e.0 ∙ proper.0; range = proper.1 }) (λ e. refl) (λ a b. refl)
   proper_line (lines.Name segid owner) G proper turn = goes_on G (lines.Name segid owner) turn proper (λ e. refl) (λ a b. refl)

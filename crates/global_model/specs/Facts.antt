@@ -20,6 +20,7 @@ use Rattle.attach_map.specs.Attaching.{AttacherState}
 use Rattle.exporter_pins.specs.Holdings.{Export}
 use Rattle.name_server.specs.Names.{NamesState, no_names}
 use Rattle.enclave_rules.specs.Memory.{no_memory, memory_line}
+use Rattle.enclave_rules.specs.Grants.{Grants, grants_line}
 use Rattle.enclave_rules.specs.Exports.{exports_line}
 use Rattle.enclave_rules.specs.Names.{names_line}
 use Rattle.enclave_rules.specs.Hand.{Hand, Nothing, Reads, hand_of}
@@ -47,7 +48,8 @@ no_channel = record { sent = []; taken = 0; got = 0; cut = 0; end_taken = false 
 -- All facts. What is asked by a number is a function of it; a block beyond the pool has no state that counts. `born` counts the
 -- enclaves, `starts` the processes that were started. `server` says that an enclave was born with the name server, and `holder` which
 -- one; that is the host where none was. A channel is named by its sender and its receiver. Of each enclave, `ways`, `memory`,
--- `exports` and `names` are the parts of its view, and `heard` are the deaths that it knows of. `hand` is what a step has at hand: the call for which the last `do` line asks, or the record of the last `got`.
+-- `exports`, `grants` and `names` are the parts of its view, and `heard` are the deaths that it knows of. `hand` is what a step has
+-- at hand: the call for which the last `do` line asks, or the record of the last `got`.
 pub record Facts : Type 0 where
   pub pool : ℕ
   pub block : ℕ → BlockState
@@ -60,6 +62,7 @@ pub record Facts : Type 0 where
   pub starts : ℕ
   pub memory : ℕ → AttacherState
   pub exports : ℕ → List (ℕ × Export)
+  pub grants : ℕ → Grants
   pub names : ℕ → NamesState
   pub channel : ℕ → ℕ → ChannelFact
   pub hand : Hand
@@ -77,6 +80,7 @@ no_facts = record {
   starts = 0;
   memory = λ e. no_memory;
   exports = λ e. [];
+  grants = λ e. [];
   names = λ e. no_names;
   channel = λ x y. no_channel;
   hand = Nothing;
@@ -144,6 +148,10 @@ with_memory e line G =
 abbrev pub with_exports : Enclave → Line → Facts → Facts
 with_exports e line G = record G { exports = at_number e.0 (exports_line G.hand (G.memory e.0) (G.exports e.0) line) G.exports }
 
+-- a line of the layer of grants at the owner of the segment
+abbrev pub with_grants : Enclave → Line → Facts → Facts
+with_grants e line G = record G { grants = at_number e.0 (grants_line (G.grants e.0) line) G.grants }
+
 -- a line of the layer of names at the name server's enclave
 abbrev pub with_names : Line → Facts → Facts
 with_names line G = record G { names = at_number G.holder.0 (names_line (G.names G.holder.0) line) G.names }
@@ -174,8 +182,13 @@ after_line G (lines.Issue e p call) = with_call e (lines.Issue e p call) G
 after_line G (lines.Drew e call segid) = with_names (lines.Drew e call segid) G
 after_line G (lines.Named e call segid) = with_exports e (lines.Named e call segid) G
 after_line G (lines.Unnamed segid) = with_names (lines.Unnamed segid) G
+after_line G (lines.Grant owner e call segid access) = with_grants owner (lines.Grant owner e call segid access) G
+after_line G (lines.Ungrant owner e call) = with_grants owner (lines.Ungrant owner e call) G
 after_line G (lines.Remove e segid) = with_exports e (lines.Remove e segid) G
 after_line G (lines.AnswerSegid e p call segid) = with_memory e (lines.AnswerSegid e p call segid) G
+after_line G (lines.AnswerApid e p call apid pages) = with_memory e (lines.AnswerApid e p call apid pages) G
+after_line G (lines.AnswerRefused e p call cause) = with_memory e (lines.AnswerRefused e p call cause) G
+after_line G (lines.Release e call) = with_memory e (lines.Release e call) G
 after_line G (lines.Sent x y r) = record G { channel = at_pair x.0 y.0 (with_sent r) G.channel }
 after_line G (lines.Took x y count) = record G { channel = at_pair x.0 y.0 (with_taken count) G.channel; hand = Nothing }
 after_line G (lines.Got x y) = record G { channel = at_pair x.0 y.0 with_got G.channel; hand = hand_after (G.channel x.0 y.0) }

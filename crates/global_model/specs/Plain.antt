@@ -12,6 +12,7 @@ abbrev pub IsTellable : Line → Type 0
 IsTellable (lines.Drew e call segid) = Unit {0}
 IsTellable (lines.Named e call segid) = Unit {0}
 IsTellable (lines.Unnamed segid) = Unit {0}
+IsTellable (lines.Grant owner e call segid access) = Unit {0}
 IsTellable (lines.Remove e segid) = Unit {0}
 IsTellable (lines.AnswerSegid e p call segid) = Unit {0}
 IsTellable (lines.Name segid owner) = Unit {0}

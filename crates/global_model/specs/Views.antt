@@ -37,6 +37,7 @@ view_of G e = record {
   ways = G.ways e.0;
   memory = G.memory e.0;
   exports = G.exports e.0;
+  grants = G.grants e.0;
   names = G.names e.0;
   host = if e.0 == 0 then host_of G else no_host;
 }

@@ -12,7 +12,7 @@ use Rattle.std.specs.Option.{option_map_or}
 use Rattle.xm_num.specs.declared.Frame.{Frame}
 use Rattle.xm_num.specs.Rows.{at, put}
 use Rattle.attach_map.specs.Attaching.{ProcessState, AttacherState}
-use Rattle.enclave_rules.specs.Memory.{new_process, with_answered, with_issued, with_pages, with_process}
+use Rattle.enclave_rules.specs.Memory.{new_process, with_answered, with_granted, with_released, with_issued, with_pages, with_process}
 use Rattle.global_model.specs.Facts.{facts_at, at_number, fact_of, is_living_enclave}
 use Rattle.enclave_rules.specs.Core.{local_frame}
 use Rattle.global_model.specs.Refusals.{first_cause, when}
@@ -80,6 +80,12 @@ started_counted e (lines.Issue of p call ∷ past) =
     let m = (facts_at past).memory of.0 in started_stays (facts_at past).memory of.0 (with_issued p call m) e refl ∙ started_counted e past
 started_counted e (lines.AnswerSegid of p call segid ∷ past) =
     let m = (facts_at past).memory of.0 in started_stays (facts_at past).memory of.0 (with_answered call m) e refl ∙ started_counted e past
+started_counted e (lines.AnswerApid of p call apid pages ∷ past) =
+    let m = (facts_at past).memory of.0 in started_stays (facts_at past).memory of.0 (with_granted call pages m) e refl ∙ started_counted e past
+started_counted e (lines.AnswerRefused of p call cause ∷ past) =
+    let m = (facts_at past).memory of.0 in started_stays (facts_at past).memory of.0 (with_answered call m) e refl ∙ started_counted e past
+started_counted e (lines.Release of call ∷ past) =
+    let m = (facts_at past).memory of.0 in started_stays (facts_at past).memory of.0 (with_released call m) e refl ∙ started_counted e past
 started_counted e (_ ∷ past) = started_counted e past
 
 -- ---- boots and starts

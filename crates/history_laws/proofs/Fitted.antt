@@ -39,7 +39,7 @@ use Rattle.frame_pool.specs.declared.BlockState.TheVariants as states
 use Rattle.frame_pool.specs.Blocks.{is_free, is_listed}
 use Rattle.enclave_rules.specs.Core.{host, local_frame}
 use Rattle.attach_map.specs.Attaching.{ProcessState, AttacherState}
-use Rattle.enclave_rules.specs.Memory.{is_busy, new_process, with_answered, with_issued, with_pages, with_process}
+use Rattle.enclave_rules.specs.Memory.{is_busy, new_process, with_answered, with_granted, with_released, with_issued, with_pages, with_process}
 use Rattle.enclave_rules.specs.Segments.{make_acts, name_rows, remove_acts}
 use Rattle.enclave_rules.specs.Pages.{own_page}
 use Rattle.enclave_rules.specs.Sending.{knows_way}
@@ -402,6 +402,15 @@ issued_few (lines.Issue of p call ∷ past) e =
 issued_few (lines.AnswerSegid of p call segid ∷ past) e =
     let old = issued_few past of.0 in
     changed_few past (lines.AnswerSegid of p call segid) of.0 (with_answered call ((facts_at past).memory of.0)) (omega (arith, old)) (issued_few past) e
+issued_few (lines.AnswerApid of p call apid pages ∷ past) e =
+    let old = issued_few past of.0 in
+    changed_few past (lines.AnswerApid of p call apid pages) of.0 (with_granted call pages ((facts_at past).memory of.0)) (omega (arith, old)) (issued_few past) e
+issued_few (lines.AnswerRefused of p call cause ∷ past) e =
+    let old = issued_few past of.0 in
+    changed_few past (lines.AnswerRefused of p call cause) of.0 (with_answered call ((facts_at past).memory of.0)) (omega (arith, old)) (issued_few past) e
+issued_few (lines.Release of call ∷ past) e =
+    let old = issued_few past of.0 in
+    changed_few past (lines.Release of call) of.0 (with_released call ((facts_at past).memory of.0)) (omega (arith, old)) (issued_few past) e
 issued_few (lines.Proc of p uid gid ∷ past) e =
     let old = issued_few past of.0 in
     let m = (facts_at past).memory of.0 in

@@ -47,6 +47,7 @@ abbrev pub asking : View
 asking = record learned {
   memory = record no_memory { issued = 2; waiting = (2, waiting_make 2) ∷ [] };
   exports = (1, exported (Some 1)) ∷ (2, exported None) ∷ [];
+  grants = [];
 }
 
 -- the second make is answered

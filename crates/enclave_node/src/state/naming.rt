@@ -30,8 +30,8 @@ fn segid_of(number: u64) -> Segid
 }
 
 impl<A: AddressSpace> State<A> {
-    // Sends a record that the enclave makes for a call over a neighbour, where each number fits its field.
-    fn send_made(
+    /// Sends a record that the enclave makes for a call over a neighbour, where each number fits its field.
+    pub fn send_made(
         &self,
         over: Option<Enclave>,
         rec: Record,

@@ -2,7 +2,7 @@ use Rattle.std.proofs.Common.{◌≡◌, ◌∙◌, sym, refl, Some, None}
 use Rattle.xm_num.specs.Rows.{at}
 use Rattle.exporter_pins.specs.Holdings.{live_export}
 use Rattle.exporter_pins.proofs.TableLemmas.{find_none, find_some}
-use Rattle.exporter_pins.proofs.exported.ExportTable.segment.Goals as goal
+use Rattle.exporter_pins.proofs.exported.ExportTable.live.Goals as goal
 
 pub returns-in_err-call : goal.returns-in_err-call
 returns-in_err-call c =
@@ -26,4 +26,4 @@ returns c =
     let found =
     find_some c.row_laws.ensures c.args.number c.in_ok-call.call c.in_ok-row.row.now c.self.inside.rows.entries c.self.invariant.0.ascending here (rw here at named)
     (λ k at_k. let both : Some k ≡ Some c.in_ok-call.call = sym (c.self.invariant.0.live c.args.number k at_k) ∙ sym c.get.ensures ∙ c.in_ok-call.was in (cc)) in
-    rw (← c.self.view_is, found) (λ i. Some (record { call = record { 0 = c.in_ok-call.call }; pid = record { 0 = c.pid.ensures i }; pages = c.pages.ensures i }))
+    rw (← c.self.view_is, found) (refl)
