@@ -288,6 +288,11 @@ module _ (G : Facts) (fit : IsFit G) where
   fit_line (lines.Heard e of) steady = absurd steady
   fit_line (lines.Proc e p uid gid) steady = absurd steady
   fit_line (lines.Alloc e p at frames) steady = absurd steady
+  fit_line (lines.Grant owner e call segid access) steady = absurd steady
+  fit_line (lines.Ungrant owner e call) steady = absurd steady
+  fit_line (lines.AnswerApid e p call apid pages) steady = absurd steady
+  fit_line (lines.AnswerRefused e p call cause) steady = absurd steady
+  fit_line (lines.Release e call) steady = absurd steady
   fit_line _ steady = fit
 
 -- and so do several

@@ -58,6 +58,7 @@ spelled_line laws past (lines.Sent x y r) tellable carried apt = spelled_record 
 spelled_line laws past (lines.Drew e call segid) tellable carried apt = apt.range
 spelled_line laws past (lines.Named e call segid) tellable carried apt = apt.range
 spelled_line laws past (lines.Unnamed segid) tellable carried apt = apt.range
+spelled_line laws past (lines.Grant owner e call segid access) tellable carried apt = apt.range
 spelled_line laws past (lines.Remove e segid) tellable carried apt = apt.range
 spelled_line laws past (lines.AnswerSegid e p call segid) tellable carried apt = apt.range
 spelled_line laws past (lines.Name segid owner) tellable carried apt = apt
